@@ -42,9 +42,8 @@ fn replay_lines<R: Source, S: Sink>(
 ///
 /// Fails with the first refusal: 101 and those of [`fx_plan::read_plan`] for the network, with nothing of the traffic
 /// read before; 101 and those of [`fx_traffic::read_traffic`] for the traffic; then, with nothing of the run's text
-/// read before, those of [`replay`]. 901 comes where a read fails or a reader hasn't
-/// ended after 4,294,967,296 calls, 900 for want of memory, 902 where a write fails. Nothing is written for a fault
-/// other than 902.
+/// read before, those of [`replay`]. 901 comes where a read fails or a reader hasn't ended after 4,294,967,296 calls,
+/// 900 for want of memory, 902 where a write fails. Nothing is written for a fault other than 902.
 pub fn replay_bytes<N: Source, T: Source, R: Source, S: Sink>(
     alloc: Global,
     seed: Seed,
