@@ -8,8 +8,7 @@ use Rattle.fx_base.specs.Device.{MayBeLeft, MayHaveLeft}
 use Rattle.fx_base.specs.Lines.{Lines, lines_in, new_lines, Fails}
 use Rattle.fx_tables.specs.Network.{Net}
 use Rattle.fx_tables.specs.Classes.{Class}
-use Rattle.fx_run_text.specs.RunText.{Run}
-use Rattle.fx_run_text.specs.RunReading.{MayReadRun}
+use Rattle.fx_machine.specs.States.{State, told_state}
 use Rattle.fx_topology.specs.declared.network.NetworkDocument.{NetworkDocument}
 use Rattle.fx_plan.specs.Tables.{net_of}
 use Rattle.fx_audit.specs.declared.answer.Answer.{Answer}
@@ -18,22 +17,27 @@ use Rattle.fx_audit.specs.declared.bundle.Command.{Command}
 use Rattle.fx_audit.specs.declared.bundle.Command.TheVariants.{Replay}
 use Rattle.fx_audit.specs.Bundle.{IsBundle}
 use Rattle.fx_audit.specs.Documents.{BothMayHaveLeft, IsRefusedByDocuments, ReadFails}
-use Rattle.fx_audit.specs.Commands.{IsDone, IsRefusedBundle, IsRefusedBy, IsRefusedRun, IsRefusedThere, IsReplayed}
+use Rattle.fx_audit.specs.Commands.{IsDone, IsRefusedBundle, IsRefusedBy, IsRefusedRun, IsRefusedThere, IsReplayed, IsReplayedIn}
 use Rattle.fx_audit.specs.Outputs.{Prints}
-use Rattle.fx_audit.specs.Replay.{IsRefused}
+use Rattle.fx_audit.specs.Replay.{CannotReplay, ComesTo, IsTextOf}
 use Rattle.fx_audit.proofs.Documents.{both_mapped, told}
 
 -- ---- a run in a network and traffic
 
-pub lines_refused : (network : NetworkDocument) (classes known : List Class) (lines : Lines) (r : Run) (net : Net) (F W : Fault → Type 0) (result : Result Answer Fault) → net ≡ net_of network → known ≡ classes → MayReadRun known lines (Ok r) → IfErr result (λ e. IsRefused net known r e ⊎ ((e ≡ fault_at 900 places.None) ⊎ W e)) → IfErr result (λ e. (e ≡ fault_at 900 places.None) ⊎ (F e ⊎ (W e ⊎ IsRefusedRun network classes lines e)))
-lines_refused network classes known lines r net F W (Ok a) same of read h = cc
-lines_refused network classes known lines r net F W (Err e) same of read h =
-    let mine : MayReadRun classes lines (Ok r) = subst (λ (cs : List Class). MayReadRun cs lines (Ok r)) of read in
-    elim h [
-      | inl refused ↦ inr (inr (inr (inr (r, mine, subst (λ (cs : List Class). IsRefused (net_of network) cs r e) of (subst (λ (n : Net). IsRefused n known r e) same refused)))))
-      | inr (inl m) ↦ inl m
-      | inr (inr w) ↦ inr (inr (inl w))
-    ]
+abbrev pub IsReplayOf : Net → List Class → Lines → Option (List ℕ) → Option (List ℕ) → Answer → Type 0
+IsReplayOf net classes lines old new answer =
+    (answer ≡ Yes) × ((last : State) × ComesTo net classes lines last × Prints (IsTextOf net.report_layout (told_state last)) old new)
+
+pub lines_replayed : (network : NetworkDocument) (classes known : List Class) (lines : Lines) (net : Net) (old new : Option (List ℕ)) (result : Result Answer Fault) → net ≡ net_of network → known ≡ classes → IfOk result (IsReplayOf net known lines old new) → IfOk result (λ answer. (answer ≡ Yes) × Prints (IsReplayedIn network classes lines) old new)
+lines_replayed network classes known lines net old new (Err e) same of h = cc
+lines_replayed network classes known lines net old new (Ok a) same of h =
+    let here : IsReplayOf (net_of network) classes lines old new a = rw (same, of) at h in
+    let is = here.1.1 in
+    let text = here.1.2 in
+    (here.0, (text.0, record { run_read = is.0; last = here.1.0; run_is = is.1; steps = is.2; text_is = text.1 }, text.2))
+
+pub lines_refused : (network : NetworkDocument) (classes known : List Class) (lines : Lines) (net : Net) (F W : Fault → Type 0) (result : Result Answer Fault) → net ≡ net_of network → known ≡ classes → IfErr result (λ e. (e ≡ fault_at 900 places.None) ⊎ (F e ⊎ (W e ⊎ CannotReplay net known lines e))) → IfErr result (λ e. (e ≡ fault_at 900 places.None) ⊎ (F e ⊎ (W e ⊎ IsRefusedRun network classes lines e)))
+lines_refused network classes known lines net F W result same of h = rw (same, of) at h
 
 -- ---- a bundle
 

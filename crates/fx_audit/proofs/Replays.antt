@@ -1,51 +1,136 @@
--- A run that was replayed step by step.
-use Rattle.std.proofs.Common.{◌≡◌, ℕ, List, Ok, refl, sym, ap, ◌∙◌, subst}
+-- A run whose steps are made as they are read.
+use Rattle.std.proofs.Common.{◌≡◌, List, [], ◌∷◌, ◌++◌, Option, Some, None, Ok, Err, IfSome, ◌<◌, length, ◌⊎◌, inl, inr, refl, ap, ◌∙◌}
+use Rattle.std.specs.Prelude.{All}
+use Rattle.fx_base.specs.declared.fault.Fault.{Fault}
+use Rattle.fx_base.specs.declared.fault.Place.TheVariants as places
+use Rattle.fx_base.specs.Entries.{entry_numbered}
+use Rattle.fx_base.specs.Fault.{fault_at}
+use Rattle.fx_base.specs.Lines.{Lines, Fails, GoesOnToLines}
 use Rattle.fx_layout.specs.Keys.{IsLayout}
 use Rattle.fx_tables.specs.Network.{Net}
-use Rattle.fx_tables.specs.Classes.{Class}
+use Rattle.fx_tables.specs.Classes.{Class, IsOf}
 use Rattle.fx_tables.specs.declared.packet.Packet.{Packet}
 use Rattle.fx_run_text.specs.declared.step.Step.{Step}
+use Rattle.fx_run_text.specs.declared.text_version.TextVersion.{TextVersion}
+use Rattle.fx_run_text.specs.RunText.{Run}
+use Rattle.fx_run_text.specs.RunReading.{MayReadBehind, MayReadRun, ReadsNextStep, ReadsUpTo}
+use Rattle.fx_run_text.proofs.RunSteps.{next_fails, reads_next}
+use Rattle.fx_machine.specs.Acts.{Outcome}
 use Rattle.fx_machine.specs.States.{State, opening, told_state}
-use Rattle.fx_machine.specs.Steps.{run}
-use Rattle.fx_machine.specs.Stores.{LoadedNetwork}
+use Rattle.fx_machine.specs.Steps.{after, run, then_run}
 use Rattle.fx_collect.specs.Totals.{totals_of, totals_in}
 use Rattle.fx_collect.proofs.Runs.{run_retold}
-use Rattle.fx_audit.specs.Replay.{IsTextOf}
+use Rattle.fx_audit.specs.Replay.{CannotReplay, ComesTo}
 
-abbrev pub Along : LoadedNetwork → LoadedNetwork → List Step → Type 0
-Along old new steps = (s : State) → old.state ≡ told_state s → (last : State) × (run old.net old.classes old.packets steps s ≡ Ok last) × (new.state ≡ told_state last)
+-- ---- a step more
 
-abbrev pub Replayed : Net → List Class → List Packet → List Step → (List ℕ → Type 0) → Type 0
-Replayed net classes packets steps W =
-    (last : State) × (text : List ℕ) × (run net classes packets steps (opening net classes packets) ≡ Ok last) × IsTextOf net.report_layout (told_state last) text × W text
+ends_there : (net : Net) (classes : List Class) (packets : List Packet) (o : Outcome) → then_run o (run net classes packets []) ≡ o
+ends_there net classes packets (Err n) = refl
+ends_there net classes packets (Ok s) = refl
 
-abbrev begun : Net → List Class → List Packet → LoadedNetwork
-begun net classes packets = record { net = net; classes = classes; packets = packets; state = opening net classes packets }
+one_more : (net : Net) (classes : List Class) (packets : List Packet) (steps : List Step) (step : Step) (s : State) → run net classes packets (steps ++ step ∷ []) s ≡ then_run (run net classes packets steps s) (after net classes packets step)
+one_more net classes packets [] step s = ends_there net classes packets (after net classes packets step s)
+one_more net classes packets (first ∷ steps) step s = behind_first (after net classes packets first s) (λ t. one_more net classes packets steps step t) where
+  behind_first : (o : Outcome) → ((t : State) → run net classes packets (steps ++ step ∷ []) t ≡ then_run (run net classes packets steps t) (after net classes packets step)) → then_run o (run net classes packets (steps ++ step ∷ [])) ≡ then_run (then_run o (run net classes packets steps)) (after net classes packets step)
+  behind_first (Err n) more = refl
+  behind_first (Ok t) more = more t
+
+-- ---- steps that were made
+
+-- these steps were made, up to this state, or one of them was refused with this fault
+abbrev pub HasMade : Net → List Class → List Packet → List Step → State → Option Fault → Type 0
+HasMade net classes packets steps told None =
+    (last : State) × (run net classes packets steps (opening net classes packets) ≡ Ok last) × (told ≡ told_state last)
+HasMade net classes packets steps told (Some e) =
+    (e ≡ fault_at 900 places.None) ⊎ ((e.place ≡ places.None) × (run net classes packets steps (opening net classes packets) ≡ Err e.number))
+
+-- what making a step comes to
+abbrev pub StepsTo : Net → List Class → List Packet → Step → State → State → Type 0
+StepsTo net classes packets step told now =
+    (s : State) → told ≡ told_state s → (next : State) × (after net classes packets step s ≡ Ok next) × (now ≡ told_state next)
+
+abbrev pub RefusesStep : Net → List Class → List Packet → Step → State → Fault → Type 0
+RefusesStep net classes packets step told e =
+    (e.place ≡ places.None) × ((e.number ≡ 900) ⊎ ((s : State) → told ≡ told_state s → after net classes packets step s ≡ Err e.number))
+
+made_more : (net : Net) (classes : List Class) (packets : List Packet) (steps : List Step) (step : Step) (told now : State) → HasMade net classes packets steps told None → StepsTo net classes packets step told now → HasMade net classes packets (steps ++ step ∷ []) now None
+made_more net classes packets steps step told now (last, is, tells) made =
+    let next = made last tells in
+    (next.0, one_more net classes packets steps step (opening net classes packets) ∙ ap (λ o. then_run o (after net classes packets step)) is ∙ next.1, next.2)
+
+fault_is : (e : Fault) → e.place ≡ places.None → e.number ≡ 900 → e ≡ fault_at 900 places.None
+fault_is e place number = rw (← place, ← number) refl
+
+refused_now : (net : Net) (classes : List Class) (packets : List Packet) (steps : List Step) (step : Step) (told now : State) (e : Fault) → HasMade net classes packets steps told None → RefusesStep net classes packets step told e → HasMade net classes packets (steps ++ step ∷ []) now (Some e)
+refused_now net classes packets steps step told now e (last, is, tells) (place, inl memory) = inl (fault_is e place memory)
+refused_now net classes packets steps step told now e (last, is, tells) (place, inr refused) =
+    inr (place, one_more net classes packets steps step (opening net classes packets) ∙ ap (λ o. then_run o (after net classes packets step)) is ∙ refused last tells)
+
+refused_before : (net : Net) (classes : List Class) (packets : List Packet) (steps : List Step) (step : Step) (told now : State) (e : Fault) → HasMade net classes packets steps told (Some e) → HasMade net classes packets (steps ++ step ∷ []) now (Some e)
+refused_before net classes packets steps step told now e (inl memory) = inl memory
+refused_before net classes packets steps step told now e (inr (place, is)) =
+    inr (place, one_more net classes packets steps step (opening net classes packets) ∙ ap (λ o. then_run o (after net classes packets step)) is)
+
+-- ---- steps that are read and made
+
+-- a run that can't be read can't be replayed
+pub not_read : (net : Net) (classes : List Class) (first new : Lines) (e : Fault) → (e ≡ fault_at 900 places.None) ⊎ (Fails first new e ⊎ MayReadRun classes first (Err e)) → (e ≡ fault_at 900 places.None) ⊎ (Fails first new e ⊎ CannotReplay net classes first e)
+not_read net classes first new e (inl memory) = inl memory
+not_read net classes first new e (inr (inl fails)) = inr (inl fails)
+not_read net classes first new e (inr (inr read)) = inr (inr (inl read))
+
+-- some steps were read and made, and this one is read behind them
+abbrev pub IsUnderWay : Net → List Class → Lines → TextVersion → List Packet → Lines → Option Step → State → Option Fault → Type 0
+IsUnderWay net classes first version packets lines next told refused =
+    (steps : List Step) × ReadsUpTo version classes first lines (record { packets = packets; steps = steps }) next × HasMade net classes packets steps told refused
+
+pub begins : (net : Net) (classes : List Class) (first : Lines) (version : TextVersion) (packets : List Packet) (lines : Lines) (next : Option Step) → ReadsUpTo version classes first lines (record { packets = packets; steps = [] }) next → IsUnderWay net classes first version packets lines next (opening net classes packets) None
+begins net classes first version packets lines next reads = ([], reads, (opening net classes packets, refl, refl))
+
+-- what becomes of a step, where one before it may have been refused
+pub record MakesStep (net : Net) (classes : List Class) (packets : List Packet) (step : Step) (told now : State) (refused result : Option Fault) : Type 0 where
+  pub before : IfSome refused (λ e. result ≡ Some e)
+  pub made : refused ≡ None → result ≡ None → StepsTo net classes packets step told now
+  pub refuses : refused ≡ None → IfSome result (RefusesStep net classes packets step told)
+
+made_or_refused : (net : Net) (classes : List Class) (packets : List Packet) (steps : List Step) (step : Step) (told now : State) (refused result : Option Fault) → HasMade net classes packets steps told refused → MakesStep net classes packets step told now refused result → HasMade net classes packets (steps ++ step ∷ []) now result
+made_or_refused net classes packets steps step told now (Some e) result made more = rw more.before (refused_before net classes packets steps step told now e made)
+made_or_refused net classes packets steps step told now None None made more = made_more net classes packets steps step told now made (more.made refl refl)
+made_or_refused net classes packets steps step told now None (Some e) made more = refused_now net classes packets steps step told now e made (more.refuses refl)
+
+-- a step is made, unless one was refused, and the next is read
+pub goes_on : (net : Net) (classes : List Class) (first : Lines) (version : TextVersion) (packets : List Packet) (old new : Lines) (step : Step) (next : Option Step) (told now : State) (refused result : Option Fault) (net' : Net) (classes' : List Class) → net' ≡ net → classes' ≡ classes → IsUnderWay net classes first version packets old (Some step) told refused → MakesStep net' classes' packets step told now refused result → ReadsNextStep version old new next → IsUnderWay net classes first version packets new next now result
+goes_on net classes first version packets old new step next told now refused result net' classes' same of (steps, reads, made) more' read =
+    let more : MakesStep net classes packets step told now refused result = rw (same, of) at more' in
+    (steps ++ step ∷ [], reads_next version classes first old new (record { packets = packets; steps = steps }) _ step next reads read refl, made_or_refused net classes packets steps step told now refused result made more)
+
+-- reading fails behind a step
+pub reading_fails : (net : Net) (classes : List Class) (first : Lines) (version : TextVersion) (packets : List Packet) (old new : Lines) (step : Step) (told : State) (refused : Option Fault) (e : Fault) → old.stopped ≡ None → GoesOnToLines first old → IsUnderWay net classes first version packets old (Some step) told refused
+    → (e ≡ fault_at 900 places.None) ⊎ (Fails old new e ⊎ ((classes : List Class) (run : Run) → 0 < length run.steps → MayReadBehind version classes old run (Err e)))
+    → (e ≡ fault_at 900 places.None) ⊎ (Fails first new e ⊎ CannotReplay net classes first e)
+reading_fails net classes first version packets old new step told refused e going on (steps, reads, made) read =
+    not_read net classes first new e (next_fails version classes first old new (record { packets = packets; steps = steps }) step e going on reads read)
+
+-- ---- a run that was read to its end
+
+pub comes_to : (net : Net) (classes : List Class) (first : Lines) (version : TextVersion) (packets : List Packet) (lines : Lines) (told : State) → IsUnderWay net classes first version packets lines None told None → (last : State) × ComesTo net classes first last × (told ≡ told_state last)
+comes_to net classes first version packets lines told (steps, read, (last, is, tells)) = (last, (record { packets = packets; steps = steps }, read, is), tells)
+
+pub cannot : (net : Net) (classes : List Class) (first : Lines) (version : TextVersion) (packets : List Packet) (lines : Lines) (told : State) (e : Fault) (F : Fault → Type 0) → IsUnderWay net classes first version packets lines None told (Some e) → (e ≡ fault_at 900 places.None) ⊎ (F e ⊎ CannotReplay net classes first e)
+cannot net classes first version packets lines told e F (steps, read, inl memory) = inl memory
+cannot net classes first version packets lines told e F (steps, read, inr refused) = inr (inr (inr (record { packets = packets; steps = steps }, read, inr refused)))
+
+-- its packets are of their classes, so an opening fails for want of memory alone
+pub opening_fails : (classes : List Class) (packets : List Packet) (e : Fault) → All (λ packet. IsOf packet (entry_numbered classes packet.class)) packets
+    → ((e ≡ fault_at 856 places.None) × (All (λ packet. IsOf packet (entry_numbered classes packet.class)) packets → ⊥)) ⊎ ((e ≡ fault_at 900 places.None) × All (λ packet. IsOf packet (entry_numbered classes packet.class)) packets)
+    → e ≡ fault_at 900 places.None
+opening_fails classes packets e all (inl h) = absurd (h.1 all)
+opening_fails classes packets e all (inr h) = h.0
+
+-- ---- what its last state tells
 
 -- what a run's last state tells are its own totals
-abbrev TellsItsOwn : LoadedNetwork → Type 0
-TellsItsOwn r = totals_of r.net.report_layout r.state ≡ totals_in r.net.report_layout r.state
-
-own_from_opening : (net : Net) (classes : List Class) (packets : List Packet) (steps : List Step) (new : LoadedNetwork) → IsLayout net.report_layout → Along (begun net classes packets) new steps → new.net ≡ net → TellsItsOwn new
-own_from_opening net classes packets steps new l along same =
-    let end = along (opening net classes packets) refl in
-    let here : totals_of net.report_layout (told_state end.0) ≡ totals_in net.report_layout (told_state end.0) = run_retold net classes packets steps end.0 l end.1 in
-    let there : totals_of net.report_layout new.state ≡ totals_in net.report_layout new.state = subst (λ (s : State). totals_of net.report_layout s ≡ totals_in net.report_layout s) (sym end.2) here in
-    subst (λ (n : Net). totals_of n.report_layout new.state ≡ totals_in n.report_layout new.state) (sym same) there
-
-pub tells_its_own : (net : Net) (classes : List Class) (packets : List Packet) (steps : List Step) (old new : LoadedNetwork) → IsLayout net.report_layout → old ≡ begun net classes packets → Along old new steps → new.net ≡ old.net → TellsItsOwn new
-tells_its_own net classes packets steps old new l eo along same =
-    own_from_opening net classes packets steps new l (subst (λ (r : LoadedNetwork). Along r new steps) eo along) (same ∙ ap (λ (r : LoadedNetwork). r.net) eo)
-
-from_opening : (net : Net) (classes : List Class) (packets : List Packet) (steps : List Step) (new : LoadedNetwork) (text : List ℕ) (W : List ℕ → Type 0) → Along (begun net classes packets) new steps → new.net ≡ net → IsTextOf new.net.report_layout new.state text → W text → Replayed net classes packets steps W
-from_opening net classes packets steps new text W along same is w =
-    let end = along (opening net classes packets) refl in
-    let here : IsTextOf net.report_layout new.state text = subst (λ (n : Net). IsTextOf n.report_layout new.state text) same is in
-    (end.0, text, end.1, subst (λ (s : State). IsTextOf net.report_layout s text) end.2 here, w)
-
-pub replayed : (net : Net) (classes : List Class) (packets packets' : List Packet) (steps steps' : List Step) (old new : LoadedNetwork) (text : List ℕ) (W : List ℕ → Type 0) → packets ≡ packets' → steps ≡ steps' → old ≡ begun net classes packets → Along old new steps → new.net ≡ old.net → IsTextOf new.net.report_layout new.state text → W text → Replayed net classes packets' steps' W
-replayed net classes packets packets' steps steps' old new text W ep es eo along same is w =
-    let own : Along (begun net classes packets) new steps = subst (λ (r : LoadedNetwork). Along r new steps) eo along in
-    let mine : new.net ≡ net = same ∙ ap (λ (r : LoadedNetwork). r.net) eo in
-    let all : Replayed net classes packets steps W = from_opening net classes packets steps new text W own mine is w in
-    subst (λ (ps : List Packet). Replayed net classes ps steps' W) ep (subst (λ (ss : List Step). Replayed net classes packets ss W) es all)
+pub tells_its_own : (net net' : Net) (classes : List Class) (lines : Lines) (last told : State) → IsLayout net.report_layout → ComesTo net classes lines last → told ≡ told_state last → net' ≡ net → totals_of net'.report_layout told ≡ totals_in net'.report_layout told
+tells_its_own net net' classes lines last told l (r, read, is) tells same =
+    let here : totals_of net.report_layout (told_state last) ≡ totals_in net.report_layout (told_state last) = run_retold net classes r.packets r.steps last l is in
+    rw (same, tells) here

@@ -14,7 +14,6 @@ use crate::document::{Documents, read_documents};
 use crate::replaying::replay;
 use fx_base::{Fault, LineReader, Sink, Source};
 use fx_layout::Seed;
-use fx_run_text::read_run;
 use std::alloc::Global;
 
 /// Replays the run that a reader's lines say, and writes the text of its last state.
@@ -35,7 +34,6 @@ fn replay_lines<R: Source, S: Sink>(
     ensures quiet { FailsQuietly S.failed sink.old sink.new result }
 {
     let classes = documents.traffic.classes();
-    let run = read_run(alloc, classes, run)?;
     replay(alloc, seed, documents.plan.net(), classes, run, sink)
 }
 
@@ -44,9 +42,8 @@ fn replay_lines<R: Source, S: Sink>(
 ///
 /// Fails with the first refusal: 101 and those of [`fx_plan::read_plan`] for the network, with nothing of the traffic
 /// read before; 101 and those of [`fx_traffic::read_traffic`] for the traffic; then, with nothing of the run's text
-/// read before, those of [`fx_machine::read_run`] and of [`replay`]. 901 comes where a read fails or a reader hasn't
-/// ended after 4,294,967,296 calls, 900 for want of memory, 902 where a write fails. Nothing is written for a fault
-/// other than 902.
+/// read before, those of [`replay`]. 901 comes where a read fails or a reader hasn't ended after 4,294,967,296 calls,
+/// 900 for want of memory, 902 where a write fails. Nothing is written for a fault other than 902.
 pub fn replay_bytes<N: Source, T: Source, R: Source, S: Sink>(
     alloc: Global,
     seed: Seed,

@@ -1,42 +1,86 @@
 //! A run replayed over the tables of a network.
-ghost use Rattle.std.specs.Prelude.{◌≡◌, ◌⊎◌, ℕ, List, None, Ok, Err, All, OnOk, IfOk, IfErr, ◌++◌};
-ghost use Rattle.fx_base.specs.Device.{IsWriteFault, PutsText, Writes};
+ghost use Rattle.std.specs.Prelude.{◌≡◌, ◌⊎◌, None, Some, Ok, Err, OnOk, IfOk, IfErr, IfSome};
+ghost use Rattle.fx_base.specs.Device.{IsWriteFault, PutsText};
 ghost use Rattle.fx_base.specs.Fault.{IsMemory};
+ghost use Rattle.fx_base.specs.Lines.{Fails};
 ghost use Rattle.fx_base.specs.declared.fault.Place.TheVariants as places;
 ghost use Rattle.fx_base.specs.Refusals.{want_of_memory};
 ghost use Rattle.fx_machine.specs.States as states;
 ghost use Rattle.fx_machine.specs.Steps as stepping;
 ghost use Rattle.fx_collect.specs.Totals.{totals_of, totals_in};
-ghost use Rattle.fx_collect.specs.Report.{totals_text, KeysAscend};
 ghost use Rattle.fx_audit.specs.Outputs.{FailsQuietly, Prints};
-ghost use Rattle.fx_audit.specs.Replay.{complete_line, IsRefused, IsTextOf};
+ghost use Rattle.fx_audit.specs.Replay.{complete_line, CannotReplay, ComesTo, IsTextOf};
 ghost use Rattle.fx_audit.specs.declared.answer.Answer.TheVariants.{Yes};
 
 use crate::answer::Answer;
-use fx_base::{Fault, Sink, put_text};
+use fx_base::{Fault, LineReader, Sink, Source, put_text};
 use fx_collect::Totals;
 use fx_layout::Seed;
 use fx_machine::State;
-use fx_run_text::{Run, Step};
+use fx_run_text::{RunBeginning, Step, read_next_step, read_packets};
 use fx_tables::{Classes, Net};
 use std::alloc::Global;
 
-/// Makes one step after another, up to the first that is refused.
-fn make_steps(state: &mut State<'_>, steps: &[Step]) -> Result<(), Fault>
-    ensures ok { OnOk result ((s : states.State) → state.old.state ≡ states.told_state s
-        → (last : states.State)
-        × (stepping.run state.old.net state.old.classes state.old.packets steps.now s ≡ Ok last)
-        × (state.new.state ≡ states.told_state last)) }
-    ensures net { state.new.net ≡ state.old.net }
-    ensures err { IfErr result (λ e. (e.place ≡ places.None)
-        × ((e.number ≡ want_of_memory) ⊎ ((s : states.State) → state.old.state ≡ states.told_state s
-        → stepping.run state.old.net state.old.classes state.old.packets steps.now s
+/// Makes the step unless one before it was refused, and gives the first refusal, if there is one.
+#[inline(always)]
+fn make_step(state: &mut State<'_>, step: &Step, refused: Option<Fault>) -> Option<Fault>
+    ensures tables { (state.new.net ≡ state.old.net) × (state.new.classes ≡ state.old.classes)
+        × (state.new.packets ≡ state.old.packets) }
+    ensures before { IfSome refused (λ e. result ≡ Some e) }
+    ensures made { refused ≡ None → result ≡ None → (s : states.State)
+        → state.old.state ≡ states.told_state s
+        → (next : states.State)
+        × (stepping.after state.old.net state.old.classes state.old.packets step.now s ≡ Ok next)
+        × (state.new.state ≡ states.told_state next) }
+    ensures refused { refused ≡ None → IfSome result (λ e. (e.place ≡ places.None)
+        × ((e.number ≡ want_of_memory) ⊎ ((s : states.State)
+        → state.old.state ≡ states.told_state s
+        → stepping.after state.old.net state.old.classes state.old.packets step.now s
         ≡ Err e.number))) }
 {
-    for step in steps {
-        state.step(step)?;
+    match refused {
+        Some(fault) => Some(fault),
+        None => state.step(step).err(),
     }
-    Ok(())
+}
+
+/// Makes the steps of the run that the lines say, each when it is read, and gives the state behind the last. Behind a
+/// step that is refused the lines are read to their end, since what is wrong in them goes before the refusal.
+///
+/// Fails, where the lines say no run, as [`fx_run_text::read_run`]; else, at no place, with the number of the first step
+/// that is refused (851, 853, 852), and with 900 for want of memory.
+fn last_state<'a, R: Source>(
+    alloc: Global,
+    net: &'a Net,
+    classes: &'a Classes,
+    lines: &mut LineReader<R>,
+) -> Result<State<'a>, Fault>
+    ensures ok { IfOk result (λ state. (state.net ≡ net.now) × ((last : states.State)
+        × ComesTo net.now classes.now lines.old last
+        × (state.state ≡ states.told_state last))) }
+    ensures err { IfErr result (λ e. IsMemory e
+        ⊎ (Fails lines.old lines.new e ⊎ CannotReplay net.now classes.now lines.old e)) }
+{
+    let RunBeginning {
+        version,
+        packets,
+        first,
+    } = read_packets(alloc, classes, lines)?;
+    let mut state = State::open(alloc, net, classes, packets)?;
+    let mut next = first;
+    let mut refused = None;
+    'steps: loop {
+        let Some(step) = next else {
+            break;
+        };
+        refused = make_step(&mut state, &step, refused);
+        drop(step);
+        next = read_next_step(alloc, version, lines)?;
+    }
+    match refused {
+        Some(fault) => Err(fault),
+        None => Ok(state),
+    }
 }
 
 /// Writes the line that says whether a run is complete.
@@ -74,32 +118,31 @@ fn put_state<S: Sink>(
     put_complete(sink, state.complete())
 }
 
-/// Replays a run over the tables of a network and writes the collector's totals in its last state, then whether
-/// the run is complete. Totals hash keys by the seed.
+/// Replays the run that the lines say over the tables of a network, and writes the collector's totals in its last
+/// state, then whether the run is complete. Totals hash keys by the seed. Of the run its packets are kept, and no steps.
 ///
-/// Fails, at no place, with 856 where a packet isn't in its class; with the number of the first step that is
-/// refused (851, 853, 852); with 900 for want of memory and 902 where a write fails. Nothing is written before
-/// the last state is known and its totals are in order.
-pub fn replay<S: Sink>(
+/// Fails, where the lines say no run, as [`fx_run_text::read_run`]; else, at no place, with the number of the first step
+/// that is refused (851, 853, 852), with 900 for want of memory and with 902 where a write fails. Nothing is written
+/// before the last state is known and its totals are in order.
+pub fn replay<R: Source, S: Sink>(
     alloc: Global,
     seed: Seed,
     net: &Net,
     classes: &Classes,
-    run: Run,
+    lines: &mut LineReader<R>,
     sink: &mut S,
 ) -> Result<Answer, Fault>
-    ensures ok { IfOk result (λ answer. (answer ≡ Yes) × ((last : states.State) × (text : List ℕ)
-        × (stepping.run net.now classes.now run.packets run.steps
-        (states.opening net.now classes.now run.packets) ≡ Ok last)
-        × IsTextOf net.now.report_layout (states.told_state last) text
-        × Writes (S.taken sink.old) (S.taken sink.new) text)) }
-    ensures err { IfErr result (λ e. IsRefused net.now classes.now run e
-        ⊎ (IsMemory e ⊎ IsWriteFault (S.failed sink.new) e)) }
+    ensures ok { IfOk result (λ answer. (answer ≡ Yes) × ((last : states.State)
+        × ComesTo net.now classes.now lines.old last
+        × Prints (IsTextOf net.now.report_layout (states.told_state last))
+        (S.taken sink.old) (S.taken sink.new))) }
+    ensures err { IfErr result (λ e. IsMemory e
+        ⊎ (Fails lines.old lines.new e
+        ⊎ (IsWriteFault (S.failed sink.new) e
+        ⊎ CannotReplay net.now classes.now lines.old e))) }
     ensures quiet { FailsQuietly S.failed sink.old sink.new result }
 {
-    let (packets, steps) = run.into_parts();
-    let mut state = State::open(alloc, net, classes, packets)?;
-    make_steps(&mut state, steps.as_slice())?;
+    let state = last_state(alloc, net, classes, lines)?;
     // For the prover alone: the report's layout fits its axes.
     let _layout = net.report_layout();
     put_state(alloc, seed, &state, sink)?;

@@ -4,3 +4,4 @@ pub mod RunLines
 pub mod RunStepTexts
 pub mod RunTexts
 pub mod RunPutting
+pub mod RunSteps

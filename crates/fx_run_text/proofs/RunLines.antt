@@ -118,12 +118,12 @@ pub first_fault : (classes : List Class) (first new : Lines) (e : Fault) → Fai
 first_fault classes first new e (inl fails) = inl fails
 first_fault classes first new e (inr read) = inr (read classes)
 
-fails_behind : (first old new : Lines) (e : Fault) → old.stopped ≡ None → GoesOnToLines first old → Fails old new e → Fails first new e
+pub fails_behind : (first old new : Lines) (e : Fault) → old.stopped ≡ None → GoesOnToLines first old → Fails old new e → Fails first new e
 fails_behind first old new e going on (inl before) = absurd (cc)
 fails_behind first old new e going on (inr (is, cut)) = inr (is, cut_off_behind first old new on cut)
 
 -- what comes of what is behind the lines that were read comes of the whole
-comes : (version : TextVersion) (classes : List Class) (first old : Lines) (run : Run) (result : Result Run Fault) → ReadsOn version classes first old run → MayReadBehind version classes old run result → MayReadRun classes first result
+pub comes : (version : TextVersion) (classes : List Class) (first old : Lines) (run : Run) (result : Result Run Fault) → ReadsOn version classes first old run → MayReadBehind version classes old run result → MayReadRun classes first result
 comes version classes first old run result reads (rest, left, is) =
     let before = reads rest left in
     (before.0, before.1, before.2 ∙ is)
@@ -134,7 +134,7 @@ next_fault version classes first old new run e going on reads (inr (inl fails)) 
 next_fault version classes first old new run e going on reads (inr (inr read)) = inr (inr (comes version classes first old run (Err e) reads (read classes run)))
 
 -- a line more
-on_line : (version : TextVersion) (classes : List Class) (first old new : Lines) (run : Run) (x : RunLine) → ReadsOn version classes first old run → ReadsNextLine version old new x → (rest : List ℕ) → MayBeLeft new.left rest
+pub on_line : (version : TextVersion) (classes : List Class) (first old new : Lines) (run : Run) (x : RunLine) → ReadsOn version classes first old run → ReadsNextLine version old new x → (rest : List ℕ) → MayBeLeft new.left rest
     → (text : List ℕ) × MayBeLeft first.left text × (run_in classes first.number (text_lines text) ≡ from_line classes new.number run (Ok x) (text_lines rest) (λ r. behind version classes new.number r (text_lines rest)))
 on_line version classes first old new run x reads next rest left =
     let line = next rest left in

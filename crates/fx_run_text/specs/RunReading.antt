@@ -1,14 +1,12 @@
 -- How the text of a run is read.
-use Rattle.std.specs.Prelude.{◌≡◌, ℕ, Bool, true, false, ◌==◌, ◌&&◌, ◌⊎◌, nat_lt, is_some, if◌then◌else◌, List, [], ◌∷◌, ◌++◌, length, codes, Option, Some, None, Result, Ok, Err}
+use Rattle.std.specs.Prelude.{◌≡◌, ℕ, Bool, ◌==◌, ◌&&◌, nat_lt, if◌then◌else◌, List, [], ◌∷◌, ◌++◌, length, codes, Option, Some, None, Result, Ok, Err}
 use Rattle.std.specs.Option.{option_map}
-use Rattle.std.specs.List.{slice_split}
 use Rattle.std.specs.Str.{bytes_eq}
 use Rattle.fx_base.specs.declared.fault.Fault.{Fault}
 use Rattle.fx_base.specs.declared.fault.Place.TheVariants as places
 use Rattle.fx_base.specs.Fault.{fault_at}
 use Rattle.fx_base.specs.Device.{MayBeLeft, MayHaveLeft}
-use Rattle.fx_base.specs.Lines.{Lines, IsTextCutOff, text_lines, next_number}
-use Rattle.fx_elements.specs.declared.axis.Axis.{Axis}
+use Rattle.fx_base.specs.Lines.{Lines, text_lines, next_number}
 use Rattle.fx_elements.specs.declared.axis.Axis.TheVariants.{Source, Destination, Protocol, SourcePort, DestinationPort, ClassOfService, Version, Source6, Destination6}
 use Rattle.fx_elements.specs.Axes.{Fields}
 use Rattle.fx_elements.specs.Spelling.{◌>>=◌, largest, number_of}
@@ -243,3 +241,15 @@ abbrev pub ReadsOn : TextVersion → List Class → Lines → Lines → Run → 
 ReadsOn version classes old new run =
     (rest : List ℕ) → MayBeLeft new.left rest
     → MayHaveLeft old.left (λ text. run_in classes old.number (text_lines text) ≡ behind version classes new.number run (text_lines rest))
+
+-- ---- a text that is read step by step
+
+-- so much of a run was read, and this step behind it or, with none, the run's end
+abbrev pub ReadsUpTo : TextVersion → List Class → Lines → Lines → Run → Option Step → Type 0
+ReadsUpTo version classes old new run None = MayReadRun classes old (Ok run)
+ReadsUpTo version classes old new run (Some step) = ReadsOn version classes old new (with_step run step)
+
+-- whatever was read of a run, this step is its next or, with none, the run is read
+abbrev pub ReadsNextStep : TextVersion → Lines → Lines → Option Step → Type 0
+ReadsNextStep version old new None = (classes : List Class) (run : Run) → MayReadBehind version classes old run (Ok run)
+ReadsNextStep version old new (Some step) = ReadsNextLine version old new (line.Step step)

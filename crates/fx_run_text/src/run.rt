@@ -1,10 +1,9 @@
 //! Runs.
-ghost use Rattle.std.specs.Prelude.{◌≡◌, ◌==◌, ℕ, OnOk, IfSome, IfNone, length, is_some, option_map};
-ghost use Rattle.fx_run_text.specs.RunReading.{no_run, with_packet, with_step, packet_fault};
+ghost use Rattle.std.specs.Prelude.{◌≡◌, [], OnOk};
+ghost use Rattle.fx_run_text.specs.RunReading.{with_step};
 
 use crate::step::Step;
-use fx_base::refusals;
-use fx_tables::{Classes, Packet};
+use fx_tables::Packet;
 use std::alloc::{AllocError, Global};
 use std::marker::Model;
 
@@ -47,22 +46,14 @@ impl Run {
         (packets, steps)
     }
 
-    /// A run without packets and steps.
-    pub(crate) fn new(alloc: Global) -> Run
-        ensures { result ≡ no_run }
+    /// A run with these packets and no steps.
+    pub(crate) fn of_packets(alloc: Global, packets: Vec<Packet>) -> Run
+        ensures { result ≡ record { packets = packets.items; steps = [] } }
     {
         Run {
-            packets: Vec::new(alloc),
+            packets,
             steps: Vec::new(alloc),
         }
-    }
-
-    /// Adds a packet as the last one.
-    pub(crate) fn add_packet(&mut self, packet: &Packet) -> Result<(), AllocError>
-        ensures { OnOk result (self.new ≡ with_packet self.old packet.now) }
-    {
-        self.packets.push(*packet)?;
-        Ok(())
     }
 
     /// Adds a step as the last one.
@@ -71,19 +62,5 @@ impl Run {
     {
         self.steps.push(step)?;
         Ok(())
-    }
-
-    /// What is wrong with this packet as the next one, if anything.
-    pub(crate) fn fault_of_packet(&self, classes: &Classes, packet: &Packet) -> Option<u16>
-        ensures { result ≡ packet_fault classes.now self.now packet.now }
-    {
-        if !self.steps.is_empty() {
-            return Some(refusals::RUN_FORM);
-        }
-        if classes.contains(packet) {
-            None
-        } else {
-            Some(refusals::RUN_PACKET)
-        }
     }
 }

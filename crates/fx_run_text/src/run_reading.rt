@@ -1,19 +1,32 @@
 //! Reading the text of a run.
-ghost use Rattle.std.specs.Prelude.{◌≡◌, ◌⊎◌, ◌<◌, ℕ, List, Ok, Err, None, IfOk, IfErr, OnOk};
+ghost use Rattle.std.specs.Prelude.{◌≡◌, ◌⊎◌, ◌<◌, ℕ, List, [], All, Ok, Err, None, IfOk, IfErr, IfSome, OnOk, length};
+ghost use Rattle.fx_base.specs.Entries.{entry_numbered};
 ghost use Rattle.fx_base.specs.Fault.{IsMemory};
 ghost use Rattle.fx_base.specs.Lines.{GoesOnToLines, text_lines, line_budget, Fails};
-ghost use Rattle.fx_tables.specs.Classes.{Class};
+ghost use Rattle.fx_tables.specs.Classes.{Class, IsOf};
 ghost use Rattle.fx_run_text.specs.declared.text_version.TextVersion.{TextVersion};
 ghost use Rattle.fx_run_text.specs.RunText.{Run, run_text, run_lines, IsWritableRun, AreShort};
-ghost use Rattle.fx_run_text.specs.RunReading.{run_in, MayEnd, MayReadRun, MayReadBehind, ReadsFirst, ReadsNextLine, line_with};
+ghost use Rattle.fx_run_text.specs.RunReading.{run_in, MayEnd, MayReadRun, MayReadBehind, ReadsFirst, ReadsNextLine, ReadsNextStep, ReadsUpTo, line_with};
 
 use crate::run::Run;
 use crate::run_line::{ReadLine, blank_packet, read_line};
+use crate::step::Step;
 use crate::text_version::TextVersion;
 use fx_base::{Fault, LineReader, Source, refusals};
 use fx_elements::is_word;
 use fx_tables::{Classes, Packet};
 use std::alloc::Global;
+
+/// What was read of a run's text up to its first step, or to its end.
+#[derive(Debug, Drop)]
+pub struct RunBeginning {
+    /// The version that the first line tells.
+    pub version: TextVersion,
+    /// The run's packets, in order.
+    pub packets: Vec<Packet>,
+    /// The first step, or none where the run has no steps and its text was read to the end.
+    pub first: Option<Step>,
+}
 
 /// Goes past the first line, which tells the text's version.
 fn read_first<R: Source>(lines: &mut LineReader<R>) -> Result<TextVersion, Fault>
@@ -37,13 +50,13 @@ fn read_first<R: Source>(lines: &mut LineReader<R>) -> Result<TextVersion, Fault
 }
 
 /// Reads the next line, a packet into the place for it.
+#[inline(always)]
 fn read_next<R: Source>(
     alloc: Global,
     version: TextVersion,
     lines: &mut LineReader<R>,
     packet: &mut Packet,
 ) -> Result<ReadLine, Fault>
-    requires { lines.old.stopped ≡ None }
     ensures going { OnOk result (lines.new.stopped ≡ None) }
     ensures on { OnOk result (GoesOnToLines lines.old lines.new) }
     ensures ok { IfOk result (λ x. ReadsNextLine version lines.old lines.new
@@ -79,6 +92,84 @@ fn read_end<R: Source>(lines: &mut LineReader<R>) -> Result<(), Fault>
     Ok(())
 }
 
+/// Reads the beginning of a run's text (see [`read_run`]), which begins with the next line: goes past the first line
+/// and the packets' lines to the first step or, in a run without steps, to the text's end. The steps behind the first
+/// are left to [`read_next_step`].
+///
+/// Fails as [`read_run`] does where that stands in these lines, and else with 900, at no place, for want of memory.
+pub fn read_packets<R: Source>(
+    alloc: Global,
+    classes: &Classes,
+    lines: &mut LineReader<R>,
+) -> Result<RunBeginning, Fault>
+    ensures ok { IfOk result (λ run. ReadsUpTo run.version classes.now lines.old lines.new
+        (record { packets = run.packets.items; steps = [] }) run.first) }
+    ensures classes { IfOk result (λ run. All
+        (λ packet. IsOf packet (entry_numbered classes.now packet.class)) run.packets.items) }
+    ensures going { IfOk result (λ run. IfSome run.first (λ _. lines.new.stopped ≡ None)) }
+    ensures on { IfOk result (λ run. IfSome run.first (λ _. GoesOnToLines lines.old lines.new)) }
+    ensures err { IfErr result (λ e. IsMemory e
+        ⊎ (Fails lines.old lines.new e ⊎ MayReadRun classes.now lines.old (Err e))) }
+{
+    let version = read_first(lines)?;
+    let mut packets = Vec::new(alloc);
+    let mut packet = blank_packet();
+    'lines: loop {
+        match read_next(alloc, version, lines, &mut packet)? {
+            ReadLine::Packet => {
+                if !classes.contains(&packet) {
+                    return Err(Fault::at_line(refusals::RUN_PACKET, lines.number()));
+                }
+                packets.push(packet)?;
+            }
+            ReadLine::Step(step) => {
+                return Ok(RunBeginning {
+                    version,
+                    packets,
+                    first: Some(step),
+                });
+            }
+            ReadLine::End => {
+                read_end(lines)?;
+                return Ok(RunBeginning {
+                    version,
+                    packets,
+                    first: None,
+                });
+            }
+        }
+    }
+}
+
+/// Reads the next step of a run's text (see [`read_run`]) of which a step was read before, or none where the line `end`
+/// comes and the text's end behind it.
+///
+/// Fails as [`read_run`] does where that stands in these lines, so with 855 at a packet's line, and else with 900, at
+/// no place, for want of memory.
+pub fn read_next_step<R: Source>(
+    alloc: Global,
+    version: TextVersion,
+    lines: &mut LineReader<R>,
+) -> Result<Option<Step>, Fault>
+    ensures ok { IfOk result (λ next. ReadsNextStep version lines.old lines.new next) }
+    ensures going { IfOk result (λ next. IfSome next (λ _. lines.new.stopped ≡ None)) }
+    ensures on { IfOk result (λ next. IfSome next (λ _. GoesOnToLines lines.old lines.new)) }
+    ensures smaller { IfOk result
+        (λ next. IfSome next (λ _. line_budget lines.new < line_budget lines.old)) }
+    ensures err { IfErr result (λ e. IsMemory e ⊎ (Fails lines.old lines.new e
+        ⊎ ((classes : List Class) (run : Run) → 0 < length run.steps
+        → MayReadBehind version classes lines.old run (Err e)))) }
+{
+    match read_next(alloc, version, lines, &mut blank_packet())? {
+        ReadLine::Packet => Err(Fault::at_line(refusals::RUN_FORM, lines.number())),
+        ReadLine::Step(step) => Ok(Some(step)),
+        ReadLine::End => {
+            read_end(lines)?;
+            Ok(None)
+        }
+    }
+}
+
 /// Reads a run from its text, which begins with the next line and ends with the last.
 ///
 /// The text is a line `once-run 2`; a line `packet CLASS PATH SOURCE DESTINATION PROTOCOL SOURCE-PORT
@@ -105,23 +196,19 @@ pub fn read_run<R: Source>(
     ensures err { IfErr result (λ e. IsMemory e
         ⊎ (Fails lines.old lines.new e ⊎ MayReadRun classes.now lines.old (Err e))) }
 {
-    let version = read_first(lines)?;
-    let mut run = Run::new(alloc);
-    let mut packet = blank_packet();
-    'lines: loop {
-        match read_next(alloc, version, lines, &mut packet)? {
-            ReadLine::Packet => {
-                if let Some(number) = run.fault_of_packet(classes, &packet) {
-                    return Err(Fault::at_line(number, lines.number()));
-                }
-                run.add_packet(&packet)?;
-            }
-            ReadLine::Step(step) => run.add_step(step)?,
-            ReadLine::End => {
-                read_end(lines)?;
-                return Ok(run);
-            }
-        }
+    let RunBeginning {
+        version,
+        packets,
+        first,
+    } = read_packets(alloc, classes, lines)?;
+    let mut run = Run::of_packets(alloc, packets);
+    let mut next = first;
+    'steps: loop {
+        let Some(step) = next else {
+            return Ok(run);
+        };
+        run.add_step(step)?;
+        next = read_next_step(alloc, version, lines)?;
     }
 }
 

@@ -47,7 +47,7 @@ fn replays_runs(rt: HostRuntime) {
 }
 
 /// A network, traffic and a run, of which one is wrong at least, and the number of the first fault.
-const REFUSED: [(&str, &str, &[u8], u16); 6] = [
+const REFUSED: [(&str, &str, &[u8], u16); 9] = [
     ("{", "{", b"", 101),
     ("{}", "{", b"", 103),
     (NETWORK, "7", b"", 104),
@@ -58,6 +58,24 @@ const REFUSED: [(&str, &str, &[u8], u16); 6] = [
         TRAFFIC,
         b"once-run 1\nexpire cache 2 1 1\nend\n",
         851,
+    ),
+    (
+        NETWORK,
+        TRAFFIC,
+        b"once-run 1\narrive 1 1\nexpire cache 2 1 1\nend\n",
+        853,
+    ),
+    (
+        NETWORK,
+        TRAFFIC,
+        b"once-run 1\narrive 1 1\nexpire cache 2 1 01\nend\n",
+        855,
+    ),
+    (
+        NETWORK,
+        TRAFFIC,
+        b"once-run 1\narrive 1 1\narrive 1 1\n",
+        855,
     ),
 ];
 

@@ -3,8 +3,8 @@ use crate::answers::{ends, is_refused};
 use crate::meters::sources;
 use fx_base::{Fault, LineReader, Octets, Room, Sink};
 use fx_run_text::{
-    Run, RunLine, Step, TextVersion, put_packet_line, put_step_line, read_run, read_run_line,
-    run_lines_have_one_text, run_texts,
+    Run, RunBeginning, RunLine, Step, TextVersion, put_packet_line, put_step_line, read_next_step,
+    read_packets, read_run, read_run_line, run_lines_have_one_text, run_texts,
 };
 use fx_tables::{Class, Classes, HolderName, Packet, Path};
 use std::alloc::{AllocError, Global};
@@ -178,6 +178,54 @@ fn reads_each_form_of_step(rt: HostRuntime) {
     assert!(rt; are_each_form(web_run(&rt, rt.alloc(), text).steps()));
 }
 
+/// Whether this is the beginning of the run of two packets: its packets and its first step, at the line 4.
+fn is_the_beginning(beginning: &RunBeginning, line: u64) -> bool {
+    let first_is = match beginning.first.as_ref() {
+        Some(step) => is_crossing(step, 1, 1) && choices(step) == [None].as_slice(),
+        None => false,
+    };
+    (beginning.version == TextVersion::One)
+        & are_the_packets(beginning.packets.as_slice())
+        & first_is
+        & (line == 4)
+}
+
+/// How many steps are read behind the first until the run's end, and the line where that stands.
+fn steps_behind(
+    alloc: Global,
+    version: TextVersion,
+    lines: &mut LineReader<Octets<'_>>,
+) -> Result<(u64, u64), Fault> {
+    let mut count: u64 = 0;
+    for _ in 0..9u64 {
+        let Some(_step) = read_next_step(alloc, version, lines)? else {
+            break;
+        };
+        count = count.saturating_add(1);
+    }
+    Ok((count, lines.number()))
+}
+
+#[test]
+fn reads_packets_and_then_each_step(rt: HostRuntime) {
+    let classes = web(&rt, rt.alloc());
+    let mut lines = LineReader::new(rt.alloc(), Octets::new(TWO_PACKETS)).expect(&rt, "memory");
+    let beginning = read_packets(rt.alloc(), &classes, &mut lines).expect(&rt, "a beginning");
+    let at = lines.number();
+    let behind = steps_behind(rt.alloc(), beginning.version, &mut lines).expect(&rt, "steps");
+    assert!(rt; is_the_beginning(&beginning, at) & (behind == (3, 8)));
+}
+
+/// What reading a text's packets and steps one by one is refused with, if it is.
+fn one_by_one(alloc: Global, classes: &Classes, text: &[u8]) -> Result<(), Fault> {
+    let mut lines = LineReader::new(alloc, Octets::new(text))?;
+    let beginning = read_packets(alloc, classes, &mut lines)?;
+    if beginning.first.is_some() {
+        let _behind = steps_behind(alloc, beginning.version, &mut lines)?;
+    }
+    Ok(())
+}
+
 /// Whether a line that is read is the end of a run, if it is a line.
 fn is_end(line: Result<Option<RunLine>, AllocError>) -> Option<bool> {
     match line {
@@ -313,6 +361,11 @@ fn refuses_at_the_line(rt: HostRuntime) {
         assert!(rt;
             is_refused(answer, &Fault::at_line(*number, *line)),
             "{number} at {line}"
+        );
+        let answer = one_by_one(rt.alloc(), &classes, *text);
+        assert!(rt;
+            is_refused(answer, &Fault::at_line(*number, *line)),
+            "{number} at {line}, step by step"
         );
     }
 }

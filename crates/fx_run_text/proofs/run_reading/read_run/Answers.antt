@@ -1,46 +1,24 @@
-use Rattle.std.proofs.Common.{rules, ◌≡◌, None, Some, Ok, inr}
+use Rattle.std.proofs.Common.{rules, ◌≡◌, Some, None}
 use Rattle.std.proofs.lemmas.Result.{err_from_is_err_and}
-use Rattle.fx_base.proofs.GoingOn.{goes_then}
-use Rattle.fx_run_text.specs.declared.run_line.RunLine.TheVariants as line
-use Rattle.fx_run_text.specs.RunReading.{ReadsNextLine, packet_fault}
-use Rattle.fx_run_text.proofs.RunLines.{end_fault, first_fault, next_fault, on_end, on_packet, packet_wrong}
+use Rattle.fx_base.specs.Lines.{GoesOnToLines}
+use Rattle.fx_run_text.specs.RunReading.{ReadsUpTo}
+use Rattle.fx_run_text.proofs.RunSteps.{goes_on_next, next_fails, reads_next}
 use Rattle.fx_run_text.proofs.run_reading.read_run.Goals as goal
 
-pub returns-in_err-version-clause-err : goal.returns-in_err-version-clause-err
-returns-in_err-version-clause-err g c =
-    let p = err_from_is_err_and c.from_residual.result c.from_residual.ensures.1 in
-    rw (p.1, p.2) (inr (first_fault c.args.classes.now c.args.lines.now c.read_first.new.lines _ c.in_err-version.ensures.err))
+pub returns-in_err-next-clause-err : goal.returns-in_err-next-clause-err
+returns-in_err-next-clause-err g c =
+    let p = err_from_is_err_and c.from_residual-in_err-next.result c.from_residual-in_err-next.ensures.1 in
+    let going : c.steps.lines.stopped ≡ None = search rules in
+    let on : GoesOnToLines c.args.lines.now c.steps.lines = search rules in
+    let reads : ReadsUpTo c.in_ok-version.field-0.version c.args.classes.now c.args.lines.now c.steps.lines c.steps.run (Some c.in-Some.step) = search rules in
+    rw (p.1, p.2) (next_fails c.in_ok-version.field-0.version c.args.classes.now c.args.lines.now c.steps.lines c.read_next_step.new.lines c.steps.run c.in-Some.step _ going on reads c.in_err-next.ensures.err)
 
-pub returns-in_err-read_next-clause-err : goal.returns-in_err-read_next-clause-err
-returns-in_err-read_next-clause-err g c =
-    let p = err_from_is_err_and c.from_residual-in_err-read_next.result c.from_residual-in_err-read_next.ensures.1 in
-    rw (p.1, p.2) (next_fault c.in_ok-version.version c.args.classes.now c.args.lines.now c.lines.lines c.read_next.new.lines c.lines.run _ c.lines.invariant.going c.lines.invariant.on c.lines.invariant.reads c.in_err-read_next.ensures.err)
-
-pub returns-in-Some-clause-err : goal.returns-in-Some-clause-err
-returns-in-Some-clause-err g c =
-    let next : ReadsNextLine c.in_ok-version.version c.lines.lines c.read_next.new.lines (line.Packet c.read_next.new.packet) = search rules in
-    let wrong : packet_fault c.args.classes.now c.lines.run c.read_next.new.packet ≡ Some c.in-Some.number = search rules in
-    let number : c.number.result ≡ c.read_next.new.lines.number = search rules in
-    inr (inr (rw (c.at_line.ensures, number) (packet_wrong c.in_ok-version.version c.args.classes.now c.args.lines.now c.lines.lines c.read_next.new.lines c.lines.run c.read_next.new.packet c.in-Some.number c.lines.invariant.reads next wrong)))
-
-pub lines-preserved-in-Continue-branch-4 : goal.lines-preserved-in-Continue-branch-4
-lines-preserved-in-Continue-branch-4 g c =
-    let next : ReadsNextLine c.in_ok-version.version c.lines.lines c.read_next.new.lines (line.Packet c.read_next.new.packet) = search rules in
-    let none : packet_fault c.args.classes.now c.lines.run c.read_next.new.packet ≡ None = search rules in
+pub steps-preserved : goal.steps-preserved
+steps-preserved g c =
+    let on : GoesOnToLines c.args.lines.now c.steps.lines = search rules in
+    let reads : ReadsUpTo c.in_ok-version.field-0.version c.args.classes.now c.args.lines.now c.steps.lines c.steps.run (Some c.in-Some.step) = search rules in
     record {
       going = search rules;
-      on = goes_then c.args.lines.now c.lines.lines c.read_next.new.lines c.lines.invariant.on c.in_ok-read_next.ensures.on;
-      reads = on_packet c.in_ok-version.version c.args.classes.now c.args.lines.now c.lines.lines c.read_next.new.lines c.lines.run c.add_packet.new.self c.read_next.new.packet c.lines.invariant.reads next none (search rules);
+      on = goes_on_next c.args.lines.now c.steps.lines c.read_next_step.new.lines c.in_ok-next.next on c.in_ok-next.ensures.on;
+      reads = reads_next c.in_ok-version.field-0.version c.args.classes.now c.args.lines.now c.steps.lines c.read_next_step.new.lines c.steps.run c.add_step.new.self c.in-Some.step c.in_ok-next.next reads c.in_ok-next.ensures.ok (search rules);
     }
-
-pub returns-in_err-read_end-in-End-clause-err : goal.returns-in_err-read_end-in-End-clause-err
-returns-in_err-read_end-in-End-clause-err g c =
-    let p = err_from_is_err_and c.from_residual-in_err-read_end-in-End.result c.from_residual-in_err-read_end-in-End.ensures.1 in
-    let next : ReadsNextLine c.in_ok-version.version c.lines.lines c.read_next.new.lines line.End = search rules in
-    let on = goes_then c.args.lines.now c.lines.lines c.read_next.new.lines c.lines.invariant.on c.in_ok-read_next.ensures.on in
-    rw (p.1, p.2) (inr (end_fault c.in_ok-version.version c.args.classes.now c.args.lines.now c.lines.lines c.read_next.new.lines c.read_end.new.lines c.lines.run _ on c.in_ok-read_next.ensures.going c.lines.invariant.reads next c.in_err-read_end-in-End.ensures.err))
-
-pub returns-in-End-clause-ok : goal.returns-in-End-clause-ok
-returns-in-End-clause-ok g c =
-    let next : ReadsNextLine c.in_ok-version.version c.lines.lines c.read_next.new.lines line.End = search rules in
-    on_end c.in_ok-version.version c.args.classes.now c.args.lines.now c.lines.lines c.read_next.new.lines c.lines.run (Ok c.lines.run) c.lines.invariant.reads next (c.in_ok-read_end-in-End.ensures.ok c.lines.run)
