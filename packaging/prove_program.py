@@ -5,8 +5,8 @@ usage: prove_program.py [NAME..]
 
 Run at the top of the repository. Each NAME is a crate as crates.txt has it, which is proved with all that it stands on;
 the program where none is given. A crate is proved once all libraries that it names are, side by side as many as there are
-processors and memory, first those with the longest chain of others behind them; a processor that no other crate can use
-helps with one that is being proved. RT_JOBS=N in the environment sets how many are proved at a time.
+processors and memory, first those with the longest chain of others behind them, and of these the first with the processors
+that the others leave. RT_JOBS=N in the environment sets how many are proved at a time, with one processor each.
 
 What is proved lies in the crate's out/program, with what was said of it in the file `said`: its library, or of the program
 `once`. A library keeps the statements that crates above may cite and leaves the proofs out, so that it is read quickly. A
@@ -16,6 +16,7 @@ import os
 import signal
 import subprocess
 import sys
+from concurrent.futures import FIRST_COMPLETED, ThreadPoolExecutor, wait
 
 TOP = os.path.dirname(os.path.dirname(os.path.realpath(__file__)))
 sys.dont_write_bytecode = True
@@ -26,6 +27,10 @@ PROGRAM = "once"
 
 # How much of the memory that the kit foresees is kept free for a proof: the largest crate took 6 GB of 17.5.
 SHARE_OF_MEMORY = 0.5
+
+# How many processes may prove one crate, and how many more than there are processors may run: a proof's processes wait for
+# one another, so that four of them keep three processors busy.
+MOST_JOBS, MORE_JOBS = 4, 2
 
 
 def made_by(crate):
@@ -51,7 +56,7 @@ def build(rt, crate, jobs, said):
 
 def prove(rt, crate, given, jobs):
     """Proves a crate whose libraries are proved, unless it is as it was, and says so; whether it is proved."""
-    if not all(given[it.name, "proof"] for it in crate.below()):
+    if not all(given[it.name] for it in crate.below()):
         return False
     folder = os.path.dirname(made_by(crate))
     noted, stamp = os.path.join(folder, "stamp"), crate.stamp()
@@ -72,6 +77,47 @@ def prove(rt, crate, given, jobs):
     return True
 
 
+def chains(tasks):
+    """By each task the work of the longest chain of tasks that begins with it and waits for one another. Tasks come after
+    those that they wait for."""
+    behind = {name: 0 for name in tasks}
+    for name in reversed([*tasks]):
+        behind[name] += tasks[name][1]
+        for below in tasks[name][0]:
+            behind[below] = max(behind[below], behind[name])
+    return behind
+
+
+def jobs_of(idle, others, room, needs):
+    """How many processes prove a crate: those that so many others which are ready leave, as far as the memory goes."""
+    fitting = 1 + int((room / needs - 1) / 0.6)
+    return max(1, min(MOST_JOBS, idle - others, fitting))
+
+
+def side_by_side(tasks, processors, memory):
+    """Runs tasks, each once those that it waits for have ended, and answers what each gave. A task is what it waits for, its
+    work, the memory that it needs, and a call that gets what was given and how many processes it may use."""
+    fixed = os.environ.get("RT_JOBS", "")
+    fixed = int(fixed) if fixed.isdigit() and int(fixed) else 0
+    lanes = fixed or (processors + MORE_JOBS if processors > 1 else 1)
+    behind, running, given = chains(tasks), {}, {}
+    left = sorted(tasks, key=lambda name: -behind[name])
+    with ThreadPoolExecutor(lanes) as pool:
+        while left or running:
+            ready = [name for name in left if all(below in given for below in tasks[name][0])]
+            for at, name in enumerate(ready):
+                needs, call = tasks[name][2:]
+                idle = lanes - sum(jobs for _, _, jobs in running.values())
+                room = memory - sum(held for _, held, _ in running.values())
+                if idle > 0 and (fixed or not running or needs <= room):
+                    jobs = 1 if fixed else jobs_of(idle, len(ready) - at - 1, room, needs)
+                    left.remove(name)
+                    running[pool.submit(call, given, jobs)] = name, needs * (1 + 0.6 * (jobs - 1)), jobs
+            for done in wait(running, return_when=FIRST_COMPLETED).done:
+                given[running.pop(done)[0]] = done.result()
+    return given
+
+
 def main(names):
     rt = load_rt()
     os.environ.pop(rt.rtlib.ALLOW_C, None)
@@ -88,9 +134,9 @@ def main(names):
         crate.rlib = made_by(crate)
         if crate.name in wanted:
             work = lambda given, jobs, crate=crate: prove(rt, crate, given, jobs)
-            waits = [(it.name, "proof") for it in crate.below()]
-            tasks[crate.name, "proof"] = waits, crate.count(rb"\n"), SHARE_OF_MEMORY * rt.need(crate), work
-    return 0 if all(rt.in_lanes(tasks).values()) else 1
+            waits = [it.name for it in crate.below()]
+            tasks[crate.name] = waits, crate.count(rb"\n"), SHARE_OF_MEMORY * rt.need(crate), work
+    return 0 if all(side_by_side(tasks, rt.processors(), 0.85 * rt.free()).values()) else 1
 
 
 if __name__ == "__main__":
