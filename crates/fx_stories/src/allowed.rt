@@ -230,35 +230,74 @@ fn tell_near<'x>(story: &mut Story, object: &Value, name: &'x str, known: &'x st
     story.sentence(if there { ", which is there too" } else { "" });
 }
 
+/// How a source is written in a region.
+const SOURCE: &str = "\"sourceIPv4Address\": \"192.0.2.0/24\"";
+
+/// How a destination is written in a region.
+const DESTINATION: &str = "\"destinationIPv4Address\": \"192.0.2.0/24\"";
+
+/// How a source of IPv6 is written in a region.
+const SOURCE_6: &str = "\"sourceIPv6Address\": \"2001:db8::/32\"";
+
+/// How a destination of IPv6 is written in a region.
+const DESTINATION_6: &str = "\"destinationIPv6Address\": \"2001:db8::/32\"";
+
+/// How source ports is written in a region.
+const SOURCE_PORT: &str = "\"sourceTransportPort\": \"1024-65535\"";
+
+/// How destination ports is written in a region.
+const DESTINATION_PORT: &str = "\"destinationTransportPort\": \"443\"";
+
+/// How a protocol is written in a region.
+const PROTOCOL: &str = "\"protocolIdentifier\": \"17\"";
+
+/// How a class of service is written in a region.
+const CLASS_OF_SERVICE: &str =
+    "\"ipClassOfService\": \"184\" (the whole octet, as 184 for the DSCP 46)";
+
+/// How a version is written in a region.
+const VERSION: &str = "\"ipVersion\": \"6\"";
+
+/// Names that a member of a region is often given, each with the member as it is written.
+const EXAMPLES: [(&str, &str); 28] = [
+    ("sourceIPv4Prefix", SOURCE),
+    ("sourceIPv4PrefixLength", SOURCE),
+    ("source", SOURCE),
+    ("sourceAddress", SOURCE),
+    ("destinationIPv4Prefix", DESTINATION),
+    ("destinationIPv4PrefixLength", DESTINATION),
+    ("destination", DESTINATION),
+    ("destinationAddress", DESTINATION),
+    ("sourceIPv6Prefix", SOURCE_6),
+    ("sourceIPv6PrefixLength", SOURCE_6),
+    ("source6", SOURCE_6),
+    ("destinationIPv6Prefix", DESTINATION_6),
+    ("destinationIPv6PrefixLength", DESTINATION_6),
+    ("destination6", DESTINATION_6),
+    ("tcpSourcePort", SOURCE_PORT),
+    ("udpSourcePort", SOURCE_PORT),
+    ("sourcePort", SOURCE_PORT),
+    ("sport", SOURCE_PORT),
+    ("tcpDestinationPort", DESTINATION_PORT),
+    ("udpDestinationPort", DESTINATION_PORT),
+    ("destinationPort", DESTINATION_PORT),
+    ("dport", DESTINATION_PORT),
+    ("protocol", PROTOCOL),
+    ("proto", PROTOCOL),
+    ("tos", CLASS_OF_SERVICE),
+    ("ipDiffServCodePoint", CLASS_OF_SERVICE),
+    ("dscp", CLASS_OF_SERVICE),
+    ("version", VERSION),
+];
+
 /// How a member of a region is written that has another name there, by an example.
 fn region_example(name: &str) -> Option<&'static str> {
-    match name {
-        "sourceIPv4Prefix" | "sourceIPv4PrefixLength" | "source" | "sourceAddress" => {
-            Some("\"sourceIPv4Address\": \"192.0.2.0/24\"")
+    for (known, example) in &EXAMPLES {
+        if *known == name {
+            return Some(example);
         }
-        "destinationIPv4Prefix"
-        | "destinationIPv4PrefixLength"
-        | "destination"
-        | "destinationAddress" => Some("\"destinationIPv4Address\": \"192.0.2.0/24\""),
-        "sourceIPv6Prefix" | "sourceIPv6PrefixLength" | "source6" => {
-            Some("\"sourceIPv6Address\": \"2001:db8::/32\"")
-        }
-        "destinationIPv6Prefix" | "destinationIPv6PrefixLength" | "destination6" => {
-            Some("\"destinationIPv6Address\": \"2001:db8::/32\"")
-        }
-        "tcpSourcePort" | "udpSourcePort" | "sourcePort" | "sport" => {
-            Some("\"sourceTransportPort\": \"1024-65535\"")
-        }
-        "tcpDestinationPort" | "udpDestinationPort" | "destinationPort" | "dport" => {
-            Some("\"destinationTransportPort\": \"443\"")
-        }
-        "protocol" | "proto" => Some("\"protocolIdentifier\": \"17\""),
-        "tos" | "ipDiffServCodePoint" | "dscp" => {
-            Some("\"ipClassOfService\": \"184\" (the whole octet, as 184 for the DSCP 46)")
-        }
-        "version" => Some("\"ipVersion\": \"6\""),
-        _ => None,
     }
+    None
 }
 
 /// Tells how a member is written that has another name in the region of a class, or in a filter or a match of a network.

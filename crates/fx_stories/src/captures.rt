@@ -132,24 +132,40 @@ fn tell_format(story: &mut Story, octets: &[u8]) {
     }
 }
 
-/// What a link type is called, in the registry of tcpdump, with what its frames are.
+/// What link types that aren't read are called, in the registry of tcpdump, with what their frames are.
+const LINKS: [(u32, &str); 16] = [
+    (0, " (NULL: the loopback of BSD)"),
+    (9, " (PPP)"),
+    (
+        12,
+        " (RAW: IP under a number that some systems write; 101 is read)",
+    ),
+    (
+        14,
+        " (RAW: IP under a number that some systems write; 101 is read)",
+    ),
+    (50, " (PPP)"),
+    (105, " (IEEE802_11: wireless frames)"),
+    (108, " (LOOP: the loopback of OpenBSD)"),
+    (113, " (LINUX_SLL: all interfaces of Linux at once)"),
+    (127, " (IEEE802_11_RADIOTAP: wireless frames)"),
+    (189, " (USB_LINUX)"),
+    (192, " (PPI)"),
+    (220, " (USB_LINUX)"),
+    (228, " (IPV4)"),
+    (229, " (IPV6)"),
+    (249, " (USBPCAP)"),
+    (276, " (LINUX_SLL2: all interfaces of Linux at once)"),
+];
+
+/// What a link type is called, with what its frames are.
 fn link_words(number: u32) -> &'static str {
-    match number {
-        0 => " (NULL: the loopback of BSD)",
-        9 | 50 => " (PPP)",
-        12 | 14 => " (RAW: IP under a number that some systems write; 101 is read)",
-        105 => " (IEEE802_11: wireless frames)",
-        108 => " (LOOP: the loopback of OpenBSD)",
-        113 => " (LINUX_SLL: all interfaces of Linux at once)",
-        127 => " (IEEE802_11_RADIOTAP: wireless frames)",
-        189 | 220 => " (USB_LINUX)",
-        192 => " (PPI)",
-        228 => " (IPV4)",
-        229 => " (IPV6)",
-        249 => " (USBPCAP)",
-        276 => " (LINUX_SLL2: all interfaces of Linux at once)",
-        _ => "",
+    for (known, words) in &LINKS {
+        if *known == number {
+            return words;
+        }
     }
+    ""
 }
 
 /// Tells the link type of a capture.

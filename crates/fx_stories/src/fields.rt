@@ -6,85 +6,78 @@ use fx_wire::{FieldSpecifier, VARIABLE};
 /// How many fields of a template are told.
 const FIELDS: usize = 20;
 
-/// The name of an element of the IANA registry (RFC 7012) that exporters send, or an empty text.
+/// The elements of the IANA registry (RFC 7012) that exporters send, by their numbers.
+const ELEMENTS: [(u16, &str); 60] = [
+    (1, "octetDeltaCount"),
+    (2, "packetDeltaCount"),
+    (3, "deltaFlowCount"),
+    (4, "protocolIdentifier"),
+    (5, "ipClassOfService"),
+    (6, "tcpControlBits"),
+    (7, "sourceTransportPort"),
+    (8, "sourceIPv4Address"),
+    (9, "sourceIPv4PrefixLength"),
+    (10, "ingressInterface"),
+    (11, "destinationTransportPort"),
+    (12, "destinationIPv4Address"),
+    (13, "destinationIPv4PrefixLength"),
+    (14, "egressInterface"),
+    (15, "ipNextHopIPv4Address"),
+    (16, "bgpSourceAsNumber"),
+    (17, "bgpDestinationAsNumber"),
+    (21, "flowEndSysUpTime"),
+    (22, "flowStartSysUpTime"),
+    (23, "postOctetDeltaCount"),
+    (24, "postPacketDeltaCount"),
+    (27, "sourceIPv6Address"),
+    (28, "destinationIPv6Address"),
+    (29, "sourceIPv6PrefixLength"),
+    (30, "destinationIPv6PrefixLength"),
+    (31, "flowLabelIPv6"),
+    (32, "icmpTypeCodeIPv4"),
+    (44, "sourceIPv4Prefix"),
+    (45, "destinationIPv4Prefix"),
+    (56, "sourceMacAddress"),
+    (58, "vlanId"),
+    (60, "ipVersion"),
+    (61, "flowDirection"),
+    (62, "ipNextHopIPv6Address"),
+    (80, "destinationMacAddress"),
+    (82, "interfaceName"),
+    (83, "interfaceDescription"),
+    (85, "octetTotalCount"),
+    (86, "packetTotalCount"),
+    (89, "forwardingStatus"),
+    (95, "applicationId"),
+    (96, "applicationName"),
+    (130, "exporterIPv4Address"),
+    (131, "exporterIPv6Address"),
+    (136, "flowEndReason"),
+    (138, "observationPointId"),
+    (139, "icmpTypeCodeIPv6"),
+    (143, "meteringProcessId"),
+    (144, "exportingProcessId"),
+    (145, "templateId"),
+    (148, "flowId"),
+    (149, "observationDomainId"),
+    (150, "flowStartSeconds"),
+    (151, "flowEndSeconds"),
+    (152, "flowStartMilliseconds"),
+    (153, "flowEndMilliseconds"),
+    (160, "systemInitTimeMilliseconds"),
+    (169, "destinationIPv6Prefix"),
+    (170, "sourceIPv6Prefix"),
+    (210, "paddingOctets"),
+];
+
+/// The name of an element of the IANA registry that exporters send, or an empty text.
 pub(crate) fn element_name(number: u16) -> &'static str {
-    match number {
-        1 => "octetDeltaCount",
-        2 => "packetDeltaCount",
-        3 => "deltaFlowCount",
-        4 => "protocolIdentifier",
-        5 => "ipClassOfService",
-        6 => "tcpControlBits",
-        7 => "sourceTransportPort",
-        8 => "sourceIPv4Address",
-        9 => "sourceIPv4PrefixLength",
-        10 => "ingressInterface",
-        11 => "destinationTransportPort",
-        12 => "destinationIPv4Address",
-        13 => "destinationIPv4PrefixLength",
-        14 => "egressInterface",
-        15 => "ipNextHopIPv4Address",
-        16 => "bgpSourceAsNumber",
-        17 => "bgpDestinationAsNumber",
-        21 => "flowEndSysUpTime",
-        22 => "flowStartSysUpTime",
-        23 => "postOctetDeltaCount",
-        24 => "postPacketDeltaCount",
-        _ => later_element_name(number),
+    for (known, name) in &ELEMENTS {
+        if *known == number {
+            return name;
+        }
     }
-}
-
-/// The same for the elements from 25 on.
-fn later_element_name(number: u16) -> &'static str {
-    match number {
-        27 => "sourceIPv6Address",
-        28 => "destinationIPv6Address",
-        29 => "sourceIPv6PrefixLength",
-        30 => "destinationIPv6PrefixLength",
-        31 => "flowLabelIPv6",
-        32 => "icmpTypeCodeIPv4",
-        44 => "sourceIPv4Prefix",
-        45 => "destinationIPv4Prefix",
-        56 => "sourceMacAddress",
-        58 => "vlanId",
-        60 => "ipVersion",
-        61 => "flowDirection",
-        62 => "ipNextHopIPv6Address",
-        80 => "destinationMacAddress",
-        82 => "interfaceName",
-        83 => "interfaceDescription",
-        85 => "octetTotalCount",
-        86 => "packetTotalCount",
-        89 => "forwardingStatus",
-        95 => "applicationId",
-        96 => "applicationName",
-        _ => last_element_name(number),
-    }
-}
-
-/// The same for the elements from 97 on.
-fn last_element_name(number: u16) -> &'static str {
-    match number {
-        130 => "exporterIPv4Address",
-        131 => "exporterIPv6Address",
-        136 => "flowEndReason",
-        138 => "observationPointId",
-        139 => "icmpTypeCodeIPv6",
-        143 => "meteringProcessId",
-        144 => "exportingProcessId",
-        145 => "templateId",
-        148 => "flowId",
-        149 => "observationDomainId",
-        150 => "flowStartSeconds",
-        151 => "flowEndSeconds",
-        152 => "flowStartMilliseconds",
-        153 => "flowEndMilliseconds",
-        160 => "systemInitTimeMilliseconds",
-        169 => "destinationIPv6Prefix",
-        170 => "sourceIPv6Prefix",
-        210 => "paddingOctets",
-        _ => "",
-    }
+    ""
 }
 
 /// Tells a field's element: its name, where it is known, and its number and enterprise.

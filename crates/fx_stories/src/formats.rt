@@ -24,6 +24,71 @@ pub(crate) fn is_pcapng(octets: &[u8]) -> bool {
     octets.starts_with(b"\x0a\x0d\x0d\x0a")
 }
 
+/// Octets with which a file begins, and what to say of it.
+#[derive(Clone, Copy)]
+struct Format {
+    begins: &'static [u8],
+    words: &'static str,
+}
+
+/// Messages of other protocols of flows, and what is made of them.
+const FLOWS: &[Format] = &[
+    Format {
+        begins: b"\x00\x05",
+        words: "This is version 5: a datagram of NetFlow 5 in place of IPFIX. Have the exporter send IPFIX (version 10).",
+    },
+    Format {
+        begins: b"\x00\x09",
+        words: "This is version 9: a datagram of NetFlow 9 in place of IPFIX. Have the exporter send IPFIX (version 10).",
+    },
+    Format {
+        begins: b"\x00\x00\x00\x05",
+        words: "These octets begin a datagram of sFlow 5 in place of IPFIX. Have the exporter send IPFIX (version 10).",
+    },
+    Format {
+        begins: b"\x0c\xa5",
+        words: NFDUMP,
+    },
+    Format {
+        begins: b"\xa5\x0c",
+        words: NFDUMP,
+    },
+];
+
+/// What to say of a file of nfdump, whichever octet its numbers have first.
+const NFDUMP: &str =
+    "These octets begin a file of nfdump, which nfcapd wrote, and not what the exporter sent. Capture that: docs/GUIDE.md tells how to take the messages out.";
+
+/// Compressed files.
+const PACKED: &[Format] = &[
+    Format {
+        begins: b"\x1f\x8b",
+        words: "These octets begin a file of gzip. Unpack it first.",
+    },
+    Format {
+        begins: b"\xfd7zXZ\x00",
+        words: "These octets begin a file of xz. Unpack it first.",
+    },
+    Format {
+        begins: b"\x28\xb5\x2f\xfd",
+        words: "These octets begin a file of zstd. Unpack it first.",
+    },
+    Format {
+        begins: b"BZh",
+        words: "These octets begin a file of bzip2. Unpack it first.",
+    },
+];
+
+/// What to say of octets that begin as the first of these formats that they begin as.
+fn words_of(formats: &[Format], octets: &[u8]) -> Option<&'static str> {
+    for format in formats {
+        if octets.starts_with(format.begins) {
+            return Some(format.words);
+        }
+    }
+    None
+}
+
 /// What octets are that begin a capture.
 fn capture_format(octets: &[u8]) -> Option<&'static str> {
     if is_pcap(octets) {
@@ -41,36 +106,12 @@ fn capture_format(octets: &[u8]) -> Option<&'static str> {
 
 /// What octets are that begin a message of another protocol of flows.
 pub(crate) fn flow_format(octets: &[u8]) -> Option<&'static str> {
-    match octets {
-        [0, 5, ..] => Some(
-            "This is version 5: a datagram of NetFlow 5 in place of IPFIX. Have the exporter send IPFIX (version 10).",
-        ),
-        [0, 9, ..] => Some(
-            "This is version 9: a datagram of NetFlow 9 in place of IPFIX. Have the exporter send IPFIX (version 10).",
-        ),
-        [0, 0, 0, 5, ..] => Some(
-            "These octets begin a datagram of sFlow 5 in place of IPFIX. Have the exporter send IPFIX (version 10).",
-        ),
-        [0x0c, 0xa5, ..] | [0xa5, 0x0c, ..] => Some(
-            "These octets begin a file of nfdump, which nfcapd wrote, and not what the exporter sent. Capture that: docs/GUIDE.md tells how to take the messages out.",
-        ),
-        _ => None,
-    }
+    words_of(FLOWS, octets)
 }
 
 /// What octets are that begin a compressed file.
 pub(crate) fn packed_format(octets: &[u8]) -> Option<&'static str> {
-    match octets {
-        [0x1f, 0x8b, ..] => Some("These octets begin a file of gzip. Unpack it first."),
-        [0xfd, 0x37, 0x7a, 0x58, 0x5a, 0, ..] => {
-            Some("These octets begin a file of xz. Unpack it first.")
-        }
-        [0x28, 0xb5, 0x2f, 0xfd, ..] => {
-            Some("These octets begin a file of zstd. Unpack it first.")
-        }
-        [b'B', b'Z', b'h', ..] => Some("These octets begin a file of bzip2. Unpack it first."),
-        _ => None,
-    }
+    words_of(PACKED, octets)
 }
 
 /// Whether octets begin a text.

@@ -1,4 +1,5 @@
 //! What is wrong with a JSON text at a place at which it can't be read on.
+use crate::places::octet_at;
 use crate::story::Story;
 use std::str;
 
@@ -209,24 +210,45 @@ fn octet_there_words(octet: u8, last: u8) -> Option<&'static str> {
     }
 }
 
+/// Whether octets begin with what is no number in JSON.
+fn begins_no_number(octets: &[u8]) -> bool {
+    octets.starts_with(b"NaN") || octets.starts_with(b"Inf") || octets.starts_with(b"-Inf")
+}
+
+/// Whether octets begin with a curly quotation mark, in UTF-8 or in the encoding of Windows.
+fn begins_curly(first: u8, second: u8, third: u8) -> bool {
+    (first == 0xe2 && second == 0x80 && (0x98..=0x9f).contains(&third))
+        || (0x91..=0x94).contains(&first)
+}
+
+/// Whether these octets are a character of two or three octets in UTF-8.
+fn is_character(first: u8, second: u8, third: u8) -> bool {
+    let continues = (0x80..=0xbf).contains(&second);
+    let is_third = (0x80..=0xbf).contains(&third);
+    continues && ((0xc2..=0xdf).contains(&first) || ((0xe0..=0xf4).contains(&first) && is_third))
+}
+
 /// What octets are that stand outside of strings and are often put there, in words.
 fn foreign_words(octets: &[u8]) -> Option<&'static str> {
-    match octets {
-        [b'N', b'a', b'N', ..] | [b'I', b'n', b'f', ..] | [b'-', b'I', b'n', b'f', ..] => {
-            Some("JSON has no NaN and no Infinity: write a number, or leave the member out")
-        }
-        [0xe2, 0x80, 0x98..=0x9f, ..] | [0x91..=0x94, ..] => Some(
-            "a curly quotation mark stands there; names and texts stand in straight ones",
-        ),
-        [0xc2, 0xa0, ..] | [0xa0, ..] => {
-            Some(
-                "a no-break space stands there; blanks, tabs and line ends alone may stand between values",
-            )
-        }
-        [0xc2..=0xdf, 0x80..=0xbf, ..] | [0xe0..=0xf4, 0x80..=0xbf, 0x80..=0xbf, ..] => Some(
+    let (first, second, third) = (
+        octet_at(octets, 0),
+        octet_at(octets, 1),
+        octet_at(octets, 2),
+    );
+    if begins_no_number(octets) {
+        Some("JSON has no NaN and no Infinity: write a number, or leave the member out")
+    } else if begins_curly(first, second, third) {
+        Some("a curly quotation mark stands there; names and texts stand in straight ones")
+    } else if first == 0xa0 || (first == 0xc2 && second == 0xa0) {
+        Some(
+            "a no-break space stands there; blanks, tabs and line ends alone may stand between values",
+        )
+    } else if is_character(first, second, third) {
+        Some(
             "a character beyond ASCII stands there; such characters stand in strings alone, in quotation marks",
-        ),
-        _ => None,
+        )
+    } else {
+        None
     }
 }
 

@@ -7,52 +7,267 @@ use std::str;
 const LEFT_OUT: &str = "name the document's file in its place";
 
 /// A file that is no document.
-#[derive(Clone, Copy, Drop)]
+#[derive(Clone, Copy)]
 struct OtherFile {
+    /// The octets with which it begins, or the first word of a text.
+    mark: &'static [u8],
     /// What it is, with its article.
     name: &'static str,
     /// Where it belongs, or what is to be done with it.
     next: &'static str,
 }
 
-/// A file that is no document.
-fn other(name: &'static str, next: &'static str) -> Option<OtherFile> {
-    Some(OtherFile { name, next })
-}
+/// Where a schedule belongs, and a capture.
+const WITH_CAPTURE: &str =
+    "the files stand in this order: once run NETWORK TRAFFIC CAPTURE SCHEDULE";
 
-/// Which text of this program's a word begins.
-fn text_of_once(word: &str) -> Option<OtherFile> {
-    match word {
-        "once-certificate" => other(
-            "a certificate",
-            "the files stand in this order: once check (or draw) NETWORK TRAFFIC CERTIFICATE",
-        ),
-        "once-run" => other(
-            "a run",
-            "the files stand in this order: once replay NETWORK TRAFFIC RUN",
-        ),
-        "once-refutation" => other(
-            "a refutation",
-            "the files stand in this order: once confirm (or draw) NETWORK TRAFFIC REFUTATION",
-        ),
-        "keys" => other(
-            "a text of totals",
-            "the files stand in this order: once sum NETWORK TOTALS",
-        ),
-        "next" | "expire" | "emit" | "carry" | "use" => other(
-            "a schedule",
-            "the files stand in this order: once run NETWORK TRAFFIC CAPTURE SCHEDULE",
-        ),
-        "audit" | "check" | "confirm" | "replay" => other(
-            "a bundle",
-            "it is read from standard input: once < BUNDLE",
-        ),
-        "ok" | "no" | "refused" | "unknown" | "memory" | "device" | "refuted" => {
-            other("an answer of once", LEFT_OUT)
-        }
-        _ => None,
-    }
-}
+/// Where a bundle belongs.
+const BUNDLE: &str = "it is read from standard input: once < BUNDLE";
+
+/// What to do with a module.
+const MODULE: &str =
+    "a module says what a configuration may have; due is the configuration itself, in the JSON of RFC 7951";
+
+/// What to do with a text in YAML.
+const YAML: &str = "a document is JSON: turn it to that, as yq -o json does";
+
+/// Texts, by their first words: those of this program, and others.
+const TEXTS: &[OtherFile] = &[
+    OtherFile {
+        mark: b"once-certificate",
+        name: "a certificate",
+        next: "the files stand in this order: once check (or draw) NETWORK TRAFFIC CERTIFICATE",
+    },
+    OtherFile {
+        mark: b"once-run",
+        name: "a run",
+        next: "the files stand in this order: once replay NETWORK TRAFFIC RUN",
+    },
+    OtherFile {
+        mark: b"once-refutation",
+        name: "a refutation",
+        next: "the files stand in this order: once confirm (or draw) NETWORK TRAFFIC REFUTATION",
+    },
+    OtherFile {
+        mark: b"keys",
+        name: "a text of totals",
+        next: "the files stand in this order: once sum NETWORK TOTALS",
+    },
+    OtherFile {
+        mark: b"next",
+        name: "a schedule",
+        next: WITH_CAPTURE,
+    },
+    OtherFile {
+        mark: b"expire",
+        name: "a schedule",
+        next: WITH_CAPTURE,
+    },
+    OtherFile {
+        mark: b"emit",
+        name: "a schedule",
+        next: WITH_CAPTURE,
+    },
+    OtherFile {
+        mark: b"carry",
+        name: "a schedule",
+        next: WITH_CAPTURE,
+    },
+    OtherFile {
+        mark: b"use",
+        name: "a schedule",
+        next: WITH_CAPTURE,
+    },
+    OtherFile {
+        mark: b"audit",
+        name: "a bundle",
+        next: BUNDLE,
+    },
+    OtherFile {
+        mark: b"check",
+        name: "a bundle",
+        next: BUNDLE,
+    },
+    OtherFile {
+        mark: b"confirm",
+        name: "a bundle",
+        next: BUNDLE,
+    },
+    OtherFile {
+        mark: b"replay",
+        name: "a bundle",
+        next: BUNDLE,
+    },
+    OtherFile {
+        mark: b"ok",
+        name: "an answer of once",
+        next: LEFT_OUT,
+    },
+    OtherFile {
+        mark: b"no",
+        name: "an answer of once",
+        next: LEFT_OUT,
+    },
+    OtherFile {
+        mark: b"refused",
+        name: "an answer of once",
+        next: LEFT_OUT,
+    },
+    OtherFile {
+        mark: b"unknown",
+        name: "an answer of once",
+        next: LEFT_OUT,
+    },
+    OtherFile {
+        mark: b"memory",
+        name: "an answer of once",
+        next: LEFT_OUT,
+    },
+    OtherFile {
+        mark: b"device",
+        name: "an answer of once",
+        next: LEFT_OUT,
+    },
+    OtherFile {
+        mark: b"refuted",
+        name: "an answer of once",
+        next: LEFT_OUT,
+    },
+    OtherFile {
+        mark: b"digraph",
+        name: "a drawing for Graphviz",
+        next: LEFT_OUT,
+    },
+    OtherFile {
+        mark: b"module",
+        name: "a module in YANG",
+        next: MODULE,
+    },
+    OtherFile {
+        mark: b"submodule",
+        name: "a module in YANG",
+        next: MODULE,
+    },
+    OtherFile {
+        mark: b"---",
+        name: "a text in YAML",
+        next: YAML,
+    },
+    OtherFile {
+        mark: b"-",
+        name: "a text in YAML",
+        next: YAML,
+    },
+    OtherFile {
+        mark: b"name:",
+        name: "a text in YAML",
+        next: YAML,
+    },
+    OtherFile {
+        mark: b"devices:",
+        name: "a text in YAML",
+        next: YAML,
+    },
+    OtherFile {
+        mark: b"links:",
+        name: "a text in YAML",
+        next: YAML,
+    },
+    OtherFile {
+        mark: b"report:",
+        name: "a text in YAML",
+        next: YAML,
+    },
+    OtherFile {
+        mark: b"classes:",
+        name: "a text in YAML",
+        next: YAML,
+    },
+];
+
+/// Files that are no texts, by the octets with which they begin.
+const FILES: &[OtherFile] = &[
+    OtherFile {
+        mark: b"\x00\x0a",
+        name: "a stream of IPFIX",
+        next: "the files stand in this order: once collect NETWORK STREAM",
+    },
+    OtherFile {
+        mark: b"\x00\x05",
+        name: "a stream of NetFlow",
+        next: LEFT_OUT,
+    },
+    OtherFile {
+        mark: b"\x00\x09",
+        name: "a stream of NetFlow",
+        next: LEFT_OUT,
+    },
+    OtherFile {
+        mark: b"\x0c\xa5",
+        name: "a file of nfdump",
+        next: LEFT_OUT,
+    },
+    OtherFile {
+        mark: b"\xa5\x0c",
+        name: "a file of nfdump",
+        next: LEFT_OUT,
+    },
+    OtherFile {
+        mark: b"PK\x03\x04",
+        name: "a zip archive",
+        next: "unpack it, and name the document that stands in it",
+    },
+    OtherFile {
+        mark: b"\x7fELF",
+        name: "a program (ELF)",
+        next: LEFT_OUT,
+    },
+    OtherFile {
+        mark: b"%PDF",
+        name: "a file of PDF",
+        next: LEFT_OUT,
+    },
+    OtherFile {
+        mark: b"\x89PNG",
+        name: "a picture (PNG)",
+        next: LEFT_OUT,
+    },
+];
+
+/// A capture.
+const CAPTURE: OtherFile = OtherFile {
+    mark: b"",
+    name: "a capture",
+    next: WITH_CAPTURE,
+};
+
+/// A table of a network.
+const TABLE: OtherFile = OtherFile {
+    mark: b"",
+    name: "a table of a network",
+    next: "examples/tools/network_from_table.py makes a network document and a traffic declaration of it",
+};
+
+/// A page in HTML.
+const PAGE: OtherFile = OtherFile {
+    mark: b"",
+    name: "a page in HTML",
+    next: "was an error page saved in the document's place? Look at it, and fetch the document once more",
+};
+
+/// A script.
+const SCRIPT: OtherFile = OtherFile {
+    mark: b"",
+    name: "a script",
+    next: LEFT_OUT,
+};
+
+/// A text in XML.
+const XML: OtherFile = OtherFile {
+    mark: b"",
+    name: "a text in XML",
+    next: "a document is JSON: turn a configuration to that by the rules of RFC 7951, as yanglint -f json does",
+};
 
 /// Whether a word begins a page in HTML.
 fn is_page(word: &str) -> bool {
@@ -63,28 +278,21 @@ fn is_page(word: &str) -> bool {
         || word.starts_with("<head")
 }
 
-/// Which other text a word begins.
+/// Which text a word begins.
 fn text_of(word: &str) -> Option<OtherFile> {
-    match word {
-        "digraph" => other("a drawing for Graphviz", LEFT_OUT),
-        "module" | "submodule" => other(
-            "a module in YANG",
-            "a module says what a configuration may have; due is the configuration itself, in the JSON of RFC 7951",
-        ),
-        "---" | "-" | "name:" | "devices:" | "links:" | "report:" | "classes:" => other(
-            "a text in YAML",
-            "a document is JSON: turn it to that, as yq -o json does",
-        ),
-        _ if is_page(word) => other(
-            "a page in HTML",
-            "was an error page saved in the document's place? Look at it, and fetch the document once more",
-        ),
-        _ if word.starts_with("#!") => other("a script", LEFT_OUT),
-        _ if word.starts_with('<') => other(
-            "a text in XML",
-            "a document is JSON: turn a configuration to that by the rules of RFC 7951, as yanglint -f json does",
-        ),
-        _ => text_of_once(word),
+    for text in TEXTS {
+        if text.mark == word.as_bytes() {
+            return Some(*text);
+        }
+    }
+    if is_page(word) {
+        Some(PAGE)
+    } else if word.starts_with("#!") {
+        Some(SCRIPT)
+    } else if word.starts_with('<') {
+        Some(XML)
+    } else {
+        None
     }
 }
 
@@ -104,48 +312,42 @@ fn first_word(octets: &[u8]) -> &str {
     }
 }
 
-/// Which file these octets begin that is no text.
+/// Which file these octets begin that is known by them alone.
 fn file_of(octets: &[u8]) -> Option<OtherFile> {
-    match octets {
-        _ if is_pcap(octets) || is_pcapng(octets) => other(
-            "a capture",
-            "the files stand in this order: once run NETWORK TRAFFIC CAPTURE SCHEDULE",
-        ),
-        [0, 10, ..] => other(
-            "a stream of IPFIX",
-            "the files stand in this order: once collect NETWORK STREAM",
-        ),
-        [0, 5 | 9, ..] => other("a stream of NetFlow", LEFT_OUT),
-        [0x0c, 0xa5, ..] | [0xa5, 0x0c, ..] => other("a file of nfdump", LEFT_OUT),
-        [b'P', b'K', 3, 4, ..] => other(
-            "a zip archive",
-            "unpack it, and name the document that stands in it",
-        ),
-        [0x7f, b'E', b'L', b'F', ..] => other("a program (ELF)", LEFT_OUT),
-        [b'%', b'P', b'D', b'F', ..] => other("a file of PDF", LEFT_OUT),
-        [0x89, b'P', b'N', b'G', ..] => other("a picture (PNG)", LEFT_OUT),
-        [b'#' | b'd', ..] if is_table(octets) => other(
-            "a table of a network",
-            "examples/tools/network_from_table.py makes a network document and a traffic declaration of it",
-        ),
-        _ => None,
+    for file in FILES {
+        if octets.starts_with(file.mark) {
+            return Some(*file);
+        }
+    }
+    if is_pcap(octets) || is_pcapng(octets) {
+        Some(CAPTURE)
+    } else if (octets.starts_with(b"#") || octets.starts_with(b"d")) && is_table(octets) {
+        Some(TABLE)
+    } else {
+        None
+    }
+}
+
+/// What a line is that begins a file of another kind, in words, by its octets.
+fn words_of_file(line: &[u8]) -> Option<&'static str> {
+    if line.starts_with(b"\xff\xfe") || line.starts_with(b"\xfe\xff") {
+        Some(
+            "these octets are a text in UTF-16: write it in UTF-8 (iconv -f UTF-16 -t UTF-8 OLD > NEW)",
+        )
+    } else if is_pcap(line) {
+        Some("these octets begin a capture, which once run takes in front of the schedule")
+    } else if line.starts_with(b"\x00\x0a") {
+        Some("these octets begin a stream of IPFIX, which once collect takes")
+    } else if line.starts_with(b"PK\x03\x04") {
+        Some("these octets begin a zip archive: unpack it first")
+    } else {
+        packed_format(line)
     }
 }
 
 /// What a line is that begins a file of another kind, in words; none of a line that may be one of a text.
 pub(crate) fn foreign_words(line: &[u8]) -> Option<&'static str> {
-    let words = match line {
-        [0xff, 0xfe, ..] | [0xfe, 0xff, ..] => Some(
-            "these octets are a text in UTF-16: write it in UTF-8 (iconv -f UTF-16 -t UTF-8 OLD > NEW)",
-        ),
-        _ if is_pcap(line) => Some(
-            "these octets begin a capture, which once run takes in front of the schedule",
-        ),
-        [0, 10, ..] => Some("these octets begin a stream of IPFIX, which once collect takes"),
-        [b'P', b'K', 3, 4, ..] => Some("these octets begin a zip archive: unpack it first"),
-        _ => packed_format(line),
-    };
-    words.or(if line.contains(&0) {
+    words_of_file(line).or(if line.contains(&0) {
         Some("octets of zero stand in it: it is no text in UTF-8")
     } else {
         None

@@ -16,7 +16,7 @@ pub(crate) fn tell_digits(story: &mut Story, octets: &[u8]) {
 }
 
 /// The octet at a place; 0 where there is none.
-fn octet_at(octets: &[u8], place: usize) -> u8 {
+pub(crate) fn octet_at(octets: &[u8], place: usize) -> u8 {
     octets.get(place).copied().unwrap_or(0)
 }
 
