@@ -5,8 +5,9 @@ usage: prove_program.py [NAME..]
 
 Run at the top of the repository. Each NAME is a crate as crates.txt has it, which is proved with all that it stands on;
 the program where none is given. A crate is proved once all libraries that it names are, side by side as many as there are
-processors and memory, first those with the longest chain of others behind them, and of these the first with the processors
-that the others leave. RT_JOBS=N in the environment sets how many are proved at a time, with one processor each.
+processors and memory, first those with the longest chain of others behind them. The crate with the longest chain gets four
+processes, one with nearly as long a chain two, and others those that are left. RT_JOBS=N in the environment sets how many are
+proved at a time, with one process each.
 
 What is proved lies in the crate's out/program, with what was said of it in the file `said`: its library, or of the program
 `once`. A library keeps the statements that crates above may cite and leaves the proofs out, so that it is read quickly. A
@@ -25,12 +26,19 @@ from wrong_bodies import load_rt
 
 PROGRAM = "once"
 
-# How much of the memory that the kit foresees is kept free for a proof: the largest crate took 6 GB of 17.5.
-SHARE_OF_MEMORY = 0.5
+# How much of the memory that the kit foresees is kept free for a proof: the largest crate took 6 GB with four processes, where
+# 17.5 were foreseen for one, and a crate that 13 were foreseen for 2.5 with one.
+SHARE_OF_MEMORY = 0.2
 
 # How many processes may prove one crate, and how many more than there are processors may run: a proof's processes wait for
 # one another, so that four of them keep three processors busy.
 MOST_JOBS, MORE_JOBS = 4, 2
+
+# The share of the longest chain from which on a crate's chain counts as nearly as long.
+NEARLY_LONGEST = 0.8
+
+# How many lines of code cost as much as what every proof of a crate begins and ends with.
+LINES_OF_A_CRATE = 300
 
 
 def made_by(crate):
@@ -88,10 +96,20 @@ def chains(tasks):
     return behind
 
 
-def jobs_of(idle, others, room, needs):
-    """How many processes prove a crate: those that so many others which are ready leave, as far as the memory goes."""
+def work_of(rt, crate):
+    """How long a proof of the crate takes beside those of others, in lines of code; a line of a proof file or of a definition
+    takes a tenth of one of code."""
+    files = [*rt.rtlib.files_of(crate.folder)]
+    code, others = (sum(rt.rtlib.text_of(it).count("\n") for it in files if it.endswith(end)) for end in (".rt", ".antt"))
+    return LINES_OF_A_CRATE + code + others / 10
+
+
+def jobs_of(share, idle, others, room, needs):
+    """How many processes prove a crate whose chain is this share of the longest, as far as the memory goes, where so many
+    are idle and so many other crates are ready."""
+    wanted = idle if share == 1 else 2 if share > NEARLY_LONGEST else idle - others
     fitting = 1 + int((room / needs - 1) / 0.6)
-    return max(1, min(MOST_JOBS, idle - others, fitting))
+    return max(1, min(MOST_JOBS, idle, wanted, fitting))
 
 
 def side_by_side(tasks, processors, memory):
@@ -105,12 +123,14 @@ def side_by_side(tasks, processors, memory):
     with ThreadPoolExecutor(lanes) as pool:
         while left or running:
             ready = [name for name in left if all(below in given for below in tasks[name][0])]
+            longest = max(behind[name] for name in [*left, *(name for name, _, _ in running.values())])
             for at, name in enumerate(ready):
                 needs, call = tasks[name][2:]
                 idle = lanes - sum(jobs for _, _, jobs in running.values())
                 room = memory - sum(held for _, held, _ in running.values())
                 if idle > 0 and (fixed or not running or needs <= room):
-                    jobs = 1 if fixed else jobs_of(idle, len(ready) - at - 1, room, needs)
+                    others = len(ready) - at - 1
+                    jobs = 1 if fixed else jobs_of(behind[name] / longest, idle, others, room, needs)
                     left.remove(name)
                     running[pool.submit(call, given, jobs)] = name, needs * (1 + 0.6 * (jobs - 1)), jobs
             for done in wait(running, return_when=FIRST_COMPLETED).done:
@@ -135,7 +155,7 @@ def main(names):
         if crate.name in wanted:
             work = lambda given, jobs, crate=crate: prove(rt, crate, given, jobs)
             waits = [it.name for it in crate.below()]
-            tasks[crate.name] = waits, crate.count(rb"\n"), SHARE_OF_MEMORY * rt.need(crate), work
+            tasks[crate.name] = waits, work_of(rt, crate), SHARE_OF_MEMORY * rt.need(crate), work
     return 0 if all(side_by_side(tasks, rt.processors(), 0.85 * rt.free()).values()) else 1
 
 
