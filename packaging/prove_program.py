@@ -26,9 +26,10 @@ from wrong_bodies import load_rt
 
 PROGRAM = "once"
 
-# How much of the memory that the kit foresees is kept free for a proof: the largest crate took 6 GB with four processes, where
-# 17.5 were foreseen for one, and a crate that 13 were foreseen for 2.5 with one.
-SHARE_OF_MEMORY = 0.2
+# How much of the memory that the kit foresees is kept free for a proof by one process, and how much of that for each further
+# process, which shares most of its memory with the first: of 17.8, 7.6 and 5.2 GB that were foreseen the first took 5.9, 3.3
+# and 2.9.
+SHARE_OF_MEMORY, MORE_MEMORY = 0.5, 0.15
 
 # How many processes may prove one crate, and how many more than there are processors may run: a proof's processes wait for
 # one another, so that four of them keep three processors busy.
@@ -108,7 +109,7 @@ def jobs_of(share, idle, others, room, needs):
     """How many processes prove a crate whose chain is this share of the longest, as far as the memory goes, where so many
     are idle and so many other crates are ready."""
     wanted = idle if share == 1 else 2 if share > NEARLY_LONGEST else idle - others
-    fitting = 1 + int((room / needs - 1) / 0.6)
+    fitting = 1 + int((room / needs - 1) / MORE_MEMORY)
     return max(1, min(MOST_JOBS, idle, wanted, fitting))
 
 
@@ -132,7 +133,7 @@ def side_by_side(tasks, processors, memory):
                     others = len(ready) - at - 1
                     jobs = 1 if fixed else jobs_of(behind[name] / longest, idle, others, room, needs)
                     left.remove(name)
-                    running[pool.submit(call, given, jobs)] = name, needs * (1 + 0.6 * (jobs - 1)), jobs
+                    running[pool.submit(call, given, jobs)] = name, needs * (1 + MORE_MEMORY * (jobs - 1)), jobs
             for done in wait(running, return_when=FIRST_COMPLETED).done:
                 given[running.pop(done)[0]] = done.result()
     return given
