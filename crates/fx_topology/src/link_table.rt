@@ -7,12 +7,12 @@ ghost use Rattle.fx_topology.specs.Starts.{IsStartAt};
 
 use crate::link::NamedLink;
 use fx_base::{Fault, Name};
-use indexmap::IndexSet;
 use std::alloc::{AllocError, Global};
+use std::collections::BTreeMap;
 use std::marker::Model;
 
 /// What a link leads from: a destination, by the names of its device, of its exporting process and its own.
-#[derive(Debug, Drop, PartialEq, Eq, Hash)]
+#[derive(Debug, Drop, PartialEq, Eq, PartialOrd, Ord)]
 struct Start {
     device: String,
     exporting_process: String,
@@ -43,20 +43,20 @@ impl Start {
 #[derive(Debug, Drop)]
 pub struct LinkTable {
     links: Vec<NamedLink>,
-    starts: IndexSet<Start>,
+    places: BTreeMap<Start, usize>,
     alloc: Global,
 }
 
 impl Model for LinkTable {
     ghost use Rattle.std.specs.Prelude.{List};
     ghost use Rattle.fx_topology.specs.declared.link.NamedLink as of_link;
-    ghost use Rattle.fx_topology.specs.Starts.{AreStarts};
+    ghost use Rattle.fx_topology.specs.Starts.{ArePlacesOfLinks};
 
     ghost Value = { List of_link.NamedLink };
 
     ghost view = { λ l. l.links.items };
 
-    ghost invariant = { λ l. AreStarts l.starts.keys l.links.items };
+    ghost invariant = { λ l. ArePlacesOfLinks l.places l.links.items };
 }
 
 impl LinkTable {
@@ -66,7 +66,7 @@ impl LinkTable {
     {
         LinkTable {
             links: Vec::new(alloc),
-            starts: IndexSet::new(alloc),
+            places: BTreeMap::new(alloc),
             alloc,
         }
     }
@@ -90,7 +90,7 @@ impl LinkTable {
             ≡ position (leads_from device.now exporting_process.now destination.now) self.now) }
     {
         let start = Start::new(self.alloc, device, exporting_process, destination)?;
-        Ok(self.starts.get_index_of(&start))
+        Ok(self.places.get(&start).copied())
     }
 
     /// Puts the link behind these and answers true, or answers false where one of them leads from the same
@@ -109,10 +109,11 @@ impl LinkTable {
             &link.exporting_process,
             &link.destination,
         )?;
-        self.links.reserve(1)?;
-        if !self.starts.insert(start)? {
+        if self.places.contains_key(&start) {
             return Ok(false);
         }
+        self.links.reserve(1)?;
+        self.places.insert(start, self.links.len())?;
         self.links.push(link)?;
         Ok(true)
     }

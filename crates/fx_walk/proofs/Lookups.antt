@@ -1,36 +1,31 @@
--- Names that stand in a set of texts are those that a list of names has.
-use Rattle.std.proofs.Common.{◌≡◌, ℕ, List, [], ◌∷◌, ◌++◌, map, Bool, true, false, ◌||◌, cond, refl, ap, sym, ◌∙◌, String}
-use Rattle.std.proofs.lemmas.Cmp.{nat_list_eq_equiv}
-use Rattle.std.proofs.lemmas.List.{map-append}
-use Rattle.std.specs.List.{list_any, position}
+-- A map of each name's place finds what a look at the list of names finds, also behind one more name.
+use Rattle.std.proofs.Common.{◌≡◌, ℕ, List, [], ◌∷◌, ◌++◌, length, Bool, true, false, cond, Option, Some, is_some, refl, ap, sym, ◌∙◌, subst, String, BTreeMap}
+use Rattle.std.proofs.lemmas.Slice.Eq.{bytes_eq-Decides}
+use Rattle.std.proofs.lemmas.Map.Text.{btree_map_updates_text}
+use Rattle.std.specs.BTreeMap.{Updates, get_by_text}
+use Rattle.std.specs.Map.{update}
 use Rattle.std.specs.Str.{bytes_eq}
-use Rattle.std.specs.String.{string_bytes, string_eq}
-use Rattle.indexmap.specs.IndexSet.{insert_key}
-use Rattle.fx_walk.specs.Lists.{is_among, place_in}
-use Rattle.fx_walk.proofs.Places.{position-map}
+use Rattle.std.specs.String.{string_bytes, string_cmp}
+use Rattle.fx_walk.specs.Lists.{is_among, place_in, ArePlacesOf}
+use Rattle.fx_walk.proofs.Places.{some-position, position-push_failing, position-push_passing}
+
+-- the name behind others among which it isn't has the place behind theirs, and each other text has the place that it had
+place_behind : (names : List (List ℕ)) (name q : List ℕ) → is_among names name ≡ false → update bytes_eq (place_in names) name (Some (length names)) q ≡ place_in (names ++ name ∷ []) q
+place_behind names name q new = by (bytes_eq name q) refl
+  where
+    by : (b : Bool) → bytes_eq name q ≡ b → cond b (Some (length names)) (place_in names q) ≡ place_in (names ++ name ∷ []) q
+    by true same =
+        let is : name ≡ q = (bytes_eq-Decides name q).0 same in
+        sym (position-push_passing (λ n. bytes_eq n q) names name same (ap (λ t. is_among names t) (sym is) ∙ new))
+    by false other = sym (position-push_failing (λ n. bytes_eq n q) names name other)
 
 module _ {Y : Type 0} where
-  any-map : (p : List ℕ → Bool) (ks : List (String Y)) → list_any p (map string_bytes ks) ≡ list_any (λ k. p (string_bytes k)) ks
-  any-map p [] = refl
-  any-map p (k ∷ ks) = ap (λ (b : Bool). p (string_bytes k) || b) (any-map p ks)
+  pub among_places : (places : BTreeMap (String Y) ℕ) (names : List (List ℕ)) → ArePlacesOf places names → (name : List ℕ) → is_some (get_by_text places name) ≡ is_among names name
+  among_places places names of name = ap is_some (of name) ∙ some-position (λ n. bytes_eq n name) names
 
-  -- where these are the names of the texts
-  pub among_texts : (names : List (List ℕ)) (ks : List (String Y)) → map string_bytes ks ≡ names → (name : List ℕ) → list_any (λ k. bytes_eq name (string_bytes k)) ks ≡ is_among names name
-  among_texts names ks of name =
-      (λ j. list_any (λ k. nat_list_eq_equiv.symm name (string_bytes k) j) ks) ∙ sym (any-map (λ n. bytes_eq n name) ks) ∙ ap (λ ns. is_among ns name) of
-
-  pub place_among_texts : (names : List (List ℕ)) (ks : List (String Y)) → map string_bytes ks ≡ names → (name : List ℕ) → position (λ k. bytes_eq name (string_bytes k)) ks ≡ place_in names name
-  place_among_texts names ks of name =
-      (λ j. position (λ k. nat_list_eq_equiv.symm name (string_bytes k) j) ks) ∙ sym (position-map (λ n. bytes_eq n name) string_bytes ks) ∙ ap (λ ns. place_in ns name) of
-
-  -- an inserted text goes last, unless it is one of them
-  inserted : (ks : List (String Y)) (k : String Y) → map string_bytes (insert_key string_eq ks k) ≡ cond (is_among (map string_bytes ks) (string_bytes k)) (map string_bytes ks) (map string_bytes ks ++ string_bytes k ∷ [])
-  inserted ks k = by (list_any (string_eq k) ks) ∙ ap (λ (b : Bool). cond b (map string_bytes ks) (map string_bytes ks ++ string_bytes k ∷ [])) (among_texts (map string_bytes ks) ks refl (string_bytes k))
-    where
-      by : (b : Bool) → map string_bytes (cond b ks (ks ++ k ∷ [])) ≡ cond b (map string_bytes ks) (map string_bytes ks ++ string_bytes k ∷ [])
-      by true = refl
-      by false = map-append string_bytes ks (k ∷ [])
-
-  pub names_inserted : (names : List (List ℕ)) (ks : List (String Y)) (k : String Y) (name : List ℕ) → map string_bytes ks ≡ names → string_bytes k ≡ name → map string_bytes (insert_key string_eq ks k) ≡ cond (is_among names name) names (names ++ name ∷ [])
-  names_inserted names ks k name of is =
-      inserted ks k ∙ ap (λ ns. cond (is_among ns (string_bytes k)) ns (ns ++ string_bytes k ∷ [])) of ∙ ap (λ n. cond (is_among names n) names (names ++ n ∷ [])) is
+  pub places_behind : (old new : BTreeMap (String Y) ℕ) (names : List (List ℕ)) (name : List ℕ) (key : String Y) (n : ℕ) → ArePlacesOf old names → is_among names name ≡ false → string_bytes key ≡ name → n ≡ length names → Updates string_cmp old new key (Some n) → ArePlacesOf new (names ++ name ∷ [])
+  places_behind old new names name key n of absent is count updates = λ q.
+      subst (λ k. get_by_text new q ≡ update bytes_eq (get_by_text old) k (Some n) q) is (btree_map_updates_text {Y = Y} (string_bytes key) old new (Some n) updates q)
+      ∙ ap (λ (m : ℕ). update bytes_eq (get_by_text old) name (Some m) q) count
+      ∙ ap (λ (o : Option ℕ). cond (bytes_eq name q) (Some (length names)) o) (of q)
+      ∙ place_behind names name q absent

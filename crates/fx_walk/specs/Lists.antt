@@ -1,6 +1,7 @@
 -- Lists in documents.
-use Rattle.std.specs.Prelude.{◌≡◌, ℕ, ◌+◌, List, [], ◌∷◌, ◌++◌, Bool, nat_lt, if◌then◌else◌, length, map, Option, Some, None, Result, Ok, Err}
+use Rattle.std.specs.Prelude.{◌≡◌, ℕ, ◌+◌, List, [], ◌∷◌, ◌++◌, Bool, nat_lt, if◌then◌else◌, length, map, Option, Some, None, Result, Ok, Err, String}
 use Rattle.std.specs.List.{list_any, position}
+use Rattle.std.specs.BTreeMap.{BTreeMap, get_by_text}
 use Rattle.std.specs.Option.{unwrap_or}
 use Rattle.std.specs.Str.{bytes_eq}
 use Rattle.std.specs.Borrow.{Bor}
@@ -71,6 +72,10 @@ is_among names name = list_any (λ n. bytes_eq n name) names
 -- the place of a name among others, from 0
 abbrev pub place_in : List (List ℕ) → List ℕ → Option ℕ
 place_in names name = position (λ n. bytes_eq n name) names
+
+-- the map has each name's place, and no other text
+abbrev pub ArePlacesOf : {Y : Type 0} → BTreeMap (String Y) ℕ → List (List ℕ) → Type 0
+ArePlacesOf places names = (q : List ℕ) → get_by_text places q ≡ place_in names q
 
 -- a name that differs from earlier ones; these numbers stand for a text that is no name, and for one of those
 abbrev pub name_once_by : ℕ → ℕ → List (List ℕ) → List ℕ → Data → List FoundFault

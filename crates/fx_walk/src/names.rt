@@ -4,23 +4,28 @@ ghost use Rattle.fx_base.specs.Fault.{IsMemory};
 ghost use Rattle.fx_walk.specs.Lists.{is_among, place_in};
 
 use fx_base::{Fault, Name};
-use indexmap::IndexSet;
 use std::alloc::Global;
+use std::collections::BTreeMap;
 use std::marker::Model;
 
 /// Names that differ from one another, in the order in which they came. Contracts see the list of them.
 #[derive(Drop)]
 pub struct Names {
-    texts: IndexSet<String>,
+    // What contracts see; names are looked up in the map alone.
+    texts: Vec<String>,
+    places: BTreeMap<String, usize>,
     alloc: Global,
 }
 
 impl Model for Names {
     ghost use Rattle.std.specs.Prelude.{List, ℕ, map, string_bytes};
+    ghost use Rattle.fx_walk.specs.Lists.{ArePlacesOf};
 
     ghost Value = { List (List ℕ) };
 
-    ghost view = { λ n. map string_bytes n.texts.keys };
+    ghost view = { λ n. map string_bytes n.texts.items };
+
+    ghost invariant = { λ n. ArePlacesOf n.places (map string_bytes n.texts.items) };
 }
 
 impl Names {
@@ -29,7 +34,8 @@ impl Names {
         ensures { result ≡ [] }
     {
         Names {
-            texts: IndexSet::new(alloc),
+            texts: Vec::new(alloc),
+            places: BTreeMap::new(alloc),
             alloc,
         }
     }
@@ -38,14 +44,14 @@ impl Names {
     pub fn contains(&self, name: &Name) -> bool
         ensures { result ≡ is_among self.now name.now }
     {
-        self.texts.contains(name.as_str())
+        self.places.contains_key(name.as_str())
     }
 
     /// The place of the name among these, from 0.
     pub fn place_of(&self, name: &Name) -> Option<usize>
         ensures { result ≡ place_in self.now name.now }
     {
-        self.texts.get_index_of(name.as_str())
+        self.places.get(name.as_str()).copied()
     }
 
     /// Puts the name behind these and answers true, or answers false where it is one of them.
@@ -58,7 +64,14 @@ impl Names {
             ≡ (if is_among self.old name.now then self.old else self.old ++ name.now ∷ [])) }
         ensures same { OnErr result (self.new ≡ self.old) }
     {
+        if self.contains(name) {
+            return Ok(false);
+        }
         let text = String::from_str(self.alloc, name.as_str())?;
-        Ok(self.texts.insert(text)?)
+        let key = String::from_str(self.alloc, name.as_str())?;
+        self.texts.reserve(1)?;
+        self.places.insert(key, self.texts.len())?;
+        self.texts.push(text)?;
+        Ok(true)
     }
 }
