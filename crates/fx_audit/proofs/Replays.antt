@@ -1,14 +1,12 @@
 -- A run whose steps are made as they are read.
 use Rattle.std.proofs.Common.{◌≡◌, List, [], ◌∷◌, ◌++◌, Option, Some, None, Ok, Err, IfSome, ◌<◌, length, ◌⊎◌, inl, inr, refl, ap, ◌∙◌}
-use Rattle.std.specs.Prelude.{All}
 use Rattle.fx_base.specs.declared.fault.Fault.{Fault}
 use Rattle.fx_base.specs.declared.fault.Place.TheVariants as places
-use Rattle.fx_base.specs.Entries.{entry_numbered}
 use Rattle.fx_base.specs.Fault.{fault_at}
 use Rattle.fx_base.specs.Lines.{Lines, Fails, GoesOnToLines}
 use Rattle.fx_layout.specs.Keys.{IsLayout}
 use Rattle.fx_tables.specs.Network.{Net}
-use Rattle.fx_tables.specs.Classes.{Class, IsOf}
+use Rattle.fx_tables.specs.Classes.{Class}
 use Rattle.fx_tables.specs.declared.packet.Packet.{Packet}
 use Rattle.fx_run_text.specs.declared.step.Step.{Step}
 use Rattle.fx_run_text.specs.declared.text_version.TextVersion.{TextVersion}
@@ -119,13 +117,6 @@ comes_to net classes first version packets lines told (steps, read, (last, is, t
 pub cannot : (net : Net) (classes : List Class) (first : Lines) (version : TextVersion) (packets : List Packet) (lines : Lines) (told : State) (e : Fault) (F : Fault → Type 0) → IsUnderWay net classes first version packets lines None told (Some e) → (e ≡ fault_at 900 places.None) ⊎ (F e ⊎ CannotReplay net classes first e)
 cannot net classes first version packets lines told e F (steps, read, inl memory) = inl memory
 cannot net classes first version packets lines told e F (steps, read, inr refused) = inr (inr (inr (record { packets = packets; steps = steps }, read, inr refused)))
-
--- its packets are of their classes, so an opening fails for want of memory alone
-pub opening_fails : (classes : List Class) (packets : List Packet) (e : Fault) → All (λ packet. IsOf packet (entry_numbered classes packet.class)) packets
-    → ((e ≡ fault_at 856 places.None) × (All (λ packet. IsOf packet (entry_numbered classes packet.class)) packets → ⊥)) ⊎ ((e ≡ fault_at 900 places.None) × All (λ packet. IsOf packet (entry_numbered classes packet.class)) packets)
-    → e ≡ fault_at 900 places.None
-opening_fails classes packets e all (inl h) = absurd (h.1 all)
-opening_fails classes packets e all (inr h) = h.0
 
 -- ---- what its last state tells
 

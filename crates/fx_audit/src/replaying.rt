@@ -66,7 +66,7 @@ fn last_state<'a, R: Source>(
         packets,
         first,
     } = read_packets(alloc, classes, lines)?;
-    let mut state = State::open(alloc, net, classes, packets)?;
+    let mut state = State::open_classed(alloc, net, classes, packets)?;
     let mut next = first;
     let mut refused = None;
     'steps: loop {

@@ -9,8 +9,8 @@ use std::marker::Model;
 /// The fields whose value on each axis is from a low to a high.
 #[derive(Clone, Copy, Debug, PartialEq, Eq)]
 pub struct Region {
-    low: [u128; AXES],
-    high: [u128; AXES],
+    low: Fields,
+    high: Fields,
 }
 
 impl Model for Region {
@@ -31,8 +31,8 @@ impl Region {
         ensures { (f : List ℕ) → IsFields f → Holds result f }
     {
         Region {
-            low: [0; AXES],
-            high: TOPS,
+            low: Fields::of([0; AXES]),
+            high: Fields::of(TOPS),
         }
     }
 
@@ -51,8 +51,8 @@ impl Region {
             }
         }
         Some(Region {
-            low: least,
-            high: greatest,
+            low: *low,
+            high: *high,
         })
     }
 
@@ -68,7 +68,8 @@ impl Region {
         ensures { IsTrue result ↔ Holds self.now fields.now }
     {
         for k in 0..AXES {
-            if fields.value_at(k) < self.low[k] || self.high[k] < fields.value_at(k) {
+            let value = fields.value_at(k);
+            if value < self.low.value_at(k) || self.high.value_at(k) < value {
                 return false;
             }
         }
@@ -88,6 +89,9 @@ impl Region {
         if !self.can_split(axis, at) {
             return None;
         }
+        // For the prover alone: there is a low and a high on each axis.
+        let _low = self.low.array();
+        let _high = self.high.array();
         let mut below = *self;
         let above = below.split_off(axis, at);
         Some((below, above))
@@ -98,7 +102,7 @@ impl Region {
         ensures { IsTrue result ↔ IsStrictlyInside self.now (axis_index axis) at }
     {
         let k = axis.index();
-        self.low[k] < at && at <= self.high[k]
+        self.low.value_at(k) < at && at <= self.high.value_at(k)
     }
 
     /// Keeps the fields whose value on the axis is below `at`, and answers those whose value is `at` or more.
@@ -109,8 +113,8 @@ impl Region {
     {
         let k = axis.index();
         let mut above = *self;
-        above.low[k] = at;
-        self.high[k] = at - 1;
+        above.low.set_at(k, at);
+        self.high.set_at(k, at - 1);
         above
     }
 
@@ -119,7 +123,9 @@ impl Region {
         ensures { IsTrue result ↔ IsInside self.now other.now }
     {
         for k in 0..AXES {
-            if self.low[k] < other.low[k] || other.high[k] < self.high[k] {
+            if self.low.value_at(k) < other.low.value_at(k)
+                || other.high.value_at(k) < self.high.value_at(k)
+            {
                 return false;
             }
         }
@@ -131,7 +137,9 @@ impl Region {
         ensures { IsTrue result ↔ IsDisjoint self.now other.now }
     {
         for k in 0..AXES {
-            if self.high[k] < other.low[k] || other.high[k] < self.low[k] {
+            if self.high.value_at(k) < other.low.value_at(k)
+                || other.high.value_at(k) < self.low.value_at(k)
+            {
                 return true;
             }
         }
@@ -144,16 +152,19 @@ impl Region {
         ensures both { IfSome result (λ both. (f : List ℕ)
             → Holds both f ↔ (Holds self.now f × Holds other.now f)) }
     {
-        let mut low = self.low;
-        let mut high = self.high;
+        let mut low = self.low.array();
+        let mut high = self.high.array();
         for k in 0..AXES {
-            low[k] = low[k].max(other.low[k]);
-            high[k] = high[k].min(other.high[k]);
+            low[k] = low[k].max(other.low.value_at(k));
+            high[k] = high[k].min(other.high.value_at(k));
             if high[k] < low[k] {
                 return None;
             }
         }
-        Some(Region { low, high })
+        Some(Region {
+            low: Fields::of(low),
+            high: Fields::of(high),
+        })
     }
 
     /// The least fields of the region.
@@ -161,7 +172,7 @@ impl Region {
         ensures least { result ≡ self.now.low }
         ensures held { Holds self.now result }
     {
-        Fields::of(self.low)
+        self.low
     }
 
     /// The greatest fields of the region.
@@ -170,6 +181,6 @@ impl Region {
         ensures held { Holds self.now result }
         ensures region { IsRegion self.now }
     {
-        Fields::of(self.high)
+        self.high
     }
 }

@@ -102,10 +102,11 @@ fn read_values(into: &mut ArrayVec<u128, AXES>, layout: &Layout, fields: &Fields
     ensures value { into.new.items ≡ (keys.key_of layout.now fields.now).values }
     ensures bits { keys.HasBits layout.now into.new.items }
 {
+    // For the prover alone: each value stands within its axis.
+    let _first = fields.value_at(0);
     into.clear();
-    let numbers = fields.values();
     for part in layout.parts() {
-        into.push(leading_bits(width(part.axis), part.bits, numbers[part.axis.index()]));
+        into.push(leading_bits(width(part.axis), part.bits, fields.get(part.axis)));
     }
 }
 

@@ -4,5 +4,5 @@ use Rattle.fx_machine.specs.declared.coming.MarkList.{MarkList}
 use Rattle.fx_machine.specs.declared.coming.MarkList.TheVariants.{Few, Many}
 
 abbrev pub marks_in : MarkList → List Bool
-marks_in (Few few) = few.items
-marks_in (Many many) = many.items
+marks_in (Few few) = few
+marks_in (Many many) = many.value.items

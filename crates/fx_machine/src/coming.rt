@@ -3,19 +3,35 @@ ghost use Rattle.std.specs.Prelude.{◌≡◌, ◌≤◌, IfOk, Some, true, fals
 ghost use Rattle.fx_machine.specs.Comings as comings;
 ghost use Rattle.fx_machine.specs.States as states;
 
-use arrayvec::ArrayVec;
 use fx_base::entry_numbered;
 use std::alloc::{AllocError, Global};
 use std::marker::Model;
 
-/// How many marks stand in a list itself.
-const FEW: usize = 8;
+/// How many marks stand in a list itself: with these it takes no more room than with one.
+const FEW: usize = 14;
+
+/// A few marks.
+#[derive(Debug, Drop)]
+struct FewMarks {
+    marks: [bool; FEW],
+    count: u8,
+}
+
+impl Model for FewMarks {
+    ghost use Rattle.std.specs.Prelude.{◌≤◌, Bool, List, take};
+
+    ghost Value = { List Bool };
+
+    ghost view = { λ f. take f.count f.marks };
+
+    ghost invariant = { λ f. f.count ≤ 14 };
+}
 
 /// A list of marks, which has memory of its own only for more than a few.
 #[derive(Debug, Drop)]
 enum MarkList {
-    Few(ArrayVec<bool, FEW>),
-    Many(Vec<bool>),
+    Few(FewMarks),
+    Many(Box<Vec<bool>>),
 }
 
 /// Which crossings of a packet are to come, in the order of its path.
@@ -33,27 +49,46 @@ impl Model for Marks {
     ghost view = { λ m. lists.marks_in m.list };
 }
 
-/// So few crossings, all to come.
-fn few_marks(count: usize) -> ArrayVec<bool, FEW>
-    requires { count ≤ FEW }
-    ensures { result.items ≡ replicate count true }
-{
-    let mut few: ArrayVec<bool, FEW> = ArrayVec::new();
-    for _crossing in 0..count {
-        few.push(true);
+impl FewMarks {
+    /// So few crossings, all to come.
+    fn new(count: usize) -> FewMarks
+        requires { count ≤ FEW }
+        ensures { result ≡ replicate count true }
+    {
+        FewMarks {
+            marks: [true; FEW],
+            count: count as u8,
+        }
     }
-    few
+
+    /// The marks, in order.
+    fn as_slice(&self) -> &[bool]
+        ensures { result.now ≡ self.now }
+    {
+        &self.marks[..self.count as usize]
+    }
+
+    /// The crossing of this number isn't to come any more.
+    fn clear(&mut self, crossing: u64)
+        ensures { self.new ≡ states.with_entry self.old crossing false }
+    {
+        if crossing == 0 || crossing > self.count as u64 {
+            return;
+        }
+        let place = (crossing - 1) as usize;
+        self.marks[place] = false;
+    }
 }
 
 /// So many crossings, all to come.
-fn many_marks(alloc: Global, count: usize) -> Result<Vec<bool>, AllocError>
-    ensures { IfOk result (λ many. many.items ≡ replicate count true) }
+fn many_marks(alloc: Global, count: usize) -> Result<Box<Vec<bool>>, AllocError>
+    ensures { IfOk result (λ many. many.value.items ≡ replicate count true) }
 {
     let mut many: Vec<bool> = Vec::with_capacity(alloc, count)?;
     for _crossing in 0..count {
         many.push(true)?;
     }
-    Ok(many)
+    Ok(Box::new(alloc, many)?)
 }
 
 /// The crossing of this number isn't to come any more.
@@ -74,7 +109,7 @@ impl Marks {
     {
         if count <= FEW {
             return Ok(Marks {
-                list: MarkList::Few(few_marks(count)),
+                list: MarkList::Few(FewMarks::new(count)),
             });
         }
         Ok(Marks {
@@ -107,7 +142,7 @@ impl Marks {
         ensures { self.new ≡ states.with_entry self.old crossing false }
     {
         match &mut self.list {
-            MarkList::Few(few) => clear_mark(few.as_mut_slice(), crossing),
+            MarkList::Few(few) => few.clear(crossing),
             MarkList::Many(many) => clear_mark(many.as_mut_slice(), crossing),
         }
     }

@@ -79,6 +79,32 @@ impl<'a> State<'a> {
         if !all_of(classes, packets.as_slice()) {
             return Err(Fault::bare(refusals::RUN_PACKET));
         }
+        State::open_classed(alloc, net, classes, packets)
+    }
+
+    /// The same, of packets that are of their classes, as those that [`fx_run_text::read_packets`] gives: they aren't
+    /// looked at again.
+    ///
+    /// Fails with 900, at no place, for want of memory.
+    pub fn open_classed(
+        alloc: Global,
+        net: &'a Net,
+        classes: &'a Classes,
+        packets: Vec<Packet>,
+    ) -> Result<State<'a>, Fault>
+        requires { All
+            (λ packet. traffic.IsOf packet (network.entry_numbered classes.now packet.class))
+            packets.items }
+        ensures ok { IfOk result (λ run. run
+            ≡ record {
+              net = net.now;
+              classes = classes.now;
+              packets = packets.items;
+              state =
+                  states.opening net.now classes.now packets.items;
+            }) }
+        ensures err { IfErr result IsMemory }
+    {
         let store = Store::open(alloc, net, classes, packets.as_slice())?;
         Ok(State {
             alloc,

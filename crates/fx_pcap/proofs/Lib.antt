@@ -1,5 +1,6 @@
 pub mod Tags
 pub mod Typed
+pub mod Halting
 pub mod HeaderByHeader
 pub mod Left
 pub mod Whole

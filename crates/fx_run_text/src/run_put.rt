@@ -38,7 +38,7 @@ fn put_field<S: Sink>(sink: &mut S, fields: &Fields, axis: Axis) -> Result<(), F
     ensures err { IfErr result (IsWriteFault (S.failed sink.new)) }
 {
     // For the prover alone: each value stands within its axis.
-    let _values = fields.values();
+    let _first = fields.value_at(0);
     put_text(sink, b" ")?;
     put_value(sink, axis, width(axis), fields.get(axis))
 }

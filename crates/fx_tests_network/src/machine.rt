@@ -1,13 +1,13 @@
 //! A run of two packets through one meter and one collector, and what a network is asked for.
 use crate::meters::{into, meter};
 use crate::parts::{by_source, collector, exporter, holder, process};
-use fx_base::Fault;
+use fx_base::{Fault, LineReader, Octets};
 use fx_boxes::{Fields, Region};
 use fx_elements::Axis;
 use fx_machine::{
     State, choices_are_free, complete_runs_exist, six_axes_suffice, unnamed_axes_mean_nothing,
 };
-use fx_run_text::{Choices, Step};
+use fx_run_text::{Choices, Step, read_packets};
 use fx_tables::{
     AggregationEntry, Class, Classes, DeviceEntry, HolderName, MatchEntry, Net, Packet, Path,
     Process,
@@ -142,6 +142,21 @@ fn is_run(net: &Net, classes: &Classes, rt: &impl Abort, alloc: Global) -> bool 
     are_made(&mut state, steps(rt, alloc).as_slice()) && is_counted(&state)
 }
 
+/// The same two packets, as a run without steps is written.
+const PACKETS: &[u8] = b"once-run 1\n\
+packet 1 1 10.0.0.1 192.0.2.1 6 1000 80 0 18446744073709551614\n\
+packet 1 1 10.0.0.1 192.0.2.1 6 1000 80 0 1\n\
+end\n";
+
+/// Whether the run can be made over packets that were read, and so are of their classes.
+fn is_run_as_read(net: &Net, classes: &Classes, rt: &impl Abort, alloc: Global) -> bool {
+    let mut lines = LineReader::new(alloc, Octets::new(PACKETS)).expect(rt, "memory");
+    let run = read_packets(alloc, classes, &mut lines).expect(rt, "packets");
+    let opened = State::open_classed(alloc, net, classes, run.packets);
+    let mut state = opened.expect(rt, "memory");
+    are_made(&mut state, steps(rt, alloc).as_slice()) && is_counted(&state)
+}
+
 /// The number of the fault with which no run is opened, or 0.
 fn unopened(opened: Result<State<'_>, Fault>) -> u16 {
     match opened {
@@ -220,6 +235,7 @@ fn looks_up_and_runs_and_refuses_packets_of_no_class(rt: HostRuntime) {
             & is_exempt(&classes, &exempt)
             & is_unopened(&net, &classes, &rt, rt.alloc())
             & is_run(&net, &classes, &rt, rt.alloc())
+            & is_run_as_read(&net, &classes, &rt, rt.alloc())
     );
 }
 

@@ -11,7 +11,7 @@ steps-init g c = record {
   classes = search rules;
   going = c.in_ok-version.ensures.going;
   on = c.in_ok-version.ensures.on;
-  made = rw (c.in_ok-state.ensures.ok.0) (begins c.args.net.now c.args.classes.now c.args.lines.now c.in_ok-version.field-0.version c.in_ok-version.field-0.packets.items c.read_packets.new.lines c.in_ok-version.field-0.first c.in_ok-version.ensures.ok);
+  made = rw (c.in_ok-state.ensures.ok) (begins c.args.net.now c.args.classes.now c.args.lines.now c.in_ok-version.field-0.version c.in_ok-version.field-0.packets.items c.read_packets.new.lines c.in_ok-version.field-0.first c.in_ok-version.ensures.ok);
 }
 
 pub returns-in_err-next-clause-err : goal.returns-in_err-next-clause-err

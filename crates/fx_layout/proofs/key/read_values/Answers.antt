@@ -1,5 +1,5 @@
 -- There are no more values than axes, and each has the bits of its part.
-use Rattle.std.proofs.Common.{◌≡◌, ℕ, List, map, arith, subst, sym, ap, ◌∙◌, true}
+use Rattle.std.proofs.Common.{◌≡◌, ℕ, map, arith, subst, sym, ap, ◌∙◌, true}
 use Rattle.std.specs.List.{list_all}
 use Rattle.fx_elements.specs.Axes.{field, axis_width}
 use Rattle.fx_boxes.specs.Boxes.{IsFields}
@@ -19,7 +19,7 @@ returns-clause-value c =
 pub returns-clause-bits : goal.returns-clause-bits
 returns-clause-bits c =
     let parts = c.parts-part-items in
-    let fields : IsFields c.args.fields.now = subst IsFields c.values-numbers.ensures.value c.values-numbers.ensures.kept in
+    let fields : IsFields c.args.fields.now = c.value_at-first.ensures.kept in
     let stands : list_all can_stand c.args.layout.now ≡ true = subst (λ (l : Layout). list_all can_stand l ≡ true) parts.ensures.value parts.ensures.kept.stands in
     let g : Part → ℕ = λ part. leading_bits (axis_width part.axis) part.bits (field c.args.fields.now part.axis) in
     let all = all_of g _ _ _ c.loop-part.invariant c.loop-part-test.false ∙ ap (map g) parts.ensures.value in
