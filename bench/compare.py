@@ -13,6 +13,7 @@ import run as metering
 from check import least_in_turns, run
 
 TOP = os.path.dirname(os.path.dirname(os.path.abspath(__file__)))
+PROVED = os.path.join(TOP, "out", "proved")
 PAGE, PICTURE = os.path.join(TOP, "docs", "SPEED.md"), os.path.join(TOP, "docs", "speed.svg")
 ROUNDS = 5
 
@@ -43,6 +44,12 @@ more than 1.10 times what stands here.
 
 | Work | A unit | Instructions | Beside it |
 |---|---|---|---|
+"""
+
+PROOF = """
+## The proof
+
+What `make once` took where it last proved all crates of the program in one call, as it does in a fresh clone: {proved}.
 """
 
 GROWTH = """
@@ -196,6 +203,9 @@ def page(rows, counts, grown):
     for kind, ours, name, theirs in counts:
         beside = "%s %s, %.2f times" % (name, format(round(theirs), ","), ours / theirs) if name else ""
         text += "| `%s` | %s | %s | %s |\n" % (kind, UNITS[kind], format(round(ours), ","), beside)
+    if os.path.exists(PROVED):
+        with open(PROVED) as file:
+            text += PROOF.format(proved=file.read().strip())
     text += GROWTH
     for kind, unit, points in grown:
         text += "- `%s`: %s\n" % (kind, ", ".join("%s %ss %.3f" % (format(size, ","), unit, took) for size, took in points))

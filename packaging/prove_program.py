@@ -9,6 +9,9 @@ processors and memory, first those with the longest chain of others behind them.
 processes, one with nearly as long a chain two, and others those that are left. RT_JOBS=N in the environment sets how many are
 proved at a time, with one process each.
 
+A line a crate says how long its proof took, by the clock and in processor time; the last line says it of all. Where all crates
+were proved by one call, as from a fresh clone, out/proved has that line.
+
 What is proved lies in the crate's out/program, with what was said of it in the file `said`: its library, or of the program
 `once`. A library keeps the statements that crates above may cite and leaves the proofs out, so that it is read quickly. A
 crate whose files, libraries and kit are as they were is kept.
@@ -17,6 +20,7 @@ import os
 import signal
 import subprocess
 import sys
+import time
 from concurrent.futures import FIRST_COMPLETED, ThreadPoolExecutor, wait
 
 TOP = os.path.dirname(os.path.dirname(os.path.realpath(__file__)))
@@ -25,6 +29,9 @@ sys.path.insert(0, os.path.join(TOP, "tests"))
 from wrong_bodies import load_rt
 
 PROGRAM = "once"
+
+# What a proof of all crates took.
+TOOK = os.path.join(TOP, "out", "proved")
 
 # How much of the memory that the kit foresees is kept free for a proof by one process, and how much of that for each further
 # process, which shares most of its memory with the first: of 17.8, 7.6 and 5.2 GB that were foreseen the first took 5.9, 3.3
@@ -47,8 +54,16 @@ def made_by(crate):
     return os.path.join(crate.folder, "out", "program", crate.name + ("" if crate.is_program else ".rlib"))
 
 
+def run(words, **how):
+    """Runs a program; its status, below 0 where a signal ended it, and the processor time that it and its processes used."""
+    process = subprocess.Popen(words, **how)
+    _, status, used = os.wait4(process.pid, 0)
+    process.returncode = os.waitstatus_to_exitcode(status)
+    return process.returncode, used.ru_utime + used.ru_stime
+
+
 def build(rt, crate, jobs, said):
-    """Proves a crate and builds its library, or links the program; whether it is proved."""
+    """Proves a crate and builds its library, or links the program; whether it is proved, and the processor time used."""
     made = made_by(crate)
     words = crate.words(["--jobs", str(jobs)], keeps=False)
     if crate.is_program:
@@ -56,34 +71,37 @@ def build(rt, crate, jobs, said):
     else:
         words += ["--statements", "-o", made]
     how = {"cwd": crate.folder, "stdin": subprocess.DEVNULL, "stdout": said, "stderr": subprocess.STDOUT}
-    status = subprocess.run([*rt.rtlib.guarded(), rt.rtlib.RATTLE, "build", *words], **how).returncode
+    status, used = run([*rt.rtlib.guarded(), rt.rtlib.RATTLE, "build", *words], **how)
     if status == -signal.SIGKILL and jobs > 1:
         # Most likely for memory.
-        return build(rt, crate, 1, said)
-    return status == 0 and (not crate.is_program or crate.link(made + ".o", os.path.relpath(made, crate.folder)) == 0)
+        is_proved, more = build(rt, crate, 1, said)
+        return is_proved, used + more
+    links = status == 0 and crate.is_program
+    return status == 0 and (not links or crate.link(made + ".o", os.path.relpath(made, crate.folder)) == 0), used
 
 
 def prove(rt, crate, given, jobs):
-    """Proves a crate whose libraries are proved, unless it is as it was, and says so; whether it is proved."""
-    if not all(given[it.name] for it in crate.below()):
-        return False
+    """Proves a crate whose libraries are proved, unless it is as it was, and says so; the processor time used, or None where it
+    isn't proved."""
+    if any(given[it.name] is None for it in crate.below()):
+        return None
     folder = os.path.dirname(made_by(crate))
     noted, stamp = os.path.join(folder, "stamp"), crate.stamp()
     if os.path.exists(made_by(crate)) and rt.rtlib.text_of(noted) == stamp:
-        return True
+        return 0.0
     os.makedirs(folder, exist_ok=True)
     if os.path.exists(noted):
         os.remove(noted)
-    file = os.path.join(folder, "said")
+    file, began = os.path.join(folder, "said"), time.monotonic()
     with open(file, "w") as said:
-        is_proved = build(rt, crate, jobs, said)
+        is_proved, used = build(rt, crate, jobs, said)
     if not is_proved:
         print("%s%s: NOT PROVED" % (rt.rtlib.text_of(file), crate.name), flush=True)
-        return False
+        return None
     with open(noted, "w") as it:
         it.write(stamp)
-    print("%s: proved" % crate.name, flush=True)
-    return True
+    print("%s: proved in %.0f s, %.0f s of processor time" % (crate.name, time.monotonic() - began, used), flush=True)
+    return used
 
 
 def chains(tasks):
@@ -157,7 +175,19 @@ def main(names):
             work = lambda given, jobs, crate=crate: prove(rt, crate, given, jobs)
             waits = [it.name for it in crate.below()]
             tasks[crate.name] = waits, work_of(rt, crate), SHARE_OF_MEMORY * rt.need(crate), work
-    return 0 if all(side_by_side(tasks, rt.processors(), 0.85 * rt.free()).values()) else 1
+    began = time.monotonic()
+    given = side_by_side(tasks, rt.processors(), 0.85 * rt.free()).values()
+    if None in given:
+        return 1
+    if sum(given):
+        took = sum(used > 0 for used in given), time.monotonic() - began, sum(given), rt.processors()
+        line = "%d crates proved in %.0f s, %.0f s of processor time, on %d processors" % took
+        print(line)
+        if all(given) and not names:
+            os.makedirs(os.path.dirname(TOOK), exist_ok=True)
+            with open(TOOK, "w") as file:
+                file.write(line + "\n")
+    return 0
 
 
 if __name__ == "__main__":
