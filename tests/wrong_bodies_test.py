@@ -3,9 +3,9 @@
 
 usage: wrong_bodies_test.py [--kept | --as-built]
 
-The edits tests/wrong-bodies/NAME/*.edit are edits of the crate NAME, with a line `wants:`, which is REFUSED, NOT REFUSED
-(harmless ones) or BAD EDIT (those that can't be read, that change a contract, that don't compile). All of a crate are
-judged together. Prints a line for each edit with another verdict, and last `N passed, N failed`.
+The edits tests/wrong-bodies/NAME/*.edit are edits of the crate NAME, with a line `wants:`, what its verdict begins with:
+REFUSED, NOT REFUSED (harmless ones) or BAD EDIT and why (those that can't be read, that change a contract, that don't
+compile). All of a crate are judged together. Prints a line for each edit with another verdict, and last `N passed, N failed`.
 """
 import os
 import re
@@ -21,11 +21,6 @@ from bodies.trials import Trial
 EDITS = os.path.join(os.path.dirname(os.path.realpath(__file__)), "wrong-bodies")
 
 
-def kind_of(verdict):
-    is_refused, said = verdict
-    return "REFUSED" if is_refused else said.partition(":")[0]
-
-
 def try_crate(rt, crate, as_built):
     """Returns how many of the crate's edits got the verdict that they want, and how many another."""
     at = f"{EDITS}/{crate.name}"
@@ -36,9 +31,10 @@ def try_crate(rt, crate, as_built):
     failed = 0
     for edit, file in zip(edits, files):
         wanted = re.search(r"(?m)^wants: (.*)$", read(file))[1]
-        if kind_of(edit.verdict) != wanted:
+        is_refused, said = edit.verdict
+        if not ("REFUSED" if is_refused else said).startswith(wanted):
             failed += 1
-            print(f"{crate.name}/{edit.name}: wants {wanted}, and got {edit.verdict[1]}", flush=True)
+            print(f"{crate.name}/{edit.name}: wants {wanted}, and got {said}", flush=True)
     return len(edits) - failed, failed
 
 
