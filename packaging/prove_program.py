@@ -6,8 +6,8 @@ usage: prove_program.py [NAME..]
 Run at the top of the repository. Each NAME is a crate as crates.txt has it, which is proved with all that it stands on;
 the program where none is given. A crate is proved once all libraries that it names are, side by side as many as there are
 processors and memory, first those with the longest chain of others behind them. The crate with the longest chain gets four
-processes, one with nearly as long a chain two, and others those that are left. RT_JOBS=N in the environment sets how many are
-proved at a time, with one process each.
+processes and others two, on few processors fewer. RT_JOBS=N in the environment sets how many are proved at a time, with one
+process each.
 
 A line a crate says how long its proof took, by the clock and in processor time; the last line says it of all. Where all crates
 were proved by one call, as from a fresh clone, out/proved has that line.
@@ -33,17 +33,18 @@ PROGRAM = "once"
 # What a proof of all crates took.
 TOOK = os.path.join(TOP, "out", "proved")
 
-# How much of the memory that the kit foresees is kept free for a proof by one process, and how much of that for each further
-# process, which shares most of its memory with the first: of 17.8, 7.6 and 5.2 GB that were foreseen the first took 5.9, 3.3
-# and 2.9.
-SHARE_OF_MEMORY, MORE_MEMORY = 0.5, 0.15
+# A proof by one process takes this much memory, and this share of what the kit foresees: where that was 17.8, 7.6 and 5.2 GB,
+# proofs took 5.9, 3.3 and 2.9.
+LEAST_MEMORY, SHARE_OF_MEMORY = 1_700_000_000, 0.27
 
-# How many processes may prove one crate, and how many more than there are processors may run: a proof's processes wait for
-# one another, so that four of them keep three processors busy.
-MOST_JOBS, MORE_JOBS = 4, 2
+# The share of that for each further process, which has most of its memory in common with the first.
+MORE_MEMORY = 0.15
 
-# The share of the longest chain from which on a crate's chain counts as nearly as long.
-NEARLY_LONGEST = 0.8
+# How many processes prove the crate with the longest chain of others behind it, and how many another.
+MOST_JOBS, OTHER_JOBS = 4, 2
+
+# How many processes there are to a processor at the most: those of a proof wait for one another.
+JOBS_A_PROCESSOR = 2
 
 # How many lines of code cost as much as what every proof of a crate begins and ends with.
 LINES_OF_A_CRATE = 300
@@ -123,12 +124,11 @@ def work_of(rt, crate):
     return LINES_OF_A_CRATE + code + others / 10
 
 
-def jobs_of(share, idle, others, room, needs):
-    """How many processes prove a crate whose chain is this share of the longest, as far as the memory goes, where so many
-    are idle and so many other crates are ready."""
-    wanted = idle if share == 1 else 2 if share > NEARLY_LONGEST else idle - others
+def jobs_of(is_longest, processors, left, room, needs):
+    """How many processes prove a crate that waits for nothing, where so many may yet be started, as far as the memory goes."""
+    wanted = min(MOST_JOBS, processors) if is_longest else min(OTHER_JOBS, processors // 2)
     fitting = 1 + int((room / needs - 1) / MORE_MEMORY)
-    return max(1, min(MOST_JOBS, idle, wanted, fitting))
+    return max(1, min(wanted, left, fitting))
 
 
 def side_by_side(tasks, processors, memory):
@@ -136,20 +136,19 @@ def side_by_side(tasks, processors, memory):
     work, the memory that it needs, and a call that gets what was given and how many processes it may use."""
     fixed = os.environ.get("RT_JOBS", "")
     fixed = int(fixed) if fixed.isdigit() and int(fixed) else 0
-    lanes = fixed or (processors + MORE_JOBS if processors > 1 else 1)
+    lanes = fixed or processors
+    most_jobs = fixed or (JOBS_A_PROCESSOR * processors if processors > 1 else 1)
     behind, running, given = chains(tasks), {}, {}
     left = sorted(tasks, key=lambda name: -behind[name])
     with ThreadPoolExecutor(lanes) as pool:
         while left or running:
-            ready = [name for name in left if all(below in given for below in tasks[name][0])]
             longest = max(behind[name] for name in [*left, *(name for name, _, _ in running.values())])
-            for at, name in enumerate(ready):
+            for name in [name for name in left if all(below in given for below in tasks[name][0])]:
                 needs, call = tasks[name][2:]
-                idle = lanes - sum(jobs for _, _, jobs in running.values())
+                idle = most_jobs - sum(jobs for _, _, jobs in running.values())
                 room = memory - sum(held for _, held, _ in running.values())
-                if idle > 0 and (fixed or not running or needs <= room):
-                    others = len(ready) - at - 1
-                    jobs = 1 if fixed else jobs_of(behind[name] / longest, idle, others, room, needs)
+                if idle > 0 and len(running) < lanes and (fixed or not running or needs <= room):
+                    jobs = 1 if fixed else jobs_of(behind[name] == longest, processors, idle, room, needs)
                     left.remove(name)
                     running[pool.submit(call, given, jobs)] = name, needs * (1 + MORE_MEMORY * (jobs - 1)), jobs
             for done in wait(running, return_when=FIRST_COMPLETED).done:
@@ -174,7 +173,8 @@ def main(names):
         if crate.name in wanted:
             work = lambda given, jobs, crate=crate: prove(rt, crate, given, jobs)
             waits = [it.name for it in crate.below()]
-            tasks[crate.name] = waits, work_of(rt, crate), SHARE_OF_MEMORY * rt.need(crate), work
+            needs = LEAST_MEMORY + SHARE_OF_MEMORY * rt.need(crate)
+            tasks[crate.name] = waits, work_of(rt, crate), needs, work
     began = time.monotonic()
     given = side_by_side(tasks, rt.processors(), 0.85 * rt.free()).values()
     if None in given:
