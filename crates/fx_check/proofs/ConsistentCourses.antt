@@ -1,9 +1,13 @@
 -- How what is still to be said changes as the checker goes on.
-use Rattle.std.proofs.Common.{◌≡◌, ℕ, zero, suc, ◌+◌, ◌<◌, ◌≤◌, List, [], ◌∷◌, ◌++◌, length, get_or, drop, refl, sym, subst, ◌∙◌, arith, add-one, length-append, length-drop, cond, Result, Err, Some, None, ◌≢◌}
+use Rattle.std.proofs.Common.{◌≡◌, ℕ, zero, suc, ◌+◌, ◌<◌, ◌≤◌, List, [], ◌∷◌, ◌++◌, length, get_or, drop, refl, sym, ap, subst, ◌∙◌, arith, add-one, length-append, length-drop, cond, Result, Option, Err, Some, None, true, false, ◌≢◌}
+use Rattle.std.proofs.lemmas.Bool.{le-leb, lt-leb}
+use Rattle.std.proofs.lemmas.Option.{slice_get_read, get_or_from_slice_get}
 use Rattle.std.proofs.Math.Seq.{drop-cons}
 use Rattle.fx_elements.specs.Axes.{axis_index}
 use Rattle.fx_elements.specs.declared.axis.Axis.{Axis}
 use Rattle.fx_leaf.specs.declared.leaf.Counted.{Counted}
+use Rattle.fx_leaf.specs.PathTables.{IsPathBegun, PathTable}
+use Rattle.fx_leaf.specs.Tables.{Tables}
 use Rattle.fx_check.specs.Judging.{Judge}
 use Rattle.fx_cert.specs.declared.item.Item.{Item}
 use Rattle.fx_cert.specs.declared.item.Item.TheVariants as item
@@ -12,9 +16,9 @@ use Rattle.fx_traffic.specs.Targets.{Target}
 use Rattle.fx_check.specs.declared.stack.WaitingRegion.{WaitingRegion}
 use Rattle.fx_check.specs.declared.course.Stage.{Stage}
 use Rattle.fx_check.specs.declared.course.Stage.TheVariants as stage
-use Rattle.fx_check.specs.FirstRefusal.{Goal, tree, ahead, may_say_never, after, leaf_answer, split_answer, form_fault, at_end, at_line, Refusal}
+use Rattle.fx_check.specs.FirstRefusal.{Goal, tree, ahead, may_say_never, after, leaf_answer, line_limit, unless_wrong, split_answer, form_fault, at_end, at_line, Refusal}
 use Rattle.fx_base.specs.Lines.{next_number}
-use Rattle.fx_check.specs.Remaining.{below_waits, above_waits, waiting_goals, tree_goals, goals_at, rest_of_tree, AreDeepFrom, AreDeep, IsConsistentAt, IsInTree}
+use Rattle.fx_check.specs.Remaining.{below_waits, above_waits, waiting_goals, tree_goals, goals_at, rest_of_tree, AreDeepFrom, AreDeep, IsConsistentAt, IsInTree, HasBegun}
 use Rattle.fx_check.specs.LineFaults.{number_of}
 use Rattle.fx_check.specs.declared.line_fault.LineFault.{LineFault}
 use Rattle.fx_check.specs.declared.line_fault.LineFault.TheVariants as faults
@@ -60,6 +64,51 @@ pub never_is : (z : Version) (judge : Judge) (made : ℕ) (ts : List Target) (at
 never_is z judge made ts at ws s w t e h is =
     let k : IsConsistentAt ts at ws (stage.Tree w) = subst (λ (x : Stage). IsConsistentAt ts at ws x) e h in
     rw (e, drop-cons ts at t k.0, ← is) refl
+
+too_many : (made : ℕ) (wrong : Option ℕ) (gs : List Goal) → line_limit ≤ made → leaf_answer made wrong gs ≡ Err faults.LineCount
+too_many made wrong gs many = rw (le-leb line_limit made many) refl
+
+few_lines : (made : ℕ) (wrong : Option ℕ) (gs : List Goal) → made < line_limit → leaf_answer made wrong gs ≡ unless_wrong wrong gs
+few_lines made wrong gs few = rw (lt-leb line_limit made few) refl
+
+-- an item that may not stand there, that is one line too many, that is wrong, and that is right
+pub never_out_of_place : (z : Version) (judge : Judge) (made : ℕ) (ts : List Target) (at : ℕ) (ws : List WaitingRegion) (s : Stage) (w : WaitingRegion) (t : Target) → s ≡ stage.Tree w → IsConsistentAt ts at ws s → t ≡ get_or ts at t → may_say_never z t ≡ false
+    → after judge made (goals_at z ts at ws s) item.Never ≡ Err faults.Place
+never_out_of_place z judge made ts at ws s w t e h is may = rw (never_is z judge made ts at ws s w t e h is, may) refl
+
+pub never_too_many : (z : Version) (judge : Judge) (made : ℕ) (ts : List Target) (at : ℕ) (ws : List WaitingRegion) (s : Stage) (w : WaitingRegion) (t : Target) → s ≡ stage.Tree w → IsConsistentAt ts at ws s → t ≡ get_or ts at t → may_say_never z t ≡ true → line_limit ≤ made
+    → after judge made (goals_at z ts at ws s) item.Never ≡ Err faults.LineCount
+never_too_many z judge made ts at ws s w t e h is may many = rw (never_is z judge made ts at ws s w t e h is, may) (too_many made (judge t w.region None) (rest_of_tree z (drop at ts) ws) many)
+
+pub never_judged : (z : Version) (judge : Judge) (made : ℕ) (ts : List Target) (at : ℕ) (ws : List WaitingRegion) (s : Stage) (w : WaitingRegion) (t : Target) (wrong : Option ℕ) → s ≡ stage.Tree w → IsConsistentAt ts at ws s → t ≡ get_or ts at t → may_say_never z t ≡ true → made < line_limit → judge t w.region None ≡ wrong
+    → after judge made (goals_at z ts at ws s) item.Never ≡ unless_wrong wrong (rest_of_tree z (drop at ts) ws)
+never_judged z judge made ts at ws s w t wrong e h is may few said = rw (never_is z judge made ts at ws s w t e h is, may) (few_lines made (judge t w.region None) (rest_of_tree z (drop at ts) ws) few ∙ ap (λ v. unless_wrong v (rest_of_tree z (drop at ts) ws)) said)
+
+pub leaf_out_of_place : (z : Version) (judge : Judge) (made : ℕ) (ts : List Target) (at : ℕ) (ws : List WaitingRegion) (s : Stage) (w : WaitingRegion) (l : Counted) (t : Target) → s ≡ stage.Tree w → IsConsistentAt ts at ws s → t ≡ get_or ts at t → t.exempt ≡ true
+    → after judge made (goals_at z ts at ws s) (item.Leaf l.crossing l.point l.process) ≡ Err faults.Place
+leaf_out_of_place z judge made ts at ws s w l t e h is exempt =
+    leaf_is z judge made ts at ws s w l t e h is ∙ ap (λ b. cond b (Err faults.Place) (leaf_answer made (judge t w.region (Some l)) (rest_of_tree z (drop at ts) ws))) exempt
+
+pub leaf_too_many : (z : Version) (judge : Judge) (made : ℕ) (ts : List Target) (at : ℕ) (ws : List WaitingRegion) (s : Stage) (w : WaitingRegion) (l : Counted) (t : Target) → s ≡ stage.Tree w → IsConsistentAt ts at ws s → t ≡ get_or ts at t → t.exempt ≡ false → line_limit ≤ made
+    → after judge made (goals_at z ts at ws s) (item.Leaf l.crossing l.point l.process) ≡ Err faults.LineCount
+leaf_too_many z judge made ts at ws s w l t e h is due many =
+    leaf_is z judge made ts at ws s w l t e h is ∙ (ap (λ b. cond b (Err faults.Place) (leaf_answer made (judge t w.region (Some l)) (rest_of_tree z (drop at ts) ws))) due ∙ too_many made (judge t w.region (Some l)) (rest_of_tree z (drop at ts) ws) many)
+
+pub leaf_judged : (z : Version) (judge : Judge) (made : ℕ) (ts : List Target) (at : ℕ) (ws : List WaitingRegion) (s : Stage) (w : WaitingRegion) (l : Counted) (t : Target) (wrong : Option ℕ) → s ≡ stage.Tree w → IsConsistentAt ts at ws s → t ≡ get_or ts at t → t.exempt ≡ false → made < line_limit → judge t w.region (Some l) ≡ wrong
+    → after judge made (goals_at z ts at ws s) (item.Leaf l.crossing l.point l.process) ≡ unless_wrong wrong (rest_of_tree z (drop at ts) ws)
+leaf_judged z judge made ts at ws s w l t wrong e h is due few said =
+    leaf_is z judge made ts at ws s w l t e h is ∙ (ap (λ b. cond b (Err faults.Place) (leaf_answer made (judge t w.region (Some l)) (rest_of_tree z (drop at ts) ws))) due ∙ (few_lines made (judge t w.region (Some l)) (rest_of_tree z (drop at ts) ws) few ∙ ap (λ v. unless_wrong v (rest_of_tree z (drop at ts) ws)) said))
+
+-- in the tree of a target its path is begun
+pub begun_there : (tables : Tables) (ts : List Target) (at : ℕ) (s : Stage) (w : WaitingRegion) (t : Target) (room : PathTable) → HasBegun tables ts at s room → s ≡ stage.Tree w → at < length ts → t ≡ get_or ts at t → IsPathBegun tables t.crossings room
+begun_there tables ts at s w t room begun e lt is =
+    let there : HasBegun tables ts at (stage.Tree w) room = subst (λ (x : Stage). HasBegun tables ts at x room) e begun in
+    there t (slice_get_read ts (length ts) at t refl lt is)
+
+pub begins_there : (tables : Tables) (ts : List Target) (at : ℕ) (s : Stage) (w : WaitingRegion) (t : Target) (room : PathTable) → s ≡ stage.Tree w → t ≡ get_or ts at t → IsPathBegun tables t.crossings room → HasBegun tables ts at s room
+begins_there tables ts at s w t room e is begun =
+    let there : HasBegun tables ts at (stage.Tree w) room = λ target got. subst (λ (x : Target). IsPathBegun tables x.crossings room) (is ∙ get_or_from_slice_get ts at target t got) begun in
+    subst (λ (x : Stage). HasBegun tables ts at x room) (sym e) there
 
 split_on : (z : Version) (judge : Judge) (made : ℕ) (ts : List Target) (ws : List WaitingRegion) (w : WaitingRegion) (a : Axis) (v : ℕ) → 0 < length ts
     → after judge made (tree_goals z ts w ws) (item.Split a v) ≡ split_answer made w.region w.depth (axis_index a) v (tree_goals z ts (below_waits w (axis_index a) v) (ws ++ above_waits w (axis_index a) v ∷ []))

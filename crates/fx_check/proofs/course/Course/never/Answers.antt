@@ -1,0 +1,34 @@
+use Rattle.std.proofs.Common.{None, sym, arith}
+use Rattle.fx_check.specs.Judging.{judge_of}
+use Rattle.fx_check.proofs.ConsistentCourses.{never_out_of_place, never_too_many, never_judged, begun_there, begins_there, region_of, stands}
+use Rattle.fx_check.proofs.course.Course.never.Goals as goal
+
+pub returns-then-eq-clause-after : goal.returns-then-eq-clause-after
+returns-then-eq-clause-after c =
+    let there = region_of c.args.self.now.stage c.requires.stage in
+    never_out_of_place c.args.self.now.version (judge_of c.args.tables.now.net) c.args.self.now.made c.args.targets.now c.args.self.now.current c.args.self.now.waiting c.args.self.now.stage there.0 c.index-targets-self.result there.1 c.requires.consistent c.index-targets-self.is (grind arith)
+
+pub returns-then-self-ge-LINES-clause-after : goal.returns-then-self-ge-LINES-clause-after
+returns-then-self-ge-LINES-clause-after c =
+    let there = region_of c.args.self.now.stage c.requires.stage in
+    never_too_many c.args.self.now.version (judge_of c.args.tables.now.net) c.args.self.now.made c.args.targets.now c.args.self.now.current c.args.self.now.waiting c.args.self.now.stage there.0 c.index-targets-self.result there.1 c.requires.consistent c.index-targets-self.is (grind arith) c.if-self-ge-LINES.true
+
+pub never_fault-requires-clause-begun : goal.never_fault-requires-clause-begun
+never_fault-requires-clause-begun c =
+    begun_there c.args.tables.now c.args.targets.now c.args.self.now.current c.args.self.now.stage c.in-Tree.here c.index-targets-self.result c.args.scratch.now c.requires.ready.1 c.in-Tree.is (stands c.args.targets.now c.args.self.now.current c.args.self.now.waiting c.args.self.now.stage c.requires.consistent c.requires.stage).0 c.index-targets-self.is
+
+pub returns-in-Some-clause-after : goal.returns-in-Some-clause-after
+returns-in-Some-clause-after c =
+    never_judged c.args.self.now.version (judge_of c.args.tables.now.net) c.args.self.now.made c.args.targets.now c.args.self.now.current c.args.self.now.waiting c.args.self.now.stage c.in-Tree.here c.index-targets-self.result _ c.in-Tree.is c.requires.consistent c.index-targets-self.is (grind arith) c.if-self-ge-LINES.false (sym c.in-Some.ensures.fault)
+
+pub returns-clause-after : goal.returns-clause-after
+returns-clause-after c =
+    rw (c.close_region.ensures.goals)
+    (never_judged c.args.self.now.version (judge_of c.args.tables.now.net) c.args.self.now.made c.args.targets.now c.args.self.now.current c.args.self.now.waiting c.args.self.now.stage c.in-Tree.here c.index-targets-self.result None c.in-Tree.is c.requires.consistent c.index-targets-self.is (grind arith) c.if-self-ge-LINES.false (sym c.in_default-never_fault.ensures.fault))
+
+pub returns-clause-ready : goal.returns-clause-ready
+returns-clause-ready c =
+    c.close_region.ensures.ready c.args.tables.now c.never_fault.new.scratch (
+      c.in_default-never_fault.ensures.room,
+      begins_there c.args.tables.now c.args.targets.now c.args.self.now.current c.args.self.now.stage c.in-Tree.here c.index-targets-self.result c.never_fault.new.scratch c.in-Tree.is c.index-targets-self.is c.in_default-never_fault.ensures.begun,
+    )
