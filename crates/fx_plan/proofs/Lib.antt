@@ -1,3 +1,4 @@
+pub mod Loops
 pub mod Nets
 pub mod NamedNets
 pub mod Numberings

@@ -1,20 +1,22 @@
 //! Network documents and the networks that they mean.
-ghost use Rattle.std.specs.Prelude.{◌≡◌, ◌==◌, ◌<◌, ◌≤◌, IfOk, length, position};
+ghost use Rattle.std.specs.Prelude.{◌≡◌, ◌⊎◌, ◌==◌, ◌<◌, ◌≤◌, IfErr, IfOk, length, map, position};
 ghost use Rattle.serde_json.specs.View.{view};
 ghost use Rattle.fx_tables.specs.Limits.{layout_limit};
 ghost use Rattle.fx_tables.specs.Matches.{AreEntries};
 ghost use Rattle.fx_tables.specs.Ranks.{IsNetwork};
 ghost use Rattle.fx_tables.specs.Runnable.{IsRunnable};
 ghost use Rattle.fx_base.specs.Entries.{now_of};
+ghost use Rattle.fx_base.specs.Fault.{IsMemory};
+ghost use Rattle.fx_plan.specs.Labels.{cache_labels, collecting_labels};
 ghost use Rattle.fx_plan.specs.Layouts.{AreNumbers, layouts_of};
 ghost use Rattle.fx_topology.specs.Networks.{device_numbered};
-ghost use Rattle.fx_plan.specs.Plans.{IsPlan, ReadsPlan};
+ghost use Rattle.fx_plan.specs.Plans.{IsPlan, IsResolved, ReadsPlan, RefusesNetwork};
 ghost use Rattle.fx_ranks.specs.Ranks.{IsDescending, IsRank, IsRankOrder, IsWhole};
 ghost use Rattle.fx_plan.specs.Tables as tables;
 
 use crate::exporters::exporters_of;
 use crate::holders::cache_holders;
-use crate::labels::{labels_of, place};
+use crate::labels::{Labels, labels_of, place};
 use crate::layouts::{Numbering, numbering_of};
 use crate::points::tables_of;
 use crate::processes::{link_ends, processes_in};
@@ -22,8 +24,8 @@ use crate::ranks::{Ranks, ranks_of};
 use fx_base::{Fault, entry_numbered};
 use fx_config::{Cache, CollectingProcess, Device, ExportingProcess};
 use fx_layout::Layout;
-use fx_tables::Net;
-use fx_topology::{NetworkDocument, read_network};
+use fx_tables::{DeviceEntry, Holder, Net, Process};
+use fx_topology::{NetworkDevice, NetworkDocument, read_network};
 use serde_json::Value;
 use std::alloc::{AllocError, Global};
 use std::marker::Model;
@@ -37,21 +39,50 @@ fn report_layout_of(network: &NetworkDocument) -> Layout
     }
 }
 
-/// The network that a document means.
-fn net_of(alloc: Global, network: &NetworkDocument) -> Result<Net, AllocError>
-    ensures { IfOk result (λ net. net ≡ tables.net_of network.now) }
+/// The tables of all devices, by the labels of all collecting processes.
+fn device_tables(
+    alloc: Global,
+    collecting: &Labels<'_>,
+    devices: &[NetworkDevice],
+) -> Result<Vec<DeviceEntry>, AllocError>
+    ensures { IfOk result (λ v. v.items
+        ≡ map (tables.table_of (cache_labels devices.now) collecting.now) devices.now) }
 {
-    let devices = network.devices.as_slice();
     let caches = labels_of::<Cache>(alloc, devices)?;
-    let collecting = labels_of::<CollectingProcess>(alloc, devices)?;
-    let tables = tables_of(alloc, &caches, &collecting, devices)?;
-    let exporters = exporters_of(alloc, &network.links, devices)?;
+    tables_of(alloc, &caches, collecting, devices)
+}
+
+/// What holds records, and the collecting processes: they are made together, since what holds the records of
+/// their aggregations comes behind the caches.
+fn holders_and_processes(
+    alloc: Global,
+    devices: &[NetworkDevice],
+) -> Result<(Vec<Holder>, Vec<Process>), AllocError>
+    ensures holders { IfOk result (λ r. r.0.items ≡ tables.holders_of devices.now) }
+    ensures processes { IfOk result (λ r. r.1.items ≡ tables.processes_of devices.now) }
+{
     let exporting = labels_of::<ExportingProcess>(alloc, devices)?;
     let mut holders = cache_holders(alloc, &exporting, devices)?;
     let processes = processes_in(alloc, &mut holders, &exporting, devices)?;
-    let ends = link_ends(alloc, &collecting, network.links.as_slice())?;
+    Ok((holders, processes))
+}
+
+/// The network that a document means, by the labels of its collecting processes.
+fn net_labelled(
+    alloc: Global,
+    network: &NetworkDocument,
+    collecting: &Labels<'_>,
+) -> Result<Net, AllocError>
+    requires { collecting.now ≡ collecting_labels network.now.devices }
+    ensures { IfOk result (λ net. net ≡ tables.net_of network.now) }
+{
+    let devices = network.devices.as_slice();
+    let tables = device_tables(alloc, collecting, devices)?;
+    let exporters = exporters_of(alloc, &network.links, devices)?;
+    let ends = link_ends(alloc, collecting, network.links.as_slice())?;
+    let (holders, processes) = holders_and_processes(alloc, devices)?;
     let report = &network.report;
-    let report_place = place(&collecting, &report.device, &report.collecting_process);
+    let report_place = place(collecting, &report.device, &report.collecting_process);
     let layout = report_layout_of(network);
     Ok(Net::new(
         tables,
@@ -62,6 +93,14 @@ fn net_of(alloc: Global, network: &NetworkDocument) -> Result<Net, AllocError>
         report_place,
         layout,
     ))
+}
+
+/// The network that a document means.
+fn net_of(alloc: Global, network: &NetworkDocument) -> Result<Net, AllocError>
+    ensures { IfOk result (λ net. net ≡ tables.net_of network.now) }
+{
+    let collecting = labels_of::<CollectingProcess>(alloc, network.devices.as_slice())?;
+    net_labelled(alloc, network, &collecting)
 }
 
 /// A network document and the network that it means. Contracts see it as what the document says.
@@ -164,25 +203,51 @@ impl Plan {
     }
 }
 
-/// A plan of these parts.
-fn plan_of_parts(
-    alloc: Global,
-    network: NetworkDocument,
+/// What a network document means: all of a plan but the document, which the plan takes last.
+#[derive(Drop)]
+struct Meaning {
     net: Net,
     ranks: Ranks,
     numbering: Numbering,
+}
+
+/// What a document means, or the first fault that shows in its network only: 207 for its layouts, or else 204 for
+/// its links; or 900 for want of memory.
+fn meaning_of(alloc: Global, network: &NetworkDocument) -> Result<Meaning, Fault>
+    requires resolved { IsResolved (tables.net_of network.now) }
+    requires entries { AreEntries (tables.net_of network.now) }
+    requires runnable { IsRunnable (tables.net_of network.now) }
+    ensures plan { IfOk result (λ m. IsPlan network.now m.net m.ranks.ranked.items
+        m.ranks.order.items m.numbering.layouts.items m.numbering.numbers.items) }
+    ensures err { IfErr result (λ e. IsMemory e ⊎ RefusesNetwork network.now e) }
+{
+    let net = net_of(alloc, network)?;
+    let numbering = numbering_of(alloc, &net)?;
+    let ranks = ranks_of(alloc, network, &net)?;
+    Ok(Meaning {
+        net,
+        ranks,
+        numbering,
+    })
+}
+
+/// A plan of a document and of what it means.
+fn plan_of_parts(
+    alloc: Global,
+    network: NetworkDocument,
+    meaning: Meaning,
 ) -> Result<Plan, AllocError>
-    requires { IsPlan network net ranks.ranked.items ranks.order.items numbering.layouts.items
-        numbering.numbers.items }
+    requires { IsPlan network meaning.net meaning.ranks.ranked.items meaning.ranks.order.items
+        meaning.numbering.layouts.items meaning.numbering.numbers.items }
     ensures { IfOk result (λ plan. plan ≡ network) }
 {
     let parts = Box::new(
         alloc,
         Parts {
             network,
-            net,
-            ranks,
-            numbering,
+            net: meaning.net,
+            ranks: meaning.ranks,
+            numbering: meaning.numbering,
         },
     )?;
     Ok(Plan { parts })
@@ -204,9 +269,7 @@ pub fn read_plan(alloc: Global, value: &Value) -> Result<Plan, Fault>
     ensures { ReadsPlan (view value.now) result }
 {
     let network = read_network(alloc, value)?;
-    let net = net_of(alloc, &network)?;
-    let numbering = numbering_of(alloc, &net)?;
-    let ranks = ranks_of(alloc, &network, &net)?;
-    let plan = plan_of_parts(alloc, network, net, ranks, numbering)?;
+    let meaning = meaning_of(alloc, &network)?;
+    let plan = plan_of_parts(alloc, network, meaning)?;
     Ok(plan)
 }

@@ -1,5 +1,5 @@
 //! The table of collecting processes, and where links lead.
-ghost use Rattle.std.specs.Prelude.{◌≡◌, ◌++◌, OnOk, IfOk, length, map};
+ghost use Rattle.std.specs.Prelude.{◌≡◌, [], ◌∷◌, ◌++◌, OnOk, IfOk, length, map};
 ghost use Rattle.fx_plan.specs.Labels as naming;
 ghost use Rattle.fx_plan.specs.Tables as tables;
 
@@ -36,6 +36,29 @@ fn match_entries(alloc: Global, matches: &[PropertyMatch]) -> Result<Vec<MatchEn
     Ok(entries)
 }
 
+/// An aggregation comes last, and what holds its records comes last among the holders.
+fn push_aggregation(
+    alloc: Global,
+    taken: &mut Vec<fx_tables::AggregationEntry>,
+    holders: &mut Vec<Holder>,
+    exporting: &Labels<'_>,
+    device: &Name,
+    aggregation: &Aggregation,
+) -> Result<(), AllocError>
+    ensures held { OnOk result (holders.new.items
+        ≡ holders.old.items ++ tables.aggregation_holder exporting.now device.now aggregation.now
+        ∷ []) }
+    ensures tables { OnOk result (taken.new.items
+        ≡ taken.old.items ++ tables.aggregations_from (length holders.old.items)
+        (aggregation.now ∷ [])) }
+{
+    let matches = match_entries(alloc, aggregation.matches.as_slice())?;
+    taken.push(fx_tables::AggregationEntry::new(holders.len(), matches))?;
+    let names = aggregation.exporting_processes.as_slice();
+    holders.push(holder_with(alloc, exporting, device, &aggregation.key, names)?)?;
+    Ok(())
+}
+
 /// The aggregations of a collecting process. What holds their records comes last among the holders.
 fn push_aggregations(
     alloc: Global,
@@ -52,10 +75,7 @@ fn push_aggregations(
 {
     let mut taken = Vec::new(alloc);
     for aggregation in aggregations {
-        let matches = match_entries(alloc, aggregation.matches.as_slice())?;
-        taken.push(fx_tables::AggregationEntry::new(holders.len(), matches))?;
-        let names = aggregation.exporting_processes.as_slice();
-        holders.push(holder_with(alloc, exporting, device, &aggregation.key, names)?)?;
+        push_aggregation(alloc, &mut taken, holders, exporting, device, aggregation)?;
     }
     Ok(taken)
 }
