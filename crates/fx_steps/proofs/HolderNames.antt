@@ -1,11 +1,11 @@
 -- Names of holders, noted one after another.
-use Rattle.std.proofs.Common.{◌≡◌, ◌⊎◌, inl, inr, ℕ, zero, suc, ◌+◌, ◌<◌, List, [], ◌∷◌, length, Option, Some, None, refl, ◌∙◌, arith, slice_get}
+use Rattle.std.proofs.Common.{◌≡◌, ◌⊎◌, inl, inr, ℕ, zero, suc, ◌+◌, ◌<◌, List, [], ◌∷◌, length, Option, Some, None, refl, sym, ap, subst, ◌∙◌, arith, slice_get}
 use Rattle.std.proofs.lemmas.Bool.{cases_lt}
 use Rattle.fx_tables.specs.declared.holder_name.HolderName.{HolderName}
 use Rattle.fx_tables.specs.declared.holder_name.HolderName.TheVariants.{Cache, Aggregation as AggregationOf}
-use Rattle.fx_tables.specs.Network.{Net, DeviceEntry, caches_of, processes_of, process_at, aggregations_of, held_at, holder_place}
+use Rattle.fx_tables.specs.Network.{Net, DeviceEntry, AggregationEntry, caches_of, processes_of, process_at, aggregations_of, held_at, holder_place}
 use Rattle.fx_base.specs.Entries.{entry_numbered}
-use Rattle.fx_steps.specs.Names.{NameAll, Keep, Note, device_of}
+use Rattle.fx_steps.specs.Names.{NameAll, IsNamed, Keep, Note, device_of}
 
 pub inside : {A : Type 0} (xs : List A) (k : ℕ) (x : A) → slice_get xs k ≡ Some x → k < length xs
 inside [] k x h = absurd (cc)
@@ -54,3 +54,39 @@ module _ (net : Net) where
   all_named names size h holder is =
       let d = device_there is.name holder is.named in
       h d.0 is.name d.2 d.1 holder is.named (let lt = is.there in omega arith)
+
+  -- ---- the holders of one device
+
+  nothing : (a holder : ℕ) → held_at (entry_numbered [] a) ≡ Some holder → ⊥
+  nothing zero holder b = absurd (cc)
+  nothing (suc a) holder b = absurd (cc)
+
+  held_inside : (xs : List AggregationEntry) (a holder : ℕ) → held_at (slice_get xs a) ≡ Some holder → a < length xs
+  held_inside [] a holder b = absurd (cc)
+  held_inside (x ∷ xs) zero holder b = omega arith
+  held_inside (x ∷ xs) (suc a) holder b = let lt = held_inside xs a holder b in omega arith
+
+  module _ (number : ℕ) (d : DeviceEntry) (here : entry_numbered net.devices number ≡ Some d) (new : List HolderName) where
+    cache_noted : ((k : ℕ) → k < length d.caches → Note net new (Cache number (suc k))) → (cache : ℕ) → Note net new (Cache number cache)
+    cache_noted caches zero holder at lt = absurd (cc)
+    cache_noted caches (suc k) holder at lt =
+        let among : slice_get d.caches k ≡ Some holder = ap (λ (o : Option DeviceEntry). slice_get (caches_of o) k) (sym here) ∙ at in
+        caches k (inside d.caches k holder among) holder at lt
+
+    aggregation_noted : ((p place a : ℕ) → slice_get d.processes p ≡ Some place → a < length (aggregations_of (slice_get net.processes place)) → Note net new (AggregationOf number (suc p) (suc a))) → (process a : ℕ) → Note net new (AggregationOf number process a)
+    aggregation_noted aggregations zero a holder at lt = absurd (nothing a holder at)
+    aggregation_noted aggregations (suc p) a holder at lt =
+        by (slice_get d.processes p) refl a at (subst (λ (o : Option DeviceEntry). held_at (entry_numbered (aggregations_of (process_at net.processes (slice_get (processes_of o) p))) a) ≡ Some holder) here at)
+      where
+        by : (o : Option ℕ) → slice_get d.processes p ≡ o → (b : ℕ) → holder_place net (AggregationOf number (suc p) b) ≡ Some holder → held_at (entry_numbered (aggregations_of (process_at net.processes o)) b) ≡ Some holder → IsNamed net new holder
+        by None e b at held = absurd (nothing b holder held)
+        by (Some place) e zero at held = absurd (cc)
+        by (Some place) e (suc b) at held =
+            aggregations p place b e (held_inside (aggregations_of (slice_get net.processes place)) b holder held) holder at lt
+
+  pub device_noted : (number : ℕ) (d : DeviceEntry) (mid new : List HolderName) → entry_numbered net.devices number ≡ Some d → Keep net mid new → ((k : ℕ) → k < length d.caches → Note net mid (Cache number (suc k))) → ((p place a : ℕ) → slice_get d.processes p ≡ Some place → a < length (aggregations_of (slice_get net.processes place)) → Note net new (AggregationOf number (suc p) (suc a))) → (name : HolderName) → device_of name ≡ number → Note net new name
+  device_noted number d mid new here kept caches aggregations (Cache device cache) e =
+      let kept_caches = λ (k : ℕ) (lt : k < length d.caches). note_kept mid new (Cache number (suc k)) kept (caches k lt) in
+      subst (λ m. Note net new (Cache m cache)) (sym e) (cache_noted number d here new kept_caches cache)
+  device_noted number d mid new here kept caches aggregations (AggregationOf device process a) e =
+      subst (λ m. Note net new (AggregationOf m process a)) (sym e) (aggregation_noted number d here new aggregations process a)

@@ -22,3 +22,4 @@ pub mod RunGoesOn
 pub mod RecordsBehind
 pub mod RunEnds
 pub mod Crossings
+pub mod LeastUnwanted

@@ -18,11 +18,7 @@ pub(crate) struct Waiting {
 fn zeros(alloc: Global, count: usize) -> Result<Vec<u64>, AllocError>
     ensures { IfOk result (λ zeros. zeros.items ≡ replicate count 0) }
 {
-    let mut zeros: Vec<u64> = Vec::with_capacity(alloc, count)?;
-    for _place in 0..count {
-        zeros.push(0)?;
-    }
-    Ok(zeros)
+    vec![in alloc; 0; count]
 }
 
 /// One more waits at this place.

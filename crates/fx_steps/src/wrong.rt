@@ -92,6 +92,35 @@ fn build(
     Ok(building.into_steps())
 }
 
+/// The steps of a run of this packet alone, on this path, that comes to the fate with as few steps as any, by names that
+/// are made for it.
+fn build_by_names(
+    alloc: Global,
+    costs: &PacketCosts<'_, '_>,
+    path: &[Crossing],
+    fate: Fate,
+) -> Result<Vec<Step>, AllocError>
+    requires tables { let c = costs.now in by_table.AreTables c.tables }
+    requires runnable { let c = costs.now in IsRunnable c.tables.net }
+    requires filled { let c = costs.now in under_way.HasCosts c.tables c.packet.fields c.table }
+    requires cheap { let c = costs.now in
+        by_fate.cost_of (tabled.path_costs c.table c.tables.net c.tables.numbering c.packet.fields
+        path.now) fate ≤ step_limit }
+    ensures number { let c = costs.now in
+        IfOk result (λ steps. length steps.items
+        ≡ by_fate.cost_of (tabled.path_costs c.table c.tables.net c.tables.numbering c.packet.fields
+        path.now) fate) }
+    ensures few { IfOk result (λ steps. length steps.items ≤ step_limit) }
+    ensures way { let c = costs.now in
+        IfOk result (λ steps. (classes : List traffic.Class)
+        → traffic.path classes c.packet ≡ path.now
+        → under_way.UnderWay c.tables.net c.tables.numbering classes c.packet [] fate steps.items
+        []) }
+{
+    let names = names_of(alloc, costs.net())?;
+    build(alloc, costs, names.as_slice(), path, fate)
+}
+
 /// The steps of a run of this packet alone that shows a wrong total, with as few steps as any outcome but the wanted one
 /// has; none where each of them would take more than 1,000,000. What is wanted is that the packet is counted once, or,
 /// where its class is exempt, never. The packet needn't be of its class: its path is that of its numbers.
@@ -116,20 +145,18 @@ pub fn wrong_run(
         (traffic.exempts (network.entry_numbered classes.now packet.now.class)))) }
     ensures err { IfErr result IsMemory }
 {
-    let net = tables.net();
     let path = classes.path_of(packet);
-    let mut rows = empty_rows(alloc, net.processes().len())?;
+    let mut rows = empty_rows(alloc, tables.net().processes().len())?;
     let told = least_steps(rows.as_mut_slice(), tables, packet, path);
     let fate = least_unwanted_fate(told, classes.exempts(packet));
     if cost_of(told, fate) >= OVER_LIMIT {
         return Ok(None);
     }
-    let names = names_of(alloc, net)?;
     let costs = PacketCosts {
         tables: &*tables,
         packet: &*packet,
         rows: rows.as_slice(),
     };
-    let steps = build(alloc, &costs, names.as_slice(), path, fate)?;
+    let steps = build_by_names(alloc, &costs, path, fate)?;
     Ok(Some(steps))
 }

@@ -1,4 +1,4 @@
-use Rattle.std.proofs.Common.{◌≡◌, ◌+◌, ◌≤◌, ◌∙◌, suc, List, [], ◌∷◌, length, drop, Some, ap, sym, subst, arith, add-one}
+use Rattle.std.proofs.Common.{◌≡◌, ◌+◌, ◌≤◌, ◌∙◌, ℕ, suc, List, [], ◌∷◌, length, drop, Some, refl, ap, sym, subst, arith, add-one}
 use Rattle.std.proofs.Math.ListN.{drop_of_length-le}
 use Rattle.std.proofs.lemmas.Option.{slice_get-get_or}
 use Rattle.fx_tables.specs.Classes.{path}
@@ -8,8 +8,10 @@ use Rattle.fx_tables.specs.declared.traffic.Crossing.{Crossing}
 use Rattle.fx_machine.specs.Limits.{step_limit}
 use Rattle.fx_run_text.specs.declared.step.Step.{Step}
 use Rattle.fx_leaf.specs.declared.verdict.Fate.{Fate}
+use Rattle.fx_leaf.specs.declared.verdict.Fate.TheVariants.{Never}
 use Rattle.fx_leaf.specs.Fates.{both}
 use Rattle.fx_leaf.proofs.Verdicts.{both_never}
+use Rattle.fx_steps.specs.declared.costs.Costs.{Costs}
 use Rattle.fx_steps.specs.Costs.{cost_of, costs_of_never}
 use Rattle.fx_steps.specs.CostTables.{path_costs}
 use Rattle.fx_steps.specs.UnderWay.{UnderWay}
@@ -50,37 +52,51 @@ loop-number-preserved c =
           (made.0, made.1 ∙ way.1, subst (λ m. UnderWay net n classes p (crossings_from 1 (suc m) (drop (k + 1) xs)) made.0 new.steps.items []) (sym (add-one k)) made.2),
     )
 
+pub make_crossing-requires-clause-cheap : goal.make_crossing-requires-clause-cheap
+make_crossing-requires-clause-cheap c =
+    let rows = c.args.costs.now.table in
+    let tables = c.args.costs.now.tables in
+    let xs = c.args.path.now in
+    let k = c.loop-number.number in
+    let made = length c.loop-number.building.steps.items in
+    let left = c.loop-number.left in
+    let crossing = c.index-path-number.result in
+    let costs : List Crossing → Costs = path_costs rows tables.net tables.numbering c.args.costs.now.packet.fields in
+    let here : drop k xs ≡ crossing ∷ drop (k + 1) xs = drop_next k xs crossing c.loop-number-test.true ∙ ap (λ (x : Crossing). x ∷ drop (k + 1) xs) (sym c.index-path-number.is) in
+    subst (λ (cs : List Crossing). made + cost_of (costs cs) left ≤ step_limit) (here ∙ ap (λ (cs : List Crossing). crossing ∷ cs) (sym (rest_is (k + 1) xs))) (subst (λ m. m ≤ step_limit) (sym c.loop-number.invariant.2) c.requires.cheap)
+
+-- where no crossing is left, what was to be met is met
+module _ (costs : List Crossing → Costs) (never : costs [] ≡ costs_of_never) (xs : List Crossing) (k made : ℕ) (left fate : Fate) (past : length xs ≤ k) (so_far : made + cost_of (costs (drop k xs)) left ≡ cost_of (costs xs) fate) (cheap : cost_of (costs xs) fate ≤ step_limit) where
+  end : drop k xs ≡ []
+  end = drop_of_length-le xs past
+
+  all : made + cost_of costs_of_never left ≡ cost_of (costs xs) fate
+  all = ap (λ (c : Costs). made + cost_of c left) (sym (ap costs end ∙ never)) ∙ so_far
+
+  nothing_left : (left ≡ Never) × (cost_of costs_of_never left ≡ 0)
+  nothing_left = let e = all in alone left (omega arith)
+
+  number : made ≡ cost_of (costs xs) fate
+  number = let e = all in let none = nothing_left.1 in omega arith
+
 pub returns-clause-number : goal.returns-clause-number
 returns-clause-number c =
-    let net = c.args.costs.now.tables.net in
-    let n = c.args.costs.now.tables.numbering in
-    let p = c.args.costs.now.packet in
-    let rows = c.args.costs.now.table in
-    let xs = c.args.path.now in
-    let left = c.loop-number.left in
-    let end : drop c.loop-number.number xs ≡ [] = drop_of_length-le xs (omega (arith, c.loop-number-test.false, c.loop-number.auto.number-end)) in
-    let all : length c.loop-number.building.steps.items + cost_of costs_of_never left ≡ cost_of (path_costs rows net n p.fields xs) c.args.fate =
-    ap (λ (cs : List Crossing). length c.loop-number.building.steps.items + cost_of (path_costs rows net n p.fields cs) left) (sym end) ∙ c.loop-number.invariant.2 in
-    let small : cost_of costs_of_never left ≤ step_limit = omega (arith, all, c.requires.cheap) in
-    omega (arith, ap length c.into_steps.ensures, all, (alone left small).1)
+    let tables = c.args.costs.now.tables in
+    ap length c.into_steps.ensures ∙ number (path_costs c.args.costs.now.table tables.net tables.numbering c.args.costs.now.packet.fields) refl c.args.path.now c.loop-number.number (length c.loop-number.building.steps.items) c.loop-number.left c.args.fate c.loop-number-test.false c.loop-number.invariant.2 c.requires.cheap
 
 pub returns-clause-few : goal.returns-clause-few
-returns-clause-few c = omega (arith, returns-clause-number c, c.requires.cheap)
+returns-clause-few c = subst (λ m. m ≤ step_limit) (sym (returns-clause-number c)) c.requires.cheap
 
 pub returns-clause-way : goal.returns-clause-way
 returns-clause-way c classes same =
     let net = c.args.costs.now.tables.net in
     let n = c.args.costs.now.tables.numbering in
     let p = c.args.costs.now.packet in
-    let rows = c.args.costs.now.table in
     let xs = c.args.path.now in
     let left = c.loop-number.left in
     let steps = c.loop-number.building.steps.items in
     let way = c.loop-number.invariant.3 classes same in
-    let end : drop c.loop-number.number xs ≡ [] = drop_of_length-le xs (omega (arith, c.loop-number-test.false, c.loop-number.auto.number-end)) in
-    let all : length steps + cost_of costs_of_never left ≡ cost_of (path_costs rows net n p.fields xs) c.args.fate =
-    ap (λ (cs : List Crossing). length steps + cost_of (path_costs rows net n p.fields cs) left) (sym end) ∙ c.loop-number.invariant.2 in
-    let small : cost_of costs_of_never left ≤ step_limit = omega (arith, all, c.requires.cheap) in
-    let fate : way.0 ≡ c.args.fate = sym (both_never way.0) ∙ ap (both way.0) (sym (alone left small).0) ∙ way.1 in
-    let made = subst (λ (cs : List Crossing). UnderWay net n classes p (crossings_from 1 (suc c.loop-number.number) cs) way.0 steps []) end way.2 in
+    let none = nothing_left (path_costs c.args.costs.now.table net n p.fields) refl xs c.loop-number.number (length steps) left c.args.fate c.loop-number-test.false c.loop-number.invariant.2 c.requires.cheap in
+    let fate : way.0 ≡ c.args.fate = sym (both_never way.0) ∙ ap (both way.0) (sym none.0) ∙ way.1 in
+    let made = subst (λ (cs : List Coming). UnderWay net n classes p cs way.0 steps []) (ap (crossings_from 1 (suc c.loop-number.number)) (drop_of_length-le xs c.loop-number-test.false)) way.2 in
     subst (λ (ss : List Step). UnderWay net n classes p [] c.args.fate ss []) (sym c.into_steps.ensures) (subst (λ (f : Fate). UnderWay net n classes p [] f steps []) fate made)
