@@ -26,3 +26,4 @@ pub mod PathSplits
 pub mod JudgementsHold
 pub mod MarksAreClosed
 pub mod SteadyTables
+pub mod CausesAt
