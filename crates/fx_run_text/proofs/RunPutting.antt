@@ -65,6 +65,9 @@ pub field_put : (a : Axis) (v bits n : ℕ) → bits ≡ axis_width a → n ≡ 
 field_put a v bits n b same =
     ap (λ (x : List ℕ). 32 ∷ x) (append-nil (value_text a v) ∙ sym (whole_value a v) ∙ ap (λ k. leading_text a k v) (sym b) ∙ ap (leading_text a bits) (sym same))
 
+pub cache_put : (device cache : ℕ) → spaced_words (holder_words (holders.Cache device cache)) ≡ codes " cache" ++ (spaced_words (decimal device ∷ []) ++ spaced_words (decimal cache ∷ []))
+cache_put device cache = ap (λ (x : List ℕ). codes " cache" ++ x) (spaced_both (decimal device ∷ []) (decimal cache ∷ []))
+
 pub aggregation_put : (device process aggregation : ℕ) → spaced_words (holder_words (holders.Aggregation device process aggregation)) ≡ codes " aggregation" ++ (spaced_words (decimal device ∷ []) ++ (spaced_words (decimal process ∷ []) ++ spaced_words (decimal aggregation ∷ [])))
 aggregation_put device process aggregation =
     ap (λ (x : List ℕ). codes " aggregation" ++ x) (
@@ -106,6 +109,9 @@ expire_put holder position choices =
 pub writes_2 : {A E : Type 0} (r : Result A E) (t u v : Option (List ℕ)) (a b all : List ℕ) → Writes t u a → OnOk r (Writes u v b) → all ≡ a ++ b → OnOk r (Writes t v all)
 writes_2 (Ok x) t u v a b all h k e = writes_both t u v a b all h k (sym e)
 writes_2 (Err x) t u v a b all h k e = tt
+
+pub writes_3 : {A E : Type 0} (r : Result A E) (t u v w : Option (List ℕ)) (a b c all : List ℕ) → Writes t u a → Writes u v b → OnOk r (Writes v w c) → all ≡ a ++ (b ++ c) → OnOk r (Writes t w all)
+writes_3 r t u v w a b c all h k l e = writes_2 r t u w a (b ++ c) all h (writes_2 r u v w b c (b ++ c) k l refl) e
 
 pub writes_4 : {A E : Type 0} (r : Result A E) (t u v w x : Option (List ℕ)) (a b c d all : List ℕ) → Writes t u a → Writes u v b → Writes v w c → OnOk r (Writes w x d) → all ≡ a ++ (b ++ (c ++ d)) → OnOk r (Writes t x all)
 writes_4 r t u v w x a b c d all h k l m e =
