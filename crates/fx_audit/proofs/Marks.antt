@@ -1,5 +1,5 @@
 -- Lines `%%` in octets.
-use Rattle.std.proofs.Common.{◌≡◌, ℕ, ◌+◌, ◌<◌, ◌≤◌, Bool, true, false, ◌&&◌, List, [], ◌∷◌, ◌++◌, length, take, drop, slice_index, refl, sym, ap, ◌∙◌, subst, arith, ◌⊎◌, inl, inr}
+use Rattle.std.proofs.Common.{◌≡◌, ℕ, ◌+◌, ◌<◌, ◌≤◌, Bool, true, false, ◌&&◌, ◌==◌, List, [], ◌∷◌, ◌++◌, length, take, drop, slice_index, eqb-true, refl, sym, ap, ◌∙◌, subst, arith, ◌⊎◌, inl, inr}
 use Rattle.std.proofs.lemmas.List.{length-drop, length-take, length-take-le, take-append-drop}
 use Rattle.std.proofs.Math.Seq.{drop-drop}
 use Rattle.std.proofs.lemmas.Slice.Eq.{bytes_eq-Decides}
@@ -113,6 +113,11 @@ no_third_text Check bytes text rest has none f = no_text bytes text rest none f
 no_third_text Confirm bytes text rest has none f = no_text bytes text rest none f
 no_third_text Audit bytes text rest has none f = has refl
 
+pub no_network : (bytes r0 n t h : List ℕ) (a b : Command) → bytes ≡ command_line a ++ r0 → HasNoMark r0 → IsBundle bytes b n t h → ⊥
+no_network bytes r0 n t h a b line none i =
+    let same = one_command b a _ _ (sym i.line ∙ line) in
+    no_text r0 n i.behind_network none (subst (λ (bs : List ℕ). FirstText bs n i.behind_network) same.1 i.first)
+
 pub behind_network : (bytes r0 r1 network n t h : List ℕ) (a b : Command) → bytes ≡ command_line a ++ r0 → FirstText r0 network r1 → IsBundle bytes b n t h → (r2 : List ℕ) × FirstText r1 t r2 × ThirdText a r2 h []
 behind_network bytes r0 r1 network n t h a b line f i =
     let same = one_command b a _ _ (sym i.line ∙ line) in
@@ -138,3 +143,9 @@ no_third bytes r0 r1 r2 network traffic n t h a b line f g none i =
 pub nothing_behind : (bytes r0 r1 r2 r3 network traffic third n t h : List ℕ) (a b : Command) → bytes ≡ command_line a ++ r0 → FirstText r0 network r1 → FirstText r1 traffic r2 → ThirdText a r2 third r3 → IsBundle bytes b n t h → r3 ≡ []
 nothing_behind bytes r0 r1 r2 r3 network traffic third n t h a b line f g k i =
     one_rest a r2 third h r3 [] k (behind_traffic bytes r0 r1 r2 network traffic n t h a b line f g i)
+
+-- the texts of a bundle, behind the last of which there is nothing
+pub bundle_of : (bytes r0 r1 r2 r3 network traffic third : List ℕ) (a : Command) → bytes ≡ command_line a ++ r0 → FirstText r0 network r1 → FirstText r1 traffic r2 → ThirdText a r2 third r3 → (length r3 == 0) ≡ true → IsBundle bytes a network traffic third
+bundle_of bytes r0 r1 r2 [] network traffic third a line f g k none = record { behind_command = r0; behind_network = r1; behind_traffic = r2; line = line; first = f; second = g; last = k }
+bundle_of bytes r0 r1 r2 (x ∷ xs) network traffic third a line f g k none =
+    let same : length (x ∷ xs) ≡ 0 = eqb-true _ _ none in absurd (omega (arith, same))

@@ -7,13 +7,17 @@ use Rattle.fx_base.proofs.Reading.{read_more}
 use Rattle.fx_base.proofs.Writing.{writes_both}
 use Rattle.fx_base.specs.Device.{MayBeLeft, MayHaveLeft, Writes}
 use Rattle.fx_base.specs.declared.fault.Fault.{Fault}
+use Rattle.fx_base.specs.declared.fault.Place.TheVariants as places
+use Rattle.fx_base.specs.Fault.{fault_at}
+use Rattle.fx_base.specs.Refusals.{message_length}
 use Rattle.fx_tables.specs.declared.record.Record.{Record}
 use Rattle.fx_collect.specs.Report.{number_line}
 use Rattle.fx_collect.specs.Totals.{Totals, with_record, with_records}
 use Rattle.fx_session.proofs.InFront.{after_piece-behind}
 use Rattle.fx_session.proofs.StreamSteps.{all_none, after_piece-off, pieces}
 use Rattle.fx_session.specs.Streams.{SessionState, answer_of, behind, after_piece, start, without_waiting}
-use Rattle.fx_audit.specs.Streams.{IsTallied, stream_read}
+use Rattle.fx_audit.specs.Outputs.{Prints}
+use Rattle.fx_audit.specs.Streams.{EndsWithMessage, IsRefusedStream, IsTallied, IsTotalsText, stream_read}
 
 -- ---- piece after piece
 
@@ -106,6 +110,25 @@ pub piece_refused : (all left left' : Option (List ℕ)) (before totals : Totals
     → M ⊎ (answer_of (after_piece session piece).place (after_piece session piece).fault ≡ Err e) → M ⊎ (F ⊎ MayHaveLeft all (λ octets. answer_of (stream_read octets).place (stream_read octets).fault ≡ Err e))
 piece_refused all left left' before totals session calls piece e M F h reads refused =
     elim refused [ inl m ↦ inl m | inr r ↦ inr (inr (read_refused all left left' before totals session calls piece e h reads r)) ]
+
+-- ---- where the stream ends
+
+none_in : (xs : List ℕ) → length xs ≤ 0 → xs ≡ []
+none_in [] le = refl
+none_in (x ∷ xs) le = absurd (omega arith)
+
+pub collected : (left a b : Option (List ℕ)) (before totals : Totals) (session : SessionState) → MayHaveLeft left (λ octets. IsTallied octets before session totals) → length session.rest ≤ 0 → Prints (IsTotalsText totals session.known.gaps session.known.skipped) a b
+    → MayHaveLeft left (λ octets. EndsWithMessage (stream_read octets) × Prints (IsTotalsText (with_records before (stream_read octets).known.waiting) (stream_read octets).known.gaps (stream_read octets).known.skipped) a b)
+collected left a b before totals session (octets, may, t) le (text, is, written) =
+    let read = stream_read octets in
+    let rest = sym (ap (λ (s : SessionState). s.rest) t.session_is) ∙ none_in session.rest le in
+    let text_is = subst (λ (s : SessionState). IsTotalsText (with_records before read.known.waiting) s.known.gaps s.known.skipped text) t.session_is (subst (λ (x : Totals). IsTotalsText x session.known.gaps session.known.skipped text) t.totals_are is) in
+    (octets, may, ((t.faultless, rest), (text, text_is, written)))
+
+pub cut_short : (left : Option (List ℕ)) (before totals : Totals) (session : SessionState) (e : Fault) → MayHaveLeft left (λ octets. IsTallied octets before session totals) → 1 ≤ length session.rest → e ≡ fault_at message_length (places.Octet session.place) → MayHaveLeft left (λ octets. IsRefusedStream (stream_read octets) e)
+cut_short left before totals session e (octets, may, t) some is =
+    let rest = ap (λ (s : SessionState). length s.rest) t.session_is in
+    (octets, may, inr (t.faultless, λ none. absurd (omega (arith, some, rest, ap length none)), is ∙ ap (λ (s : SessionState). fault_at message_length (places.Octet s.place)) t.session_is))
 
 -- ---- what is written
 

@@ -87,6 +87,55 @@ fn put_collected<S: Sink>(session: &Session, totals: &mut Totals, sink: &mut S) 
     put_number_line(sink, b"skipped ", session.skipped())
 }
 
+/// Reads a stream to its end, tallies its records, and writes what was collected.
+fn collect_by<R: Source, S: Sink>(
+    session: &mut Session,
+    totals: &mut Totals,
+    stream: &mut R,
+    sink: &mut S,
+) -> Result<Answer, Fault>
+    requires { session.old ≡ streams.start }
+    ensures ok { IfOk result (λ answer. (answer ≡ Yes)
+        × MayHaveLeft (R.left stream.old) (λ octets. EndsWithMessage (stream_read octets)
+        × Prints (IsTotalsText (with_records totals.old (stream_read octets).known.waiting)
+        (stream_read octets).known.gaps (stream_read octets).known.skipped)
+        (S.taken sink.old) (S.taken sink.new))) }
+    ensures err { IfErr result (λ e. IsMemory e
+        ⊎ (CannotRead R.left R.calls R.failed stream.old stream.new e
+        ⊎ (IsWriteFault (S.failed sink.new) e
+        ⊎ MayHaveLeft (R.left stream.old) (λ octets. IsRefusedStream (stream_read octets) e)))) }
+    ensures answers { AnswersWith S.taken S.failed IsCollectText sink.old sink.new result }
+{
+    tally_stream(session, totals, stream)?;
+    if session.left() > 0 {
+        return Err(Fault::at_octet(refusals::MESSAGE_LENGTH, session.place()));
+    }
+    put_collected(session, totals, sink)?;
+    Ok(Answer::Yes)
+}
+
+/// Collects a stream into totals, and writes them.
+fn collect_into<R: Source, S: Sink>(
+    alloc: Global,
+    totals: &mut Totals,
+    stream: &mut R,
+    sink: &mut S,
+) -> Result<Answer, Fault>
+    ensures ok { IfOk result (λ answer. (answer ≡ Yes)
+        × MayHaveLeft (R.left stream.old) (λ octets. EndsWithMessage (stream_read octets)
+        × Prints (IsTotalsText (with_records totals.old (stream_read octets).known.waiting)
+        (stream_read octets).known.gaps (stream_read octets).known.skipped)
+        (S.taken sink.old) (S.taken sink.new))) }
+    ensures err { IfErr result (λ e. IsMemory e
+        ⊎ (CannotRead R.left R.calls R.failed stream.old stream.new e
+        ⊎ (IsWriteFault (S.failed sink.new) e
+        ⊎ MayHaveLeft (R.left stream.old) (λ octets. IsRefusedStream (stream_read octets) e)))) }
+    ensures answers { AnswersWith S.taken S.failed IsCollectText sink.old sink.new result }
+{
+    let mut session = Session::new(alloc)?;
+    collect_by(&mut session, totals, stream, sink)
+}
+
 /// Tallies the flow records of an IPFIX stream under the keys of a network's report, and writes the totals and the
 /// numbers of gaps and of skipped records. The stream is read in pieces; of what was read, its templates, the
 /// unfinished message and the totals are kept, which hash keys by the seed.
@@ -112,12 +161,6 @@ pub fn collect<R: Source, S: Sink>(
         ⊎ MayHaveLeft (R.left stream.old) (λ octets. IsRefusedStream (stream_read octets) e)))) }
     ensures answers { AnswersWith S.taken S.failed IsCollectText sink.old sink.new result }
 {
-    let mut session = Session::new(alloc)?;
     let mut totals = Totals::new(alloc, seed, net.report_layout().copy())?;
-    tally_stream(&mut session, &mut totals, stream)?;
-    if session.left() > 0 {
-        return Err(Fault::at_octet(refusals::MESSAGE_LENGTH, session.place()));
-    }
-    put_collected(&session, &mut totals, sink)?;
-    Ok(Answer::Yes)
+    collect_into(alloc, &mut totals, stream, sink)
 }

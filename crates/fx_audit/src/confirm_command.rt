@@ -1,13 +1,16 @@
 //! The command that confirms a refutation, from octets to octets.
-ghost use Rattle.std.specs.Prelude.{◌≡◌, ◌⊎◌, IfOk, IfErr};
-ghost use Rattle.fx_base.specs.Device.{IsWriteFault, PutsText};
+ghost use Rattle.std.specs.Prelude.{◌≡◌, ◌⊎◌, Ok, IfOk, IfErr, OnOk};
+ghost use Rattle.fx_base.specs.Device.{IsWriteFault, PutsText, Writes};
 ghost use Rattle.fx_base.specs.Fault.{IsMemory};
 ghost use Rattle.fx_base.specs.Lines.{Fails};
 ghost use Rattle.fx_collect.specs.Report.{KeysAscend};
+ghost use Rattle.fx_plan.specs.Tables.{net_of};
+ghost use Rattle.fx_refute.specs.RefutationReading.{MayReadRefutation};
+ghost use Rattle.fx_refute.specs.Refutations.{AreTotals, Refutation, Refutes};
 ghost use Rattle.fx_audit.specs.Commands.{IsConfirmed, IsRefusedConfirm};
-ghost use Rattle.fx_audit.specs.Confirms.{IsConfirmedIn, IsRefusedOtherwise, IsRefusedRefutation, IsRefuted, refuted_text};
+ghost use Rattle.fx_audit.specs.Confirms.{IsConfirmedIn, IsInOrder, IsRefusedOtherwise, IsRefusedRefutation, IsRefuted, refuted_text};
 ghost use Rattle.fx_audit.specs.Documents.{BothMayHaveLeft, CannotRead, IfDocumentsRefused, IfNetworkRefused};
-ghost use Rattle.fx_audit.specs.Outputs.{AnswersWith, FailsBy, Prints};
+ghost use Rattle.fx_audit.specs.Outputs.{AnswersWith, FailsBy, FailsQuietly, Prints};
 ghost use Rattle.fx_audit.specs.Texts.{IsConfirmText};
 ghost use Rattle.fx_audit.specs.declared.answer.Answer.TheVariants.{Yes, No};
 
@@ -17,6 +20,35 @@ use fx_base::{Fault, LineReader, Sink, Source, put_text, refusals};
 use fx_collect::Totals;
 use fx_refute::{confirm, read_refutation};
 use std::alloc::Global;
+
+/// The totals of the run of the refutation that a reader's lines say, and the plain sums over its packet.
+fn confirm_text<C: Source>(
+    alloc: Global,
+    documents: &Documents,
+    refutation: &mut LineReader<C>,
+) -> Result<(Totals, Totals), Fault>
+    ensures ok { IfOk result (λ t. (said : Refutation)
+        × MayReadRefutation refutation.old (Ok said)
+        × Refutes (net_of documents.now.plan) documents.now.traffic said
+        × AreTotals (net_of documents.now.plan) documents.now.traffic said t.0 t.1) }
+    ensures err { IfErr result (λ e. IsMemory e
+        ⊎ (Fails refutation.old refutation.new e
+        ⊎ IsRefusedRefutation documents.now.plan documents.now.traffic refutation.old e)) }
+{
+    let said = read_refutation(alloc, refutation)?;
+    confirm(alloc, &documents.plan, &documents.traffic, &said)
+}
+
+/// Puts the keys of both totals in ascending order.
+fn sort_both(ran: &mut Totals, plain: &mut Totals) -> Result<(), Fault>
+    ensures ran { OnOk result (IsInOrder ran.old ran.new) }
+    ensures plain { OnOk result (IsInOrder plain.old plain.new) }
+    ensures err { IfErr result IsMemory }
+{
+    ran.sort()?;
+    plain.sort()?;
+    Ok(())
+}
 
 /// The totals of the run of the refutation that a reader's lines say, and the plain sums over its packet, both with
 /// their keys in ascending order.
@@ -31,10 +63,8 @@ fn totals_of_refutation<C: Source>(
         ⊎ (Fails refutation.old refutation.new e
         ⊎ IsRefusedRefutation documents.now.plan documents.now.traffic refutation.old e)) }
 {
-    let said = read_refutation(alloc, refutation)?;
-    let (mut ran, mut plain) = confirm(alloc, &documents.plan, &documents.traffic, &said)?;
-    ran.sort()?;
-    plain.sort()?;
+    let (mut ran, mut plain) = confirm_text(alloc, documents, refutation)?;
+    sort_both(&mut ran, &mut plain)?;
     Ok((ran, plain))
 }
 
@@ -48,6 +78,19 @@ fn put_refuted<S: Sink>(sink: &mut S, ran: &Totals, plain: &Totals) -> Result<()
     ran.put_report(sink)?;
     put_text(sink, b"plain\n")?;
     plain.put_report(sink)
+}
+
+/// Answers yes, with the totals of a refuting run and the plain sums.
+fn answer_refuted<S: Sink>(sink: &mut S, ran: &Totals, plain: &Totals) -> Result<Answer, Fault>
+    requires ran { KeysAscend ran.now.entries }
+    requires plain { KeysAscend plain.now.entries }
+    ensures ok { IfOk result (λ answer. (answer ≡ Yes)
+        × Writes (S.taken sink.old) (S.taken sink.new) (refuted_text ran.now plain.now)) }
+    ensures err { IfErr result (IsWriteFault (S.failed sink.new)) }
+    ensures quiet { FailsQuietly S.failed sink.old sink.new result }
+{
+    put_refuted(sink, ran, plain)?;
+    Ok(Answer::Yes)
 }
 
 /// Confirms the refutation that a reader's lines say, and writes the answer.
@@ -67,10 +110,7 @@ fn confirm_lines<C: Source, S: Sink>(
         ⊎ IsRefusedOtherwise documents.now.plan documents.now.traffic refutation.old e))) }
 {
     match totals_of_refutation(alloc, documents, refutation) {
-        Ok((ran, plain)) => {
-            put_refuted(sink, &ran, &plain)?;
-            Ok(Answer::Yes)
-        }
+        Ok((ran, plain)) => answer_refuted(sink, &ran, &plain),
         Err(fault) => answer_refusal(
             sink,
             fault,

@@ -1,5 +1,5 @@
 //! A run replayed over the tables of a network.
-ghost use Rattle.std.specs.Prelude.{◌≡◌, ◌⊎◌, None, Some, Ok, Err, OnOk, IfOk, IfErr, IfSome};
+ghost use Rattle.std.specs.Prelude.{◌≡◌, ◌⊎◌, ◌++◌, None, Some, Ok, Err, OnOk, IfOk, IfErr, IfSome};
 ghost use Rattle.fx_base.specs.Device.{IsWriteFault, PutsText};
 ghost use Rattle.fx_base.specs.Fault.{IsMemory};
 ghost use Rattle.fx_base.specs.Lines.{Fails};
@@ -7,7 +7,9 @@ ghost use Rattle.fx_base.specs.declared.fault.Place.TheVariants as places;
 ghost use Rattle.fx_base.specs.Refusals.{want_of_memory};
 ghost use Rattle.fx_machine.specs.States as states;
 ghost use Rattle.fx_machine.specs.Steps as stepping;
-ghost use Rattle.fx_collect.specs.Totals.{totals_of, totals_in};
+ghost use Rattle.fx_collect.specs.Totals.{Totals, totals_of, totals_in};
+ghost use Rattle.fx_collect.specs.Report.{totals_text};
+ghost use Rattle.fx_audit.specs.Confirms.{IsInOrder};
 ghost use Rattle.fx_audit.specs.Outputs.{FailsQuietly, Prints};
 ghost use Rattle.fx_audit.specs.Replay.{complete_line, CannotReplay, ComesTo, IsTextOf};
 ghost use Rattle.fx_audit.specs.declared.answer.Answer.TheVariants.{Yes};
@@ -94,6 +96,20 @@ fn put_complete<S: Sink>(sink: &mut S, complete: bool) -> Result<(), Fault>
     }
 }
 
+/// Writes totals with their keys in ascending order, and whether the run that came to them is complete.
+fn put_totals<S: Sink>(totals: &mut Totals, complete: bool, sink: &mut S) -> Result<(), Fault>
+    ensures ok { OnOk result (Prints (λ text. (sorted : Totals)
+        × IsInOrder totals.old sorted × (text ≡ totals_text sorted ++ complete_line complete))
+        (S.taken sink.old) (S.taken sink.new)) }
+    ensures err { IfErr result (λ e. IsMemory e
+        ⊎ IsWriteFault (S.failed sink.new) e) }
+    ensures quiet { FailsQuietly S.failed sink.old sink.new result }
+{
+    totals.sort()?;
+    totals.put_report(sink)?;
+    put_complete(sink, complete)
+}
+
 /// Writes the text of a state that a run has come to: the totals of its report with their keys in ascending order,
 /// and whether it is complete. Nothing is written before all that takes memory is done.
 ///
@@ -113,9 +129,7 @@ fn put_state<S: Sink>(
     ensures quiet { FailsQuietly S.failed sink.old sink.new result }
 {
     let mut totals = Totals::of(alloc, seed, state)?;
-    totals.sort()?;
-    totals.put_report(sink)?;
-    put_complete(sink, state.complete())
+    put_totals(&mut totals, state.complete(), sink)
 }
 
 /// Replays the run that the lines say over the tables of a network, and writes the collector's totals in its last

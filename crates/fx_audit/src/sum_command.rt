@@ -3,9 +3,10 @@ ghost use Rattle.std.specs.Prelude.{◌≡◌, ◌⊎◌, IfOk, IfErr};
 ghost use Rattle.fx_base.specs.Device.{IsWriteFault, MayHaveLeft};
 ghost use Rattle.fx_base.specs.Fault.{IsMemory};
 ghost use Rattle.fx_base.specs.Lines.{Fails};
+ghost use Rattle.fx_sums.specs.Sums.{no_sum};
 ghost use Rattle.fx_audit.specs.Documents.{CannotRead, IfNetworkRefused};
 ghost use Rattle.fx_audit.specs.Outputs.{AnswersWith, FailsQuietly, Prints};
-ghost use Rattle.fx_audit.specs.Sums.{IsRefusedSum, IsRefusedTotals, IsSummed, IsSummedUnder};
+ghost use Rattle.fx_audit.specs.Sums.{IsRefusedSum, IsRefusedTotals, IsSummed, IsSummedUnder, IsTextOfSum};
 ghost use Rattle.fx_audit.specs.Texts.{IsSumText};
 ghost use Rattle.fx_audit.specs.declared.answer.Answer.TheVariants.{Yes};
 
@@ -15,6 +16,39 @@ use fx_base::{Fault, LineReader, Sink, Source};
 use fx_layout::{Layout, Seed};
 use fx_sums::Sum;
 use std::alloc::Global;
+
+/// Writes a sum with its keys in ascending order.
+fn put_sum<S: Sink>(sum: &mut Sum, sink: &mut S) -> Result<Answer, Fault>
+    ensures ok { IfOk result (λ answer. (answer ≡ Yes)
+        × Prints (IsTextOfSum sum.old) (S.taken sink.old) (S.taken sink.new)) }
+    ensures err { IfErr result (λ e. IsMemory e
+        ⊎ IsWriteFault (S.failed sink.new) e) }
+    ensures quiet { FailsQuietly S.failed sink.old sink.new result }
+{
+    sum.sort()?;
+    sum.put_text(sink)?;
+    Ok(Answer::Yes)
+}
+
+/// Adds the texts of totals that a reader's lines say to a sum of none, and writes what they come to.
+fn sum_into<R: Source, S: Sink>(
+    sum: &mut Sum,
+    texts: &mut LineReader<R>,
+    sink: &mut S,
+) -> Result<Answer, Fault>
+    requires { sum.old ≡ no_sum sum.old.totals.layout }
+    ensures ok { IfOk result (λ answer. (answer ≡ Yes)
+        × Prints (IsSummedUnder sum.old.totals.layout texts.old)
+        (S.taken sink.old) (S.taken sink.new)) }
+    ensures err { IfErr result (λ e. IsMemory e
+        ⊎ (Fails texts.old texts.new e
+        ⊎ (IsWriteFault (S.failed sink.new) e
+        ⊎ IsRefusedTotals sum.old.totals.layout texts.old e))) }
+    ensures quiet { FailsQuietly S.failed sink.old sink.new result }
+{
+    sum.add_texts(texts)?;
+    put_sum(sum, sink)
+}
 
 /// Adds up the texts of totals under a layout's keys that a reader's lines say, and writes the sum.
 fn sum_lines<R: Source, S: Sink>(
@@ -33,10 +67,7 @@ fn sum_lines<R: Source, S: Sink>(
     ensures quiet { FailsQuietly S.failed sink.old sink.new result }
 {
     let mut sum = Sum::new(alloc, seed, layout.copy())?;
-    sum.add_texts(texts)?;
-    sum.sort()?;
-    sum.put_text(sink)?;
-    Ok(Answer::Yes)
+    sum_into(&mut sum, texts, sink)
 }
 
 /// Reads a network document, adds up texts of totals under the key of its report, one or more, one directly behind

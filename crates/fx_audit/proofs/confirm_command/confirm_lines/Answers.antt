@@ -1,7 +1,11 @@
 use Rattle.fx_audit.specs.Confirms.{IsRefusedRefutation}
-use Rattle.fx_audit.proofs.Confirms.{refutation_answered}
+use Rattle.fx_audit.proofs.Confirms.{refutation_answered, refuted_answered}
 use Rattle.fx_audit.proofs.Refusals.{refused_otherwise}
 use Rattle.fx_audit.proofs.confirm_command.confirm_lines.Goals as goal
+
+pub returns-in-Ok-clause-answers : goal.returns-in-Ok-clause-answers
+returns-in-Ok-clause-answers g c =
+    (refuted_answered c.args.documents.now.plan c.args.documents.now.traffic c.args.refutation.now c.in-Ok.ran c.in-Ok.plain _ _ c.answer_refuted.result c.in-Ok.ensures.ok c.answer_refuted.ensures.ok, c.answer_refuted.ensures.quiet)
 
 pub returns-in-Err-clause-answers : goal.returns-in-Err-clause-answers
 returns-in-Err-clause-answers g c =

@@ -1,26 +1,35 @@
--- The text is that of the sorted totals and the line behind it.
-use Rattle.std.proofs.Common.{◌≡◌, ℕ, List, ◌++◌, ◌∙◌, refl, ap, subst, IsPermutation}
-use Rattle.indexmap.proofs.MapLemmas.{OnOk-map}
-use Rattle.fx_base.specs.Device.{Writes}
-use Rattle.fx_base.proofs.Writing.{writes_both}
+-- The text is that of the state's totals and the line behind it.
+use Rattle.std.proofs.Common.{◌≡◌, ◌∙◌, ℕ, Bool, List, Option, ◌++◌, ap, subst, IsPermutation}
+use Rattle.std.specs.Prelude.{◌↔◌, IsTrue}
+use Rattle.std.proofs.lemmas.Result.{on_ok_weaker}
+use Rattle.fx_layout.specs.Keys.{Layout}
+use Rattle.fx_machine.specs.States.{State, Complete}
 use Rattle.fx_collect.specs.Totals.{Totals, totals_in}
 use Rattle.fx_collect.specs.Report.{totals_text}
+use Rattle.fx_audit.specs.Confirms.{IsInOrder}
+use Rattle.fx_audit.specs.Outputs.{Prints}
 use Rattle.fx_audit.specs.Replay.{complete_line, IsTextOf}
 use Rattle.fx_audit.proofs.replaying.put_state.Goals as goal
 
+text_of_state : (layout : Layout) (s : State) (t : Totals) (complete : Bool) (before after : Option (List ℕ)) → t ≡ totals_in layout s → IsTrue complete ↔ Complete s → Prints (λ text. (sorted : Totals) × IsInOrder t sorted × (text ≡ totals_text sorted ++ complete_line complete)) before after → Prints (IsTextOf layout s) before after
+text_of_state layout s t complete before after own is (text, (sorted, order, text_is), written) = (
+  text,
+  record {
+    totals = sorted;
+    entries = subst (λ (t : Totals). IsPermutation t.entries sorted.entries) own order.entries;
+    ascending = order.ascending;
+    layout_is = order.layout_is ∙ ap (λ (t : Totals). t.layout) own;
+    unassigned = order.unassigned ∙ ap (λ (t : Totals). t.unassigned) own;
+    complete = complete;
+    is_complete = is;
+    text_is = text_is;
+  },
+  written,
+)
+
 pub returns-clause-ok : goal.returns-clause-ok
 returns-clause-ok g c =
-    let sorted = c.sort.new.self in
-    let own : c.in_ok-totals.totals ≡ totals_in c.args.state.now.net.report_layout c.args.state.now.state = c.in_ok-totals.ensures.ok ∙ c.requires.own in
-    let text : List ℕ = totals_text sorted ++ complete_line c.complete.result in
-    let is : IsTextOf c.args.state.now.net.report_layout c.args.state.now.state text = record {
-      totals = sorted;
-      entries = subst (λ (t : Totals). IsPermutation t.entries sorted.entries) own c.in_ok-sort.ensures.same.0;
-      ascending = c.in_ok-sort.ensures.sorted;
-      layout_is = c.in_ok-sort.ensures.same.1 ∙ ap (λ (t : Totals). t.layout) own;
-      unassigned = c.in_ok-sort.ensures.same.2 ∙ ap (λ (t : Totals). t.unassigned) own;
-      complete = c.complete.result;
-      is_complete = c.complete.ensures;
-      text_is = refl;
-    } in
-    OnOk-map _ _ _ (λ h. let all : (x : List ℕ) × IsTextOf c.args.state.now.net.report_layout c.args.state.now.state x × Writes (g.S.Sink.taken c.args.sink.now) (g.S.Sink.taken c.put_complete.new.sink) x = (text, is, writes_both _ _ _ _ _ _ c.in_ok-put_report.ensures.ok h refl) in all) c.put_complete.ensures.0
+    let taken = g.S.Sink.taken in
+    on_ok_weaker c.put_totals.result
+    (text_of_state c.args.state.now.net.report_layout c.args.state.now.state c.in_ok-totals.totals c.complete.result (taken c.args.sink.now) (taken c.put_totals.new.sink) (c.in_ok-totals.ensures.ok ∙ c.requires.own) c.complete.ensures)
+    c.put_totals.ensures.ok
