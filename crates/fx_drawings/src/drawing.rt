@@ -94,6 +94,31 @@ fn draw_over(
     }
 }
 
+/// The network of a document.
+fn plan_of(alloc: Global, network: &[u8]) -> Result<Plan, Fault> {
+    let value = read_json(alloc, network)?;
+    read_plan(alloc, &value)
+}
+
+/// Draws a network, the traffic over it where that is given, and what is said of them.
+fn draw_documents(
+    alloc: Global,
+    dot: &mut Dot,
+    network: &[u8],
+    traffic: Option<&[u8]>,
+    said: Option<&[u8]>,
+) -> Result<(), Fault> {
+    let plan = plan_of(alloc, network)?;
+    draw_network(dot, &plan)?;
+    match traffic {
+        Some(traffic) => {
+            let documents = with_traffic(alloc, plan, traffic)?;
+            draw_over(alloc, dot, &documents, said)
+        }
+        None => Ok(()),
+    }
+}
+
 /// The drawing of a network, of the traffic over it where that is given, and of what is said of them.
 fn drawing_of(
     alloc: Global,
@@ -102,13 +127,7 @@ fn drawing_of(
     said: Option<&[u8]>,
 ) -> Result<Dot, Fault> {
     let mut dot = Dot::new(alloc);
-    let value = read_json(alloc, network)?;
-    let plan = read_plan(alloc, &value)?;
-    draw_network(&mut dot, &plan)?;
-    if let Some(traffic) = traffic {
-        let documents = with_traffic(alloc, plan, traffic)?;
-        draw_over(alloc, &mut dot, &documents, said)?;
-    }
+    draw_documents(alloc, &mut dot, network, traffic, said)?;
     dot.line("}");
     Ok(dot)
 }

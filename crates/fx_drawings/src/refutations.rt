@@ -246,28 +246,40 @@ fn add_totals(dot: &mut Dot, totals: &Totals)
     dot.lines(room.octets());
 }
 
-/// Draws what the run comes to, and what it should come to, beside the report.
-pub(crate) fn draw_outcome(
-    dot: &mut Dot,
-    plan: &Plan,
-    mut ran: Totals,
-    mut plain: Totals,
-) -> Result<(), Fault>
+/// Adds a heading to a label, and behind it totals in the order in which reports have them.
+fn add_sorted(dot: &mut Dot, heading: &str, mut totals: Totals) -> Result<(), Fault>
     ensures { IfErr result IsMemory }
 {
-    ran.sort()?;
-    plain.sort()?;
-    dot.code_node("  ", nodes::outcome());
-    dot.code(" [shape=note, color=red, fontcolor=red, label=\"in the end the collector holds\\n");
-    add_totals(dot, &ran);
-    dot.code("and it should hold\\n");
-    add_totals(dot, &plain);
-    dot.line("\"];");
+    totals.sort()?;
+    dot.code(heading);
+    add_totals(dot, &totals);
+    Ok(())
+}
+
+/// Draws an edge from the report to what the run comes to.
+fn draw_compared(dot: &mut Dot, plan: &Plan) {
     if let Some(report) = report_of(plan) {
         dot.code_node("  ", report);
         dot.code_node(" -> ", nodes::outcome());
         dot.line(" [color=red, dir=none, style=dotted];");
     }
+}
+
+/// Draws what the run comes to, and what it should come to, beside the report.
+pub(crate) fn draw_outcome(
+    dot: &mut Dot,
+    plan: &Plan,
+    ran: Totals,
+    plain: Totals,
+) -> Result<(), Fault>
+    ensures { IfErr result IsMemory }
+{
+    dot.code_node("  ", nodes::outcome());
+    dot.code(" [shape=note, color=red, fontcolor=red, label=\"");
+    add_sorted(dot, "in the end the collector holds\\n", ran)?;
+    add_sorted(dot, "and it should hold\\n", plain)?;
+    dot.line("\"];");
+    draw_compared(dot, plan);
     Ok(())
 }
 
