@@ -153,3 +153,9 @@ ended_in_words {S} taken failed IsText (Err e) more first then last code (told, 
 ended_in_words {S} taken failed IsText (Err e) more first then last code (told, (going, inr same)) answered (inl (code_is, line, keeps)) =
     inr (inl (λ fine. keeps (subst (λ (s : S). failed s ≡ false) (sym same) fine), (e, more, subst (λ (s : S). Writes (taken s) (taken last) (refusal_line e ++ more)) same line, code_is)))
 ended_in_words {S} taken failed IsText (Err e) more first then last code answers answered (inr (five, fails)) = inr (inr (five, inl fails))
+
+-- a command answers as the one of its branches does that was taken
+pub answers_as : {S : Type 0} (taken : S → Option (List ℕ)) (failed : S → Bool) (IsText : Answer → List ℕ → Type 0) (first last then : S) (r s : Result Answer Fault)
+    → last ≡ then → r ≡ s → AnswersWith taken failed IsText first then s → AnswersWith taken failed IsText first last r
+answers_as {S} taken failed IsText first last then r s same is answers =
+    subst (λ (x : S). AnswersWith taken failed IsText first x r) (sym same) (subst (λ (x : Result Answer Fault). AnswersWith taken failed IsText first then x) (sym is) answers)

@@ -2,11 +2,12 @@
 use Rattle.std.proofs.Common.{◌≡◌, ◌≤◌, ◌∙◌, ◌⊎◌, ℕ, arith, length, true, false, refl, sym, ap, ap₂, subst, List, [], ◌∷◌, Option, Some, None, inl, inr, true≢false, codes}
 use Rattle.std.specs.Str.Parse.{digits_value, without_leading_plus}
 use Rattle.std.specs.Prelude.{⊤, unwrap_or, option_and_then, option_map, slice_get}
-use Rattle.clap.specs.Words.{AddsInTurn, AddsSubcommand, app_of, first_value, one_text, rows_of, HasMatchesOf, is_simple, is_simple_and_free, subcommand_rows_of, HasKind, kind_of, subcommand_name_of}
-use Rattle.clap.specs.Walk.{Row, Text, row_text}
+use Rattle.clap.specs.Words.{AddsArg, AddsInTurn, AddsSubcommand, app_of, first_value, one_text, rows_of, HasMatchesOf, is_simple, is_simple_and_free, subcommand_rows_of, HasKind, kind_of, subcommand_name_of}
+use Rattle.clap.specs.Walk.{Row, Rule, Text, row_text, rule_of}
 use Rattle.clap.specs.Simple.{new_app, on_top, with_rule, with_subcommand, subcommand_rows, App, new_rule}
 use Rattle.clap.specs.Kinds.{Kinds}
 use Rattle.clap.specs.Faults.{fault_of}
+use Rattle.clap.specs.declared.builder.arg.Arg.{Arg}
 use Rattle.clap.specs.declared.builder.command.Command.{Command}
 use Rattle.clap.specs.declared.builder.command.Command.TheViews.{out-Command}
 use Rattle.clap.specs.declared.parser.matches.ArgMatches.{ArgMatches}
@@ -367,6 +368,20 @@ names_call k words found f call h = absurd h
 pub record IsBuilt (c : Command) (a : App) : Type 0 where
   pub app : app_of c ≡ a
   pub local : (out-Command c).has_globals ≡ false
+
+-- what was made is built as its function says
+pub is_built : {Z : Type 0} (r : Result Command Z) (c : Command) (a : App) → r ≡ Ok c → IfOk r (λ x. app_of x ≡ a)
+    → IfOk r (λ x. (out-Command x).has_globals ≡ false) → IsBuilt c a
+is_built {Z} r c a is app local = record {
+  app = subst (λ (v : Result Command Z). IfOk v (λ x. app_of x ≡ a)) is app;
+  local = subst (λ (v : Result Command Z). IfOk v (λ x. (out-Command x).has_globals ≡ false)) is local;
+}
+
+-- a command with one more argument
+pub with_arg : {Z : Type 0} (command : Command) (arg : Arg) (r : Result Command Z) (a : App) (rule : Rule) → IfOk r (λ x. AddsArg command arg x)
+    → app_of command ≡ a → rule_of arg ≡ rule → arg.global ≡ false → IfOk r (λ x. app_of x ≡ with_rule a rule)
+with_arg command arg (Ok x) a rule adds is by local = adds.shape local ∙ ap₂ with_rule is by
+with_arg command arg (Err error) a rule adds is by local = tt
 
 abbrev AreBuilt : Command → Command → Command → Command → Command → Command → Command → Command → Command → Command → Type 0
 AreBuilt replaying collecting checking confirming auditing running linting drawing summing explaining =

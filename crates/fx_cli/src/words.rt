@@ -1,7 +1,8 @@
 //! The words of the command line.
-ghost use Rattle.std.specs.Prelude.{◌≡◌, ◌⊎◌, ℕ, IfErr, IfOk, List, MatchResult, codes, false, map, option_map, string_bytes};
+ghost use Rattle.std.specs.Prelude.{◌≡◌, ◌⊎◌, ◌++◌, ℕ, [], ◌∷◌, IfErr, IfOk, List, MatchResult, Ok, OnOk, codes, false, map, option_map, string_bytes};
 ghost use Rattle.clap.specs.Simple.{on_top};
 ghost use Rattle.clap.specs.Words.{app_of, fault_of, found_of, HasKind, kind_of, new_app, new_rule, rule_of, Text, with_rule};
+ghost use Rattle.clap.specs.declared.builder.command.Command.{Command};
 ghost use Rattle.clap.specs.declared.builder.command.Command.TheViews.{out-Command};
 ghost use Rattle.fx_cli.specs.CommandLine.{AreMatchesOf, file_rule, limit_rule, links_rule, once_app, network_alone, number_alone, over_capture, over_documents, over_network, wants_command};
 ghost use Rattle.fx_cli.specs.Matches.{HoldsFile, HoldsLimit, HoldsOption, IsAuditOf, IsCheckOf, IsCollectOf, IsConfirmOf, IsDrawOf, HasFile, IsExplainOf, IsLintOf, IsReplayOf, IsRunCall, IsSumOf};
@@ -101,6 +102,9 @@ pub enum Call {
     },
 }
 
+/// The line of help of a traffic declaration.
+const TRAFFIC: &str = "The traffic declaration (JSON)";
+
 /// A file that a command wants, with a line of help.
 fn file<'a>(alloc: Global, name: &'a str, help: &'a str) -> Arg<'a>
     ensures rule { rule_of result ≡ file_rule name.entry.now }
@@ -153,6 +157,38 @@ fn network_command<'a>(
     with_file(alloc, command, "NETWORK", "The network document (JSON)")
 }
 
+/// A command over a network and a second file.
+fn over_network<'a>(
+    alloc: Global,
+    name: &'a str,
+    about: &'a str,
+    more: &'a str,
+    second: &'a str,
+    help: &'a str,
+) -> Result<Command<'a>, AllocError>
+    ensures app { IfOk result (λ c. app_of c
+        ≡ over_network name.entry.now (file_rule second.entry.now)) }
+    ensures local { IfOk result (λ c. (out-Command c).has_globals ≡ false) }
+{
+    let command = network_command(alloc, name, about, more)?;
+    with_file(alloc, command, second, help)
+}
+
+/// A command over a network, and over its traffic where that is given.
+fn over_traffic_if_given<'a>(
+    alloc: Global,
+    name: &'a str,
+    about: &'a str,
+    more: &'a str,
+) -> Result<Command<'a>, AllocError>
+    ensures app { IfOk result (λ c. app_of c
+        ≡ over_network name.entry.now (new_rule (codes "TRAFFIC"))) }
+    ensures local { IfOk result (λ c. (out-Command c).has_globals ≡ false) }
+{
+    let command = network_command(alloc, name, about, more)?;
+    with_choice(alloc, command, "TRAFFIC", TRAFFIC)
+}
+
 /// A command over a network, traffic and a third file.
 fn over_documents<'a>(
     alloc: Global,
@@ -166,8 +202,7 @@ fn over_documents<'a>(
         ≡ over_documents name.entry.now (file_rule third.entry.now)) }
     ensures local { IfOk result (λ c. (out-Command c).has_globals ≡ false) }
 {
-    let command = network_command(alloc, name, about, more)?;
-    let command = with_file(alloc, command, "TRAFFIC", "The traffic declaration (JSON)")?;
+    let command = over_network(alloc, name, about, more, "TRAFFIC", TRAFFIC)?;
     with_file(alloc, command, third, help)
 }
 
@@ -193,15 +228,11 @@ fn collect_command<'a>(alloc: Global) -> Result<Command<'a>, AllocError>
         ≡ over_network (codes "collect") (file_rule (codes "STREAM"))) }
     ensures local { IfOk result (λ c. (out-Command c).has_globals ≡ false) }
 {
-    let command = network_command(
+    over_network(
         alloc,
         "collect",
         "Collects an IPFIX stream, and prints the totals of its flow records",
         help_text::COLLECT,
-    )?;
-    with_file(
-        alloc,
-        command,
         "STREAM",
         "The IPFIX stream (messages in octets)",
     )
@@ -259,13 +290,14 @@ fn audit_command<'a>(alloc: Global) -> Result<Command<'a>, AllocError>
         (over_network (codes "audit") (file_rule (codes "TRAFFIC"))) limit_rule) }
     ensures local { IfOk result (λ c. (out-Command c).has_globals ≡ false) }
 {
-    let command = network_command(
+    let command = over_network(
         alloc,
         "audit",
         "Searches for a certificate, or for a run of one packet that shows a wrong total",
         help_text::AUDIT,
+        "TRAFFIC",
+        TRAFFIC,
     )?;
-    let command = with_file(alloc, command, "TRAFFIC", "The traffic declaration (JSON)")?;
     command.arg(limit(alloc))
 }
 
@@ -303,13 +335,12 @@ fn lint_command<'a>(alloc: Global) -> Result<Command<'a>, AllocError>
         ≡ over_network (codes "lint") (new_rule (codes "TRAFFIC"))) }
     ensures local { IfOk result (λ c. (out-Command c).has_globals ≡ false) }
 {
-    let command = network_command(
+    over_traffic_if_given(
         alloc,
         "lint",
         "Says whether a network document, and its traffic, have a fault, and which comes first",
         help_text::LINT,
-    )?;
-    with_choice(alloc, command, "TRAFFIC", "The traffic declaration (JSON)")
+    )
 }
 
 /// The command `draw`.
@@ -319,13 +350,12 @@ fn draw_command<'a>(alloc: Global) -> Result<Command<'a>, AllocError>
         (new_rule (codes "ANSWER"))) }
     ensures local { IfOk result (λ c. (out-Command c).has_globals ≡ false) }
 {
-    let command = network_command(
+    let command = over_traffic_if_given(
         alloc,
         "draw",
         "Draws a network, its traffic, and what a certificate or a refutation says of them",
         help_text::DRAW,
     )?;
-    let command = with_choice(alloc, command, "TRAFFIC", "The traffic declaration (JSON)")?;
     with_choice(
         alloc,
         command,
@@ -340,15 +370,11 @@ fn sum_command<'a>(alloc: Global) -> Result<Command<'a>, AllocError>
         ≡ over_network (codes "sum") (file_rule (codes "TOTALS"))) }
     ensures local { IfOk result (λ c. (out-Command c).has_globals ≡ false) }
 {
-    let command = network_command(
+    over_network(
         alloc,
         "sum",
         "Adds up totals of one report that were collected apart",
         help_text::SUM,
-    )?;
-    with_file(
-        alloc,
-        command,
         "TOTALS",
         "The texts of totals, one behind the other",
     )
@@ -381,21 +407,33 @@ fn program<'a>(alloc: Global) -> Command<'a>
         .subcommand_required(true)
 }
 
+/// Adds a command to others, where there was memory to make it.
+fn add<'a>(
+    commands: &mut Vec<Command<'a>>,
+    command: Result<Command<'a>, AllocError>,
+) -> Result<(), AllocError>
+    ensures { OnOk result ((added : Command) × (command.entry ≡ Ok added)
+        × (commands.new.items ≡ commands.old.items ++ (added ∷ []))) }
+{
+    commands.push(command?)?;
+    Ok(())
+}
+
 /// The program's command line.
 fn command_line<'a>(alloc: Global) -> Result<Command<'a>, AllocError>
     ensures { IfOk result (λ c. app_of c ≡ once_app) }
 {
     let mut commands = Vec::new(alloc);
-    commands.push(replay_command(alloc)?)?;
-    commands.push(collect_command(alloc)?)?;
-    commands.push(check_command(alloc)?)?;
-    commands.push(confirm_command(alloc)?)?;
-    commands.push(audit_command(alloc)?)?;
-    commands.push(run_command(alloc)?)?;
-    commands.push(lint_command(alloc)?)?;
-    commands.push(draw_command(alloc)?)?;
-    commands.push(sum_command(alloc)?)?;
-    commands.push(explain_command(alloc)?)?;
+    add(&mut commands, replay_command(alloc))?;
+    add(&mut commands, collect_command(alloc))?;
+    add(&mut commands, check_command(alloc))?;
+    add(&mut commands, confirm_command(alloc))?;
+    add(&mut commands, audit_command(alloc))?;
+    add(&mut commands, run_command(alloc))?;
+    add(&mut commands, lint_command(alloc))?;
+    add(&mut commands, draw_command(alloc))?;
+    add(&mut commands, sum_command(alloc))?;
+    add(&mut commands, explain_command(alloc))?;
     program(alloc).subcommands(commands)
 }
 

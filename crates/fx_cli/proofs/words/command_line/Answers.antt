@@ -1,42 +1,32 @@
 use Rattle.std.proofs.Common.{◌≡◌, ◌∙◌, ap, List, [], ◌∷◌, ◌++◌, rules}
 use Rattle.clap.specs.declared.builder.command.Command.{Command}
-use Rattle.fx_cli.proofs.ParsedWords.{all_commands}
+use Rattle.fx_cli.proofs.ParsedWords.{all_commands, is_built}
 use Rattle.fx_cli.proofs.words.command_line.Goals as goal
 
 pub returns : goal.returns
 returns c =
     let behind = λ (x : Command) (xs : List Command). xs ++ x ∷ [] in
-    let replay = c.in_ok-replay_command.field-0 in
-    let collect = c.in_ok-collect_command.field-0 in
-    let check = c.in_ok-check_command.field-0 in
-    let confirm = c.in_ok-confirm_command.field-0 in
-    let audit = c.in_ok-audit_command.field-0 in
-    let run = c.in_ok-run_command.field-0 in
-    let lint = c.in_ok-lint_command.field-0 in
-    let draw = c.in_ok-draw_command.field-0 in
-    let sum = c.in_ok-sum_command.field-0 in
-    let explain = c.in_ok-explain_command.field-0 in
     let none : c.new-commands.result.items ≡ [] = search (rules, c.new-commands.ensures) in
-    let one : c.push.new.self.items ≡ c.new-commands.result.items ++ replay ∷ [] = search (rules, c.push.ensures, c.in_ok-push.was) in
-    let two : c.push-2.new.self.items ≡ c.push.new.self.items ++ collect ∷ [] = search (rules, c.push-2.ensures, c.in_ok-push-2.was) in
-    let three : c.push-3.new.self.items ≡ c.push-2.new.self.items ++ check ∷ [] = search (rules, c.push-3.ensures, c.in_ok-push-3.was) in
-    let four : c.push-4.new.self.items ≡ c.push-3.new.self.items ++ confirm ∷ [] = search (rules, c.push-4.ensures, c.in_ok-push-4.was) in
-    let five : c.push-5.new.self.items ≡ c.push-4.new.self.items ++ audit ∷ [] = search (rules, c.push-5.ensures, c.in_ok-push-5.was) in
-    let six : c.push-6.new.self.items ≡ c.push-5.new.self.items ++ run ∷ [] = search (rules, c.push-6.ensures, c.in_ok-push-6.was) in
-    let seven : c.push-7.new.self.items ≡ c.push-6.new.self.items ++ lint ∷ [] = search (rules, c.push-7.ensures, c.in_ok-push-7.was) in
-    let eight : c.push-8.new.self.items ≡ c.push-7.new.self.items ++ draw ∷ [] = search (rules, c.push-8.ensures, c.in_ok-push-8.was) in
-    let nine : c.push-9.new.self.items ≡ c.push-8.new.self.items ++ sum ∷ [] = search (rules, c.push-9.ensures, c.in_ok-push-9.was) in
-    let ten : c.push-10.new.self.items ≡ c.push-9.new.self.items ++ explain ∷ [] = search (rules, c.push-10.ensures, c.in_ok-push-10.was) in
-    let all = ten ∙ ap (behind explain) (nine ∙ ap (behind sum) (eight ∙ ap (behind draw) (seven ∙ ap (behind lint) (six ∙ ap (behind run) (five ∙ ap (behind audit) (four ∙ ap (behind confirm) (three ∙ ap (behind check) (two ∙ ap (behind collect) (one ∙ ap (behind replay) none))))))))) in
-    all_commands c.program.result replay collect check confirm audit run lint draw sum explain _ c.subcommands.result c.subcommands.ensures all c.program.ensures (
-      record { app = c.in_ok-replay_command.ensures.app; local = c.in_ok-replay_command.ensures.local },
-      record { app = c.in_ok-collect_command.ensures.app; local = c.in_ok-collect_command.ensures.local },
-      record { app = c.in_ok-check_command.ensures.app; local = c.in_ok-check_command.ensures.local },
-      record { app = c.in_ok-confirm_command.ensures.app; local = c.in_ok-confirm_command.ensures.local },
-      record { app = c.in_ok-audit_command.ensures.app; local = c.in_ok-audit_command.ensures.local },
-      record { app = c.in_ok-run_command.ensures.app; local = c.in_ok-run_command.ensures.local },
-      record { app = c.in_ok-lint_command.ensures.app; local = c.in_ok-lint_command.ensures.local },
-      record { app = c.in_ok-draw_command.ensures.app; local = c.in_ok-draw_command.ensures.local },
-      record { app = c.in_ok-sum_command.ensures.app; local = c.in_ok-sum_command.ensures.local },
-      record { app = c.in_ok-explain_command.ensures.app; local = c.in_ok-explain_command.ensures.local },
+    let replay = c.in_ok-add.ensures in
+    let collect = c.in_ok-add-2.ensures in
+    let check = c.in_ok-add-3.ensures in
+    let confirm = c.in_ok-add-4.ensures in
+    let audit = c.in_ok-add-5.ensures in
+    let run = c.in_ok-add-6.ensures in
+    let lint = c.in_ok-add-7.ensures in
+    let draw = c.in_ok-add-8.ensures in
+    let sum = c.in_ok-add-9.ensures in
+    let explain = c.in_ok-add-10.ensures in
+    let all = explain.2 ∙ ap (behind explain.0) (sum.2 ∙ ap (behind sum.0) (draw.2 ∙ ap (behind draw.0) (lint.2 ∙ ap (behind lint.0) (run.2 ∙ ap (behind run.0) (audit.2 ∙ ap (behind audit.0) (confirm.2 ∙ ap (behind confirm.0) (check.2 ∙ ap (behind check.0) (collect.2 ∙ ap (behind collect.0) (replay.2 ∙ ap (behind replay.0) none))))))))) in
+    all_commands c.program.result replay.0 collect.0 check.0 confirm.0 audit.0 run.0 lint.0 draw.0 sum.0 explain.0 _ c.subcommands.result c.subcommands.ensures all c.program.ensures (
+      is_built c.replay_command.result replay.0 _ replay.1 c.replay_command.ensures.app c.replay_command.ensures.local,
+      is_built c.collect_command.result collect.0 _ collect.1 c.collect_command.ensures.app c.collect_command.ensures.local,
+      is_built c.check_command.result check.0 _ check.1 c.check_command.ensures.app c.check_command.ensures.local,
+      is_built c.confirm_command.result confirm.0 _ confirm.1 c.confirm_command.ensures.app c.confirm_command.ensures.local,
+      is_built c.audit_command.result audit.0 _ audit.1 c.audit_command.ensures.app c.audit_command.ensures.local,
+      is_built c.run_command.result run.0 _ run.1 c.run_command.ensures.app c.run_command.ensures.local,
+      is_built c.lint_command.result lint.0 _ lint.1 c.lint_command.ensures.app c.lint_command.ensures.local,
+      is_built c.draw_command.result draw.0 _ draw.1 c.draw_command.ensures.app c.draw_command.ensures.local,
+      is_built c.sum_command.result sum.0 _ sum.1 c.sum_command.ensures.app c.sum_command.ensures.local,
+      is_built c.explain_command.result explain.0 _ explain.1 c.explain_command.ensures.app c.explain_command.ensures.local,
     )
