@@ -46,8 +46,9 @@ MOST_JOBS, OTHER_JOBS = 4, 2
 # How many processes there are to a processor at the most: those of a proof wait for one another.
 JOBS_A_PROCESSOR = 2
 
-# How many lines of code cost as much as what every proof of a crate begins and ends with.
-LINES_OF_A_CRATE = 300
+# How many lines of code cost as much as what every proof of a crate begins and ends with, and how many lines of the libraries
+# below as much as a line of its own. Lines of definitions and proof files cost next to nothing.
+LINES_OF_A_CRATE, LINES_BELOW = 170, 30
 
 
 def made_by(crate):
@@ -116,12 +117,15 @@ def chains(tasks):
     return behind
 
 
+def lines_of(rt, crate):
+    """How many lines of code a crate has."""
+    return sum(rt.rtlib.text_of(it).count("\n") for it in rt.rtlib.files_of(crate.folder) if it.endswith(".rt"))
+
+
 def work_of(rt, crate):
-    """How long a proof of the crate takes beside those of others, in lines of code; a line of a proof file or of a definition
-    takes a tenth of one of code."""
-    files = [*rt.rtlib.files_of(crate.folder)]
-    code, others = (sum(rt.rtlib.text_of(it).count("\n") for it in files if it.endswith(end)) for end in (".rt", ".antt"))
-    return LINES_OF_A_CRATE + code + others / 10
+    """How long a proof of the crate takes beside those of others, in lines of code."""
+    below = sum(lines_of(rt, it) for it in crate.below())
+    return LINES_OF_A_CRATE + lines_of(rt, crate) + below / LINES_BELOW
 
 
 def jobs_of(is_longest, processors, left, room, needs):
