@@ -6,8 +6,8 @@ usage: prove_program.py [NAME..]
 Run at the top of the repository. Each NAME is a crate as crates.txt has it, which is proved with all that it stands on;
 the program where none is given. A crate is proved once all libraries that it names are, side by side as many as there are
 processors and memory, first those with the longest chain of others behind them. The crate with the longest chain gets four
-processes and others two, on few processors fewer. RT_JOBS=N in the environment sets how many are proved at a time, with one
-process each.
+processes and others up to two, all together one more than there are processors at the most. RT_JOBS=N in the environment sets
+how many are proved at a time, with one process each.
 
 A line a crate says how long its proof took, by the clock and in processor time; the last line says it of all. Where all crates
 were proved by one call, as from a fresh clone, out/proved has that line.
@@ -43,8 +43,9 @@ MORE_MEMORY = 0.15
 # How many processes prove the crate with the longest chain of others behind it, and how many another.
 MOST_JOBS, OTHER_JOBS = 4, 2
 
-# How many processes there are to a processor at the most: those of a proof wait for one another.
-JOBS_A_PROCESSOR = 2
+# How many more processes there are than processors at the most: those of a proof wait for one another, but on four processors
+# four proofs by two each took 1.35 times the processor time that they took by one each.
+MORE_JOBS = 1
 
 # How many lines of code cost as much as what every proof of a crate begins and ends with, and how many lines of the libraries
 # below as much as a line of its own. Lines of definitions and proof files cost next to nothing.
@@ -141,7 +142,7 @@ def side_by_side(tasks, processors, memory):
     fixed = os.environ.get("RT_JOBS", "")
     fixed = int(fixed) if fixed.isdigit() and int(fixed) else 0
     lanes = fixed or processors
-    most_jobs = fixed or (JOBS_A_PROCESSOR * processors if processors > 1 else 1)
+    most_jobs = fixed or (processors + MORE_JOBS if processors > 1 else 1)
     behind, running, given = chains(tasks), {}, {}
     left = sorted(tasks, key=lambda name: -behind[name])
     with ThreadPoolExecutor(lanes) as pool:
