@@ -22,7 +22,7 @@ use fx_refute::{confirm, read_refutation};
 use std::alloc::Global;
 
 /// The totals of the run of the refutation that a reader's lines say, and the plain sums over its packet.
-fn confirm_text<C: Source>(
+fn confirm_said<C: Source>(
     alloc: Global,
     documents: &Documents,
     refutation: &mut LineReader<C>,
@@ -63,7 +63,7 @@ fn totals_of_refutation<C: Source>(
         ⊎ (Fails refutation.old refutation.new e
         ⊎ IsRefusedRefutation documents.now.plan documents.now.traffic refutation.old e)) }
 {
-    let (mut ran, mut plain) = confirm_text(alloc, documents, refutation)?;
+    let (mut ran, mut plain) = confirm_said(alloc, documents, refutation)?;
     sort_both(&mut ran, &mut plain)?;
     Ok((ran, plain))
 }
