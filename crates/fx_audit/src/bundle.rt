@@ -4,7 +4,7 @@ ghost use Rattle.fx_audit.specs.Bundle.{begins_line, is_mark_at, FirstText, HasN
 ghost use Rattle.fx_audit.specs.declared.bundle.Command.{Command};
 
 /// A command that a bundle may name.
-#[derive(Clone, Copy, Debug, PartialEq, Eq)]
+#[derive(Clone, Copy)]
 pub enum Command {
     Replay,
     Check,

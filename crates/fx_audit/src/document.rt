@@ -37,7 +37,7 @@ fn value_of(alloc: Global, octets: &[u8]) -> Result<Value, Fault>
 }
 
 /// What the two documents say.
-#[derive(Debug, Drop)]
+#[derive(Drop)]
 pub struct Documents {
     /// The network.
     pub plan: Plan,

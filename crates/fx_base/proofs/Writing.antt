@@ -1,8 +1,8 @@
 -- Octets that a sink takes in several writes.
-use Rattle.std.proofs.Common.{◌≡◌, ℕ, ◌+◌, ◌-◌, ◌≤◌, length, arith, List, [], ◌++◌, take, drop, Option, Some, None, refl, sym, ap, subst, ◌∙◌, append_assoc}
+use Rattle.std.proofs.Common.{◌≡◌, ℕ, ◌+◌, ◌-◌, ◌≤◌, length, arith, List, [], ◌++◌, take, drop, Option, Some, None, Result, Ok, Err, OnOk, Bool, refl, sym, ap, subst, ◌∙◌, append_assoc}
 use Rattle.std.proofs.lemmas.List.{append-nil, take-take, length-take}
 use Rattle.std.proofs.Math.Seq.{take-add}
-use Rattle.fx_base.specs.Device.{Writes}
+use Rattle.fx_base.specs.Device.{Writes, KeepsGoing}
 
 pub writes_nothing : (o : Option (List ℕ)) → Writes o o []
 writes_nothing None = refl
@@ -19,3 +19,12 @@ pub part_next : (text : List ℕ) (d n : ℕ) → n ≤ length (take (length tex
 part_next text d n fits =
     let room : n ≤ length text - d = omega (arith, fits, length-take (length text - d) (drop d text)) in
     rw (take-take n (length text - d) (drop d text) room) (sym (take-add d n text))
+
+-- a text is written, and then another
+pub puts_both : {E : Type 0} (a b c : Option (List ℕ)) (xs ys : List ℕ) (result : Result Unit E) → Writes a b xs → OnOk result (Writes b c ys) → OnOk result (Writes a c (xs ++ ys))
+puts_both a b c xs ys (Ok _) h k = writes_both a b c xs ys (xs ++ ys) h k refl
+puts_both a b c xs ys (Err _) h k = tt
+
+pub goes_on : {E : Type 0} (f g h : Bool) (result : Result Unit E) → KeepsGoing f g → OnOk result (KeepsGoing g h) → OnOk result (KeepsGoing f h)
+goes_on f g h (Ok _) first next = λ going. next (first going)
+goes_on f g h (Err _) first next = tt

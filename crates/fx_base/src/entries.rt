@@ -9,7 +9,7 @@ pub fn entry_numbered<T>(entries: &[T], number: u64) -> Option<&T>
     if number == 0 {
         return None;
     }
-    entries.get((number - 1) as usize)
+    entry_at(entries, (number - 1) as usize)
 }
 
 /// The entry at this place, from 0, and none where there is no such entry.

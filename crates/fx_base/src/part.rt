@@ -17,14 +17,14 @@ pub(crate) const LONGEST: usize = 4096;
 pub(crate) const ROOM: usize = 8192;
 
 /// Why a reader stops.
-#[derive(Clone, Copy, Debug, PartialEq, Eq)]
+#[derive(Clone, Copy)]
 pub(crate) enum LineStop {
     Device,
     TooLong,
 }
 
 /// The number of bytes of the line at the front of what is held, without its line feed and with it.
-#[derive(Clone, Copy, Debug, PartialEq, Eq)]
+#[derive(Clone, Copy)]
 pub(crate) struct LinePart {
     pub(crate) line: usize,
     pub(crate) taken: usize,

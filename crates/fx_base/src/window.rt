@@ -168,12 +168,13 @@ impl<R: Source> Window<R> {
         if held >= want {
             return Ok(());
         }
-        to_front(&mut self.bytes, self.start, self.end);
+        let bytes = self.bytes.as_mut_slice();
+        to_front(bytes, self.start, self.end);
         self.start = 0;
         self.end = held;
         gather(
             &mut self.source,
-            &mut self.bytes,
+            bytes,
             &mut self.end,
             want,
             &mut self.calls,

@@ -23,7 +23,7 @@ use std::alloc::{AllocError, Global};
 const LINES: u32 = 1_000_000;
 
 /// What comes next.
-#[derive(Clone, Copy, Debug, PartialEq, Eq)]
+#[derive(Clone, Copy)]
 pub(crate) enum Stage {
     /// The first line.
     Header,

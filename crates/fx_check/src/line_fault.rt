@@ -5,7 +5,7 @@ ghost use Rattle.fx_check.specs.LineFaults.{number_of};
 use fx_base::refusals;
 
 /// Why a line of a certificate is refused.
-#[derive(Clone, Copy, Debug, PartialEq, Eq)]
+#[derive(Clone, Copy)]
 pub(crate) enum LineFault {
     /// The first line isn't the one that certificates begin with.
     Header,

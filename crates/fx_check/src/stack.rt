@@ -9,7 +9,7 @@ use std::marker::Model;
 pub(crate) const DEPTHS: usize = 512;
 
 /// A region that waits for its tree, and the depth of that tree's root.
-#[derive(Clone, Copy, Debug, PartialEq, Eq)]
+#[derive(Clone, Copy)]
 pub(crate) struct WaitingRegion {
     pub(crate) region: Region,
     pub(crate) depth: u32,

@@ -39,19 +39,26 @@ and --links with run. A file whose name begins with - is named behind --, as in 
 
 /// How many octets are the same at the front of both.
 fn same_in_front(a: &[u8], b: &[u8]) -> usize {
-    a.iter()
-        .zip(b.iter())
-        .take_while(|(x, y)| x.eq_ignore_ascii_case(y))
-        .count()
+    let mut same: usize = 0;
+    for (x, y) in a.iter().zip(b.iter()) {
+        if !x.eq_ignore_ascii_case(y) {
+            return same;
+        }
+        same = same.saturating_add(1);
+    }
+    same
 }
 
 /// How many octets are the same at the end of both.
 fn same_behind(a: &[u8], b: &[u8]) -> usize {
-    a.iter()
-        .rev()
-        .zip(b.iter().rev())
-        .take_while(|(x, y)| x.eq_ignore_ascii_case(y))
-        .count()
+    let mut same: usize = 0;
+    for (x, y) in a.iter().rev().zip(b.iter().rev()) {
+        if !x.eq_ignore_ascii_case(y) {
+            return same;
+        }
+        same = same.saturating_add(1);
+    }
+    same
 }
 
 /// Whether a word may be meant for an option: at most two of its letters that stand together are others, too many or

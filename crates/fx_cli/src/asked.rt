@@ -64,12 +64,31 @@ pub(crate) struct Question<'a> {
 }
 
 impl<'a> Question<'a> {
+    /// The octets of the network, where it was read.
+    pub(crate) fn network_octets(&self) -> Option<&'a [u8]> {
+        self.network?.octets
+    }
+
+    /// The octets of the traffic, where it was read.
+    pub(crate) fn traffic_octets(&self) -> Option<&'a [u8]> {
+        self.traffic?.octets
+    }
+
+    /// The name and the octets of the traffic, where it was read.
+    pub(crate) fn named_traffic(&self) -> Option<(&'a str, &'a [u8])> {
+        let traffic = self.traffic?;
+        Some((traffic.name, traffic.octets?))
+    }
+
     /// The octets of both documents, where both were read.
     pub(crate) fn both(&self) -> Option<(&'a [u8], &'a [u8])> {
-        let network = self.network?.octets?;
-        let traffic = self.traffic?.octets?;
-        Some((network, traffic))
+        Some((self.network_octets()?, self.traffic_octets()?))
     }
+}
+
+/// The lines of the answer that a drawing shows, where it shows one.
+fn answer_lines(answer: Option<&str>) -> Option<LinesAt<'_>> {
+    Some(LinesAt::File(answer?))
 }
 
 /// What a call asks.
@@ -89,7 +108,7 @@ fn asked_by(call: &Call) -> Asked<'_> {
         },
         Call::Collect { stream, .. } => Asked::Collect(stream.as_str()),
         Call::Lint { .. } => Asked::Lint,
-        Call::Draw { answer, .. } => Asked::Draw(answer.as_deref().map(|name| LinesAt::File(name))),
+        Call::Draw { answer, .. } => Asked::Draw(answer_lines(answer.as_deref())),
         Call::Sum { totals, .. } => Asked::Sum(LinesAt::File(totals.as_str())),
         Call::Explain { .. } => Asked::Explain,
     }

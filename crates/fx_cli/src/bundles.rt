@@ -24,9 +24,19 @@ fn first_text(octets: &[u8]) -> Option<(&[u8], &[u8])> {
     None
 }
 
+/// The place of the first line feed, if there is one.
+fn first_line_feed(octets: &[u8]) -> Option<usize> {
+    for place in 0..octets.len() {
+        if octets[place] == b'\n' {
+            return Some(place);
+        }
+    }
+    None
+}
+
 /// The first line without its line feed, and what stands behind it.
 fn first_line(octets: &[u8]) -> (&[u8], &[u8]) {
-    match octets.iter().position(|octet| *octet == b'\n') {
+    match first_line_feed(octets) {
         Some(end) => match (octets.get(..end), octets.get(end.saturating_add(1)..)) {
             (Some(line), Some(rest)) => (line, rest),
             _ => (octets, b""),

@@ -54,12 +54,12 @@ pub(crate) fn put_file_words<R: Files>(
     fault: &Fault,
     sink: &mut Words,
 ) -> Result<(), Fault> {
-    let file = match (fault.number, notes.failed_file.told()) {
-        (refusals::FAILED_READ | refusals::FAILED_WRITE, Some(file)) => Some(file),
-        (refusals::FAILED_READ, None) => call.and_then(|call| unread_file(call, notes)),
-        (refusals::LONG_LINE, _) => call.and_then(file_of_lines),
-        _ if is_behind_documents(fault) => {
-            call.and_then(|call| file_behind_documents(call, fault.number))
+    let file = match (fault.number, notes.failed_file.told(), call) {
+        (refusals::FAILED_READ | refusals::FAILED_WRITE, Some(file), _) => Some(file),
+        (refusals::FAILED_READ, None, Some(call)) => unread_file(call, notes),
+        (refusals::LONG_LINE, _, Some(call)) => file_of_lines(call),
+        (number, _, Some(call)) if is_behind_documents(fault) => {
+            file_behind_documents(call, number)
         }
         _ => None,
     };

@@ -5,7 +5,7 @@ use fx_base::{Fault, Source};
 use std::alloc::Global;
 
 /// A copy of octets, kept as long as there is memory for it.
-#[derive(Debug, Drop)]
+#[derive(Drop)]
 pub struct OctetCopy {
     octets: Option<Vec<u8>>,
     failed: bool,

@@ -10,7 +10,7 @@ use std::io;
 use std::rt::Clock;
 
 /// Which file couldn't be opened, made or written, and why, where that is to be noted.
-#[derive(Debug, Drop)]
+#[derive(Drop)]
 pub struct FailedFile {
     alloc: Global,
     keeps: bool,
@@ -68,7 +68,7 @@ impl FailedFile {
 }
 
 /// What was noted. Nothing is, unless words behind the answer are asked for; and what there is no memory for is left out.
-#[derive(Debug, Drop)]
+#[derive(Drop)]
 pub struct Notes {
     alloc: Global,
     keeps: bool,

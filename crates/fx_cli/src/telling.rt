@@ -142,10 +142,8 @@ fn put_yes_words<R: AllocGlobal + Files>(
 
 /// Writes what is read in silence in the documents.
 fn put_silent_words(alloc: Global, question: &Question<'_>, sink: &mut Words) -> Result<(), Fault> {
-    let network = question.network.and_then(|network| network.octets);
-    let traffic = question.traffic.and_then(|traffic| traffic.octets);
-    match network {
-        Some(network) => put_lint_words(alloc, network, traffic, sink),
+    match question.network_octets() {
+        Some(network) => put_lint_words(alloc, network, question.traffic_octets(), sink),
         None => Ok(()),
     }
 }
@@ -349,11 +347,14 @@ fn put_document_place(
     let Some(octets) = network.octets else {
         return Ok(());
     };
-    let traffic = match question.traffic {
-        Some(traffic) => traffic.octets.map(|octets| (traffic.name, octets)),
-        None => None,
-    };
-    put_document_words(alloc, network.name, octets, traffic, fault, sink)
+    put_document_words(
+        alloc,
+        network.name,
+        octets,
+        question.named_traffic(),
+        fault,
+        sink,
+    )
 }
 
 /// Writes what the line of a certificate is about.
@@ -495,8 +496,7 @@ fn put_collected_words<R: AllocGlobal + Files>(
     sink: &mut Words,
 ) -> Result<(), Fault> {
     put_text(sink, COLLECTED)?;
-    let network = question.network.and_then(|network| network.octets);
-    match (network, file_again(rt, stream)) {
+    match (question.network_octets(), file_again(rt, stream)) {
         (Some(network), Some(mut file)) => {
             put_collection_words(rt.alloc(), network, &mut file, sink)
         }

@@ -1,2 +1,4 @@
 pub mod NamesResolve
 pub mod NextFields
+pub mod Chains
+pub mod EntryNamed

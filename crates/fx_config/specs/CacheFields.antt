@@ -13,6 +13,7 @@ use Rattle.fx_config.specs.GivenElements.{element_in}
 use Rattle.fx_elements.specs.Axes.{axis_width}
 use Rattle.fx_config.specs.Limits.{field_limit}
 use Rattle.fx_config.specs.declared.cache_field.CacheField.{CacheField}
+use Rattle.fx_config.specs.declared.cache_field.FieldUse.{FieldUse}
 use Rattle.fx_base.specs.Refusals.{bad_value, cache_counter_length, key_without_axis, total_counter}
 
 -- it counts since the observation began, and not since the last report
@@ -61,6 +62,21 @@ length_in d = option_map number_of (get (codes "ieLength") d)
 
 abbrev pub is_key_in : Bool → Data → Bool
 is_key_in immediate d = is_key immediate (element_in d) (is_some (get (codes "isFlowKey") d))
+
+-- what a field holds, and whether it is a flow key
+abbrev pub use_rows : Bool → List Row
+use_rows immediate =
+    one_of (codes "ieName" ∷ codes "ieId" ∷ [])
+    ∷ optional (codes "ieName") text_faults
+    ∷ optional (codes "ieId") (whole_faults 1 32767)
+    ∷ optional (codes "ieLength") (whole_faults 1 65535)
+    ∷ optional (codes "ieEnterpriseNumber") (whole_faults 0 0xffff_ffff)
+    ∷ optional (codes "isFlowKey") empty_faults
+    ∷ then_check (λ up d. field_check (element_in d) (is_key_in immediate d) (length_in d) up)
+    ∷ []
+
+abbrev pub field_use : Bool → Data → FieldUse
+field_use immediate d = record { element = element_in d; is_flow_key = is_key_in immediate d }
 
 abbrev pub cache_field_rows : Bool → List (List ℕ) → List Row
 cache_field_rows immediate earlier =

@@ -57,6 +57,16 @@ kind_in d = kind_given
     (option_map (settings_of false) (get (codes "naturalCache") d))
     (option_map (settings_of false) (get (codes "permanentCache") d))
 
+-- exactly one kind is given
+abbrev pub kind_rows : List Row
+kind_rows =
+    one_of (codes "immediateCache" ∷ codes "timeoutCache" ∷ codes "naturalCache" ∷ codes "permanentCache" ∷ [])
+    ∷ optional (codes "immediateCache") (settings_faults true)
+    ∷ optional (codes "timeoutCache") (settings_faults false)
+    ∷ optional (codes "naturalCache") (settings_faults false)
+    ∷ optional (codes "permanentCache") (settings_faults false)
+    ∷ []
+
 -- ---- caches
 
 abbrev pub cache_rows : List (List ℕ) → List Row

@@ -15,6 +15,13 @@ abbrev pub exporters : List (List ℕ)
 exporters = codes "tcpExporter" ∷ codes "sctpExporter" ∷ codes "udpExporter" ∷ []
 
 -- one exporter, which is left unread; files are none
+abbrev pub transport_rows : List Row
+transport_rows =
+    none_of ((codes "fileWriter", file_transport) ∷ [])
+    ∷ one_of exporters
+    ∷ unread exporters
+    ∷ []
+
 abbrev pub destination_rows : List (List ℕ) → List Row
 destination_rows earlier =
     required_row (codes "name") (name_once earlier)

@@ -12,6 +12,11 @@ use Rattle.fx_config.specs.References.{reference_faults}
 use Rattle.fx_config.specs.Limits.{entry_limit}
 use Rattle.fx_config.specs.declared.ipfix.Device.{Device}
 use Rattle.fx_config.specs.declared.ipfix.Ipfix.{Ipfix}
+use Rattle.fx_config.specs.declared.ipfix.Lists.{Lists}
+use Rattle.fx_config.specs.declared.ipfix.Referred.{Referred}
+use Rattle.fx_config.specs.declared.observation_point.ObservationPoint.{ObservationPoint}
+use Rattle.fx_config.specs.declared.collecting_process.CollectingProcess.{CollectingProcess}
+use Rattle.fx_walk.specs.NamedEntries.{named_entries}
 
 -- ---- the container ipfix
 
@@ -33,6 +38,49 @@ ipfix_rows =
     ∷ entries 0 entry_limit (codes "collectingProcess") collecting_process_faults (λ d. (collecting_process_of d).name)
     ∷ then_check (λ up d. reference_faults up (lists_of d))
     ∷ []
+
+-- the lists to whose entries others refer, and all lists
+abbrev pub referred_rows : List Row
+referred_rows =
+    entries 0 entry_limit (codes "selectionProcess") selection_process_faults (λ d. (selection_process_of d).name)
+    ∷ entries 0 entry_limit (codes "cache") cache_faults (λ d. (cache_of d).name)
+    ∷ entries 0 entry_limit (codes "exportingProcess") exporting_process_faults (λ d. (exporting_process_of d).name)
+    ∷ []
+
+abbrev pub list_rows : List Row
+list_rows =
+    entries 0 entry_limit (codes "observationPoint") observation_point_faults (λ d. (observation_point_of d).name)
+    ∷ entries 0 entry_limit (codes "selectionProcess") selection_process_faults (λ d. (selection_process_of d).name)
+    ∷ entries 0 entry_limit (codes "cache") cache_faults (λ d. (cache_of d).name)
+    ∷ entries 0 entry_limit (codes "exportingProcess") exporting_process_faults (λ d. (exporting_process_of d).name)
+    ∷ entries 0 entry_limit (codes "collectingProcess") collecting_process_faults (λ d. (collecting_process_of d).name)
+    ∷ []
+
+abbrev pub referred_of : Data → Referred
+referred_of d = record {
+  selecting = named_entries (λ x. x.name) (map selection_process_of (items_of (member_of (codes "selectionProcess") d)));
+  caches = named_entries (λ x. x.name) (map cache_of (items_of (member_of (codes "cache") d)));
+  exporting = named_entries (λ x. x.name) (map exporting_process_of (items_of (member_of (codes "exportingProcess") d)));
+}
+
+abbrev pub with_others : List ObservationPoint → Referred → List CollectingProcess → Lists
+with_others points referred collecting = record {
+  device = record {
+    observation_points = points;
+    selection_processes = referred.selecting.items;
+    caches = referred.caches.items;
+    exporting_processes = referred.exporting.items;
+    collecting_processes = collecting;
+  };
+  known = record {
+    selecting = referred.selecting.names;
+    caches = referred.caches.names;
+    exporting = referred.exporting.names;
+  };
+}
+
+abbrev pub named_lists_of : Data → Lists
+named_lists_of d = with_others (map observation_point_of (items_of (member_of (codes "observationPoint") d))) (referred_of d) (map collecting_process_of (items_of (member_of (codes "collectingProcess") d)))
 
 abbrev pub ipfix_faults : List ℕ → Data → List FoundFault
 ipfix_faults = object_faults ipfix_rows

@@ -1,9 +1,12 @@
 -- Information elements as documents give them: by name, or by number.
-use Rattle.std.specs.Prelude.{ℕ, ◌==◌, codes, Option, Some, None, option_map, if◌then◌else◌}
+use Rattle.std.specs.Prelude.{ℕ, ◌==◌, List, [], ◌∷◌, codes, Option, Some, None, option_map, if◌then◌else◌}
 use Rattle.std.specs.Option.{unwrap_or}
 use Rattle.serde_json.specs.Data.{Data}
 use Rattle.serde_json.specs.Find.{get}
-use Rattle.fx_walk.specs.Scalars.{text_of, number_of}
+use Rattle.fx_walk.specs.Choice.{one_of}
+use Rattle.fx_walk.specs.Scalars.{text_of, number_of, text_faults, whole_faults}
+use Rattle.fx_walk.specs.Walk.{Row, optional}
+use Rattle.fx_config.specs.declared.element.GivenElement.{GivenElement}
 use Rattle.fx_elements.specs.declared.element.Element.{Element}
 use Rattle.fx_elements.specs.declared.element.Element.TheVariants.{Other}
 use Rattle.fx_elements.specs.Elements.{element_named, element_numbered}
@@ -29,3 +32,14 @@ enterprise_in d = enterprise_given (option_map number_of (get (codes "ieEnterpri
 -- the element that an object's members give
 abbrev pub element_in : Data → Element
 element_in d = element_given (name_in d) (number_in d) (enterprise_in d)
+
+-- the members of which an object has exactly one, and what they give
+abbrev pub element_rows : List Row
+element_rows =
+    one_of (codes "ieName" ∷ codes "ieId" ∷ [])
+    ∷ optional (codes "ieName") text_faults
+    ∷ optional (codes "ieId") (whole_faults 1 32767)
+    ∷ []
+
+abbrev pub given_element : Data → GivenElement
+given_element d = record { named = name_in d; numbered = number_in d }

@@ -1,6 +1,7 @@
 pub use Rattle.fx_walk.specs.Pointer
 pub use Rattle.fx_walk.specs.Walk
 pub mod Limits
+pub mod EntryNames
 pub mod Destinations
 pub mod ExportingProcesses
 pub mod ObservationPoints

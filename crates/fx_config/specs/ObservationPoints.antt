@@ -8,6 +8,7 @@ use Rattle.fx_walk.specs.Lists.{entries, items_of, name_once}
 use Rattle.fx_walk.specs.Scalars.{text_of, number_of, whole_faults, word_faults, word_given}
 use Rattle.fx_config.specs.Limits.{entry_limit}
 use Rattle.fx_config.specs.declared.observation_point.ObservationPoint.{ObservationPoint}
+use Rattle.fx_config.specs.declared.observation_point.Scope.{Scope}
 use Rattle.fx_config.specs.declared.observation_point.Direction.{Direction}
 use Rattle.fx_config.specs.declared.observation_point.Direction.TheVariants.{Ingress, Egress, Both}
 
@@ -20,6 +21,21 @@ direction_named name =
     (if bytes_eq name (codes "both") then Some Both else None))
 
 -- ---- observation points
+
+-- what a point sees
+abbrev pub scope_rows : List Row
+scope_rows =
+    required_row (codes "observationDomainId") (whole_faults 0 0xffff_ffff)
+    ∷ entries 1 entry_limit (codes "ifName") name_once text_of
+    ∷ optional (codes "direction") (word_faults direction_named)
+    ∷ []
+
+abbrev pub scope_of : Data → Scope
+scope_of d = record {
+  observation_domain_id = number_of (member_of (codes "observationDomainId") d);
+  interfaces = map text_of (items_of (member_of (codes "ifName") d));
+  direction = word_given direction_named Both (get (codes "direction") d);
+}
 
 abbrev pub observation_point_rows : List (List ℕ) → List Row
 observation_point_rows earlier =

@@ -35,6 +35,15 @@ inexact =
     ∷ (codes "filterHash", hash_filter)
     ∷ []
 
+-- exactly one method is given, and none of those
+abbrev pub method_rows : List Row
+method_rows =
+    none_of inexact
+    ∷ one_of (codes "selectAll" ∷ codes "filterMatch" ∷ [])
+    ∷ optional (codes "selectAll") all_faults
+    ∷ optional (codes "filterMatch") property_match_faults
+    ∷ []
+
 abbrev pub selector_rows : List (List ℕ) → List Row
 selector_rows earlier =
     required_row (codes "name") (name_once earlier)
@@ -50,6 +59,9 @@ selector_faults earlier = object_faults (selector_rows earlier)
 abbrev pub method_given : Option PropertyMatch → Method
 method_given (Some filter) = FilterMatch filter
 method_given None = SelectAll
+
+abbrev pub method_in : Data → Method
+method_in d = method_given (option_map property_match_of (get (codes "filterMatch") d))
 
 abbrev pub selector_of : Data → Selector
 selector_of d = record {

@@ -1,15 +1,13 @@
 //! Aggregations of collecting processes.
 ghost use Rattle.fx_config.specs.Aggregations.{aggregation_faults, aggregation_of};
 
+use crate::entry_name::entry_name;
 use crate::key::key_member;
 use crate::limits::ENTRIES;
 use crate::property_match::PropertyMatch;
 use fx_base::{Fault, Name};
 use fx_layout::Layout;
-use fx_walk::{
-    DocumentPath, Entry, Named, Names, Sequence, entries_member, items_member, name_member,
-    object_of,
-};
+use fx_walk::{DocumentPath, Entry, Named, Names, Sequence, entries_member, items_member};
 use serde_json::Value;
 use std::alloc::Global;
 
@@ -45,13 +43,13 @@ impl Entry for Aggregation {
         value: &Value,
         earlier: &mut Names,
     ) -> Result<Aggregation, Fault> {
-        object_of(
+        let name = entry_name(
             alloc,
             path,
             value,
             &["name", "key", "match", "exportingProcess"],
+            earlier,
         )?;
-        let name = name_member(alloc, path, value, earlier)?;
         let key = key_member(alloc, path, value)?;
         let matches = items_member(alloc, path, value, "match", 0, ENTRIES)?;
         let processes = entries_member(alloc, path, value, "exportingProcess", 0, ENTRIES)?;

@@ -3,16 +3,17 @@ ghost use Rattle.std.specs.Prelude.{◌≡◌, ℕ, option_map};
 ghost use Rattle.serde_json.specs.View.{view};
 ghost use Rattle.serde_json.specs.Find.{get};
 ghost use Rattle.fx_walk.specs.Pointer.{pointer};
-ghost use Rattle.fx_walk.specs.Walk.{Reads, optional};
-ghost use Rattle.fx_config.specs.Caches.{cache_faults, cache_of, kind_given, max_flows_given, of_kind, settings_faults, settings_of};
+ghost use Rattle.fx_walk.specs.Walk.{Reads, optional, row_faults};
+ghost use Rattle.fx_config.specs.Caches.{cache_faults, cache_of, kind_given, kind_in, kind_rows, max_flows_given, of_kind, settings_faults, settings_of};
 
 use crate::cache_layout::layout_member;
+use crate::entry_name::entry_name;
 use crate::limits::ENTRIES;
 use fx_base::{Fault, Name};
 use fx_layout::Layout;
 use fx_walk::{
-    DocumentPath, Entry, Named, Names, Sequence, Whole, entries_member, name_member, object_of,
-    one_of, optional_member,
+    DocumentPath, Entry, Named, Names, Sequence, Whole, entries_member, object_of, one_of,
+    optional_member,
 };
 use serde_json::Value;
 use std::alloc::Global;
@@ -34,7 +35,7 @@ pub enum CacheKind {
 type Number = Whole<0, 0xffff_ffff>;
 
 /// The settings of a kind of cache. Timeouts and intervals are read, and nothing here depends on them.
-#[derive(Debug, Drop)]
+#[derive(Drop)]
 struct Settings {
     max_flows: u32,
     layout: Layout,
@@ -110,7 +111,7 @@ fn settings_member(
 }
 
 /// A kind of cache with its settings.
-#[derive(Debug, Drop)]
+#[derive(Drop)]
 struct Kind {
     kind: CacheKind,
     max_flows: u32,
@@ -158,6 +159,29 @@ fn kind_given(
     }
 }
 
+/// Reads the kind of the cache at the path, of which exactly one is given.
+fn read_kind(alloc: Global, path: &DocumentPath<'_>, value: &Value) -> Result<Kind, Fault>
+    ensures { Reads (row_faults kind_rows (pointer path.now) (view value.now))
+        (kind_in (view value.now)) result }
+{
+    one_of(
+        alloc,
+        path,
+        value,
+        &[
+            "immediateCache",
+            "timeoutCache",
+            "naturalCache",
+            "permanentCache",
+        ],
+    )?;
+    let immediate = settings_member(alloc, path, value, "immediateCache", true)?;
+    let timeout = settings_member(alloc, path, value, "timeoutCache", false)?;
+    let natural = settings_member(alloc, path, value, "naturalCache", false)?;
+    let permanent = settings_member(alloc, path, value, "permanentCache", false)?;
+    Ok(kind_given(immediate, timeout, natural, permanent))
+}
+
 /// A cache, which counts the packets of flows in records (RFC 6728, section 4.3).
 #[derive(Debug, Drop)]
 pub struct Cache {
@@ -192,7 +216,7 @@ impl Entry for Cache {
         value: &Value,
         earlier: &mut Names,
     ) -> Result<Cache, Fault> {
-        object_of(
+        let name = entry_name(
             alloc,
             path,
             value,
@@ -204,25 +228,10 @@ impl Entry for Cache {
                 "permanentCache",
                 "exportingProcess",
             ],
+            earlier,
         )?;
-        let name = name_member(alloc, path, value, earlier)?;
-        one_of(
-            alloc,
-            path,
-            value,
-            &[
-                "immediateCache",
-                "timeoutCache",
-                "naturalCache",
-                "permanentCache",
-            ],
-        )?;
-        let immediate = settings_member(alloc, path, value, "immediateCache", true)?;
-        let timeout = settings_member(alloc, path, value, "timeoutCache", false)?;
-        let natural = settings_member(alloc, path, value, "naturalCache", false)?;
-        let permanent = settings_member(alloc, path, value, "permanentCache", false)?;
+        let given = read_kind(alloc, path, value)?;
         let processes = entries_member(alloc, path, value, "exportingProcess", 0, ENTRIES)?;
-        let given = kind_given(immediate, timeout, natural, permanent);
         Ok(Cache {
             name,
             kind: given.kind,

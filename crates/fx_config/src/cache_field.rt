@@ -2,17 +2,17 @@
 ghost use Rattle.std.specs.Prelude.{◌≡◌, ℕ, List, [], ◌∷◌, ◌++◌, map, codes, OnOk};
 ghost use Rattle.serde_json.specs.View.{view};
 ghost use Rattle.fx_walk.specs.Pointer.{pointer};
-ghost use Rattle.fx_walk.specs.Walk.{Reads, member_of};
+ghost use Rattle.fx_walk.specs.Walk.{Reads, member_of, row_faults};
 ghost use Rattle.fx_walk.specs.Lists.{entries_faults, items_of};
-ghost use Rattle.fx_config.specs.CacheFields.{cache_field_faults, cache_field_of, element_faults, field_check, fields_row, has_other_octets, is_delta_count, is_key, length_faults};
+ghost use Rattle.fx_config.specs.CacheFields.{cache_field_faults, cache_field_of, element_faults, field_check, field_use, fields_row, has_other_octets, is_delta_count, is_key, length_faults, use_rows};
 
-use crate::element::{ElementNumber, Enterprise, NamedElement, element_given};
+use crate::element::{Enterprise, read_element};
+use crate::entry_name::entry_name;
 use crate::limits::FIELDS;
 use fx_base::{Fault, Name, refusals};
 use fx_elements::{Element, width};
 use fx_walk::{
-    DocumentPath, Empty, Named, Names, Sequence, Whole, items_in, name_member, object_of, one_of,
-    optional_member, refusal,
+    DocumentPath, Empty, Named, Names, Sequence, Whole, items_in, optional_member, refusal,
 };
 use serde_json::Value;
 use std::alloc::Global;
@@ -112,8 +112,38 @@ fn known_field(
     known_length(alloc, path, element, key, length)
 }
 
+/// What a field holds, and whether it is a flow key.
+#[derive(Clone, Copy)]
+struct FieldUse {
+    element: Element,
+    is_flow_key: bool,
+}
+
+/// Reads what the field at the path holds, and whether it is a flow key, in a cache that is immediate, or isn't.
+fn read_use(
+    alloc: Global,
+    path: &DocumentPath<'_>,
+    value: &Value,
+    immediate: bool,
+) -> Result<FieldUse, Fault>
+    ensures { Reads (row_faults (use_rows immediate) (pointer path.now) (view value.now))
+        (field_use immediate (view value.now)) result }
+{
+    let given = read_element(alloc, path, value)?;
+    let length = optional_member::<OctetCount>(alloc, path, value, "ieLength")?;
+    let enterprise = optional_member::<Enterprise>(alloc, path, value, "ieEnterpriseNumber")?;
+    let marked = optional_member::<Empty>(alloc, path, value, "isFlowKey")?;
+    let element = given.with(enterprise);
+    let is_flow_key = is_key(immediate, element, marked.is_some());
+    known_field(alloc, path, element, is_flow_key, length)?;
+    Ok(FieldUse {
+        element,
+        is_flow_key,
+    })
+}
+
 /// A field of the records that a cache makes (RFC 6728, section 4.3.3).
-#[derive(Debug, Drop)]
+#[derive(Drop)]
 pub struct CacheField {
     /// Its name, which differs from those of the layout's other fields.
     pub name: Name,
@@ -145,7 +175,7 @@ fn read_field(
     ensures names { OnOk result (earlier.new
         ≡ earlier.old ++ (cache_field_of immediate (view value.now)).name ∷ []) }
 {
-    object_of(
+    let name = entry_name(
         alloc,
         path,
         value,
@@ -157,21 +187,13 @@ fn read_field(
             "ieEnterpriseNumber",
             "isFlowKey",
         ],
+        earlier,
     )?;
-    let name = name_member(alloc, path, value, earlier)?;
-    one_of(alloc, path, value, &["ieName", "ieId"])?;
-    let named = optional_member::<NamedElement>(alloc, path, value, "ieName")?;
-    let numbered = optional_member::<ElementNumber>(alloc, path, value, "ieId")?;
-    let length = optional_member::<OctetCount>(alloc, path, value, "ieLength")?;
-    let enterprise = optional_member::<Enterprise>(alloc, path, value, "ieEnterpriseNumber")?;
-    let marked = optional_member::<Empty>(alloc, path, value, "isFlowKey")?;
-    let element = element_given(named, numbered, enterprise);
-    let is_flow_key = is_key(immediate, element, marked.is_some());
-    known_field(alloc, path, element, is_flow_key, length)?;
+    let given = read_use(alloc, path, value, immediate)?;
     Ok(CacheField {
         name,
-        element,
-        is_flow_key,
+        element: given.element,
+        is_flow_key: given.is_flow_key,
     })
 }
 

@@ -2,12 +2,10 @@
 ghost use Rattle.fx_config.specs.CollectingProcesses.{collecting_process_faults, collecting_process_of};
 
 use crate::aggregation::Aggregation;
+use crate::entry_name::entry_name;
 use crate::limits::ENTRIES;
 use fx_base::{Fault, Name, refusals};
-use fx_walk::{
-    DocumentPath, Entry, Named, Names, Refused, Sequence, entries_member, name_member, none_of,
-    object_of,
-};
+use fx_walk::{DocumentPath, Entry, Named, Names, Refused, Sequence, entries_member, none_of};
 use serde_json::Value;
 use std::alloc::Global;
 
@@ -41,7 +39,7 @@ impl Entry for CollectingProcess {
         value: &Value,
         earlier: &mut Names,
     ) -> Result<CollectingProcess, Fault> {
-        object_of(
+        let name = entry_name(
             alloc,
             path,
             value,
@@ -54,8 +52,8 @@ impl Entry for CollectingProcess {
                 "exportingProcess",
                 "once-audit:aggregation",
             ],
+            earlier,
         )?;
-        let name = name_member(alloc, path, value, earlier)?;
         let files = Refused {
             name: "fileReader",
             number: refusals::FILE_TRANSPORT,

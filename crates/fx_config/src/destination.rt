@@ -1,12 +1,13 @@
 //! Destinations of exporting processes.
 ghost use Rattle.std.specs.Prelude.{◌≡◌};
 ghost use Rattle.serde_json.specs.View.{view};
-ghost use Rattle.fx_config.specs.Destinations.{destination_faults, destination_of, transport_of};
+ghost use Rattle.fx_walk.specs.Pointer.{pointer};
+ghost use Rattle.fx_walk.specs.Walk.{Reads, row_faults};
+ghost use Rattle.fx_config.specs.Destinations.{destination_faults, destination_of, transport_of, transport_rows};
 
+use crate::entry_name::entry_name;
 use fx_base::{Fault, Name, refusals};
-use fx_walk::{
-    DocumentPath, Entry, Named, Names, Refused, name_member, none_of, object_of, one_of,
-};
+use fx_walk::{DocumentPath, Entry, Named, Names, Refused, none_of, one_of};
 use serde_json::Value;
 use std::alloc::Global;
 
@@ -32,6 +33,25 @@ fn transport_of(object: &Value) -> Transport
     } else {
         Transport::Udp
     }
+}
+
+/// Reads the transport of the destination at the path, of which exactly one exporter is given.
+fn read_transport(alloc: Global, path: &DocumentPath<'_>, value: &Value) -> Result<Transport, Fault>
+    ensures { Reads (row_faults transport_rows (pointer path.now) (view value.now))
+        (transport_of (view value.now)) result }
+{
+    let files = Refused {
+        name: "fileWriter",
+        number: refusals::FILE_TRANSPORT,
+    };
+    none_of(alloc, path, value, &[files])?;
+    one_of(
+        alloc,
+        path,
+        value,
+        &["tcpExporter", "sctpExporter", "udpExporter"],
+    )?;
+    Ok(transport_of(value))
 }
 
 /// A destination to which an exporting process sends records (RFC 6728, section 4.4).
@@ -62,7 +82,7 @@ impl Entry for Destination {
         value: &Value,
         earlier: &mut Names,
     ) -> Result<Destination, Fault> {
-        object_of(
+        let name = entry_name(
             alloc,
             path,
             value,
@@ -73,22 +93,9 @@ impl Entry for Destination {
                 "sctpExporter",
                 "udpExporter",
             ],
+            earlier,
         )?;
-        let name = name_member(alloc, path, value, earlier)?;
-        let files = Refused {
-            name: "fileWriter",
-            number: refusals::FILE_TRANSPORT,
-        };
-        none_of(alloc, path, value, &[files])?;
-        one_of(
-            alloc,
-            path,
-            value,
-            &["tcpExporter", "sctpExporter", "udpExporter"],
-        )?;
-        Ok(Destination {
-            name,
-            transport: transport_of(value),
-        })
+        let transport = read_transport(alloc, path, value)?;
+        Ok(Destination { name, transport })
     }
 }

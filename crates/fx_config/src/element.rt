@@ -1,18 +1,21 @@
 //! Information elements as documents give them: by name, or by number.
 ghost use Rattle.std.specs.Prelude.{◌≡◌, ℕ};
+ghost use Rattle.serde_json.specs.View.{view};
+ghost use Rattle.fx_walk.specs.Pointer.{pointer};
 ghost use Rattle.fx_walk.specs.Scalars.{text_faults, text_of};
-ghost use Rattle.fx_config.specs.GivenElements.{element_given, enterprise_given};
+ghost use Rattle.fx_walk.specs.Walk.{Reads, row_faults};
+ghost use Rattle.fx_config.specs.GivenElements.{element_given, element_rows, enterprise_given, given_element};
 ghost use Rattle.fx_elements.specs.Elements.{element_named};
 
 use fx_base::{Fault, refusals};
 use fx_elements::{Element, by_id, by_name};
-use fx_walk::{DocumentPath, FromValue, Whole, refusal};
+use fx_walk::{DocumentPath, FromValue, Whole, one_of, optional_member, refusal};
 use serde_json::Value;
 use std::alloc::Global;
 use std::marker::Model;
 
 /// An element that is given by its name, which may be any text: 104 for no text. Contracts see the element.
-#[derive(Debug, Drop)]
+#[derive(Drop)]
 pub struct NamedElement {
     element: Element,
 }
@@ -45,7 +48,7 @@ impl FromValue for NamedElement {
 }
 
 /// The number of an element.
-pub type ElementNumber = Whole<1, 32767>;
+type ElementNumber = Whole<1, 32767>;
 
 /// The number of an enterprise, of which 0 stands for the IANA registry.
 pub type Enterprise = Whole<0, 0xffff_ffff>;
@@ -61,7 +64,7 @@ fn enterprise_given(enterprise: Option<Enterprise>) -> u32
 }
 
 /// The element that is given by its name or by its number, of an enterprise or of the registry.
-pub fn element_given(
+fn element_given(
     named: Option<NamedElement>,
     numbered: Option<ElementNumber>,
     enterprise: Option<Enterprise>,
@@ -77,4 +80,35 @@ pub fn element_given(
             None => Element::Other,
         },
     }
+}
+
+/// An element as an object's members `ieName` and `ieId` give it.
+#[derive(Drop)]
+pub struct GivenElement {
+    named: Option<NamedElement>,
+    numbered: Option<ElementNumber>,
+}
+
+impl GivenElement {
+    /// The element, of an enterprise or of the registry.
+    pub fn with(self, enterprise: Option<Enterprise>) -> Element
+        ensures { result ≡ element_given self.named self.numbered (enterprise_given enterprise) }
+    {
+        element_given(self.named, self.numbered, enterprise)
+    }
+}
+
+/// Reads the name or the number of an element, of which the object at the path has exactly one.
+pub fn read_element(
+    alloc: Global,
+    path: &DocumentPath<'_>,
+    value: &Value,
+) -> Result<GivenElement, Fault>
+    ensures { Reads (row_faults element_rows (pointer path.now) (view value.now))
+        (given_element (view value.now)) result }
+{
+    one_of(alloc, path, value, &["ieName", "ieId"])?;
+    let named = optional_member(alloc, path, value, "ieName")?;
+    let numbered = optional_member(alloc, path, value, "ieId")?;
+    Ok(GivenElement { named, numbered })
 }

@@ -3,12 +3,10 @@ ghost use Rattle.fx_config.specs.ExportingProcesses.{export_mode_named, exportin
 ghost use Rattle.fx_config.specs.declared.exporting_process.ExportMode.TheVariants.{Parallel};
 
 use crate::destination::Destination;
+use crate::entry_name::entry_name;
 use crate::limits::ENTRIES;
 use fx_base::{Fault, Name};
-use fx_walk::{
-    DocumentPath, Entry, Named, Names, Sequence, Word, entries_member, name_member, object_of,
-    word_member,
-};
+use fx_walk::{DocumentPath, Entry, Named, Names, Sequence, Word, entries_member, word_member};
 use serde_json::Value;
 use std::alloc::Global;
 
@@ -73,13 +71,13 @@ impl Entry for ExportingProcess {
         value: &Value,
         earlier: &mut Names,
     ) -> Result<ExportingProcess, Fault> {
-        object_of(
+        let name = entry_name(
             alloc,
             path,
             value,
             &["name", "exportMode", "destination", "options"],
+            earlier,
         )?;
-        let name = name_member(alloc, path, value, earlier)?;
         let mode = word_member(alloc, path, value, "exportMode")?;
         let destinations = entries_member(alloc, path, value, "destination", 1, ENTRIES)?;
         Ok(ExportingProcess {

@@ -1,8 +1,10 @@
 //! The container `ipfix`: a device's five lists.
 ghost use Rattle.fx_walk.specs.Pointer.{pointer};
-ghost use Rattle.fx_walk.specs.Walk.{Reads};
+ghost use Rattle.fx_walk.specs.Walk.{Reads, row_faults};
+ghost use Rattle.serde_json.specs.View.{view};
+ghost use Rattle.std.specs.Prelude.{◌≡◌};
 ghost use Rattle.fx_config.specs.References.{references_among};
-ghost use Rattle.fx_config.specs.Devices.{ipfix_faults, ipfix_of};
+ghost use Rattle.fx_config.specs.Devices.{ipfix_faults, ipfix_of, ipfix_rows, list_rows, lists_of, named_lists_of, referred_of, referred_rows, with_others};
 
 use crate::cache::Cache;
 use crate::collecting_process::CollectingProcess;
@@ -12,8 +14,8 @@ use crate::observation_point::ObservationPoint;
 use crate::selection_process::SelectionProcess;
 use fx_base::Fault;
 use fx_walk::{
-    DocumentPath, EntryNames, FromValue, Sequence, entries_member, items_refer, named_member,
-    object_of,
+    DocumentPath, Entries, EntryNames, FromValue, Sequence, entries_member, items_refer,
+    named_member, object_of,
 };
 use serde_json::Value;
 use std::alloc::Global;
@@ -64,8 +66,91 @@ fn refers(
     items_refer(alloc, path, "collectingProcess", collecting, exporting)
 }
 
+/// The lists of a device to whose entries others refer.
+#[derive(Drop)]
+struct Referred {
+    selecting: Entries<SelectionProcess>,
+    caches: Entries<Cache>,
+    exporting: Entries<ExportingProcess>,
+}
+
+/// Reads the lists to whose entries others refer, of the container `ipfix` at the path.
+fn read_referred(alloc: Global, path: &DocumentPath<'_>, value: &Value) -> Result<Referred, Fault>
+    ensures { Reads (row_faults referred_rows (pointer path.now) (view value.now))
+        (referred_of (view value.now)) result }
+{
+    let selecting = named_member(alloc, path, value, "selectionProcess", 0, ENTRIES)?;
+    let caches = named_member(alloc, path, value, "cache", 0, ENTRIES)?;
+    let exporting = named_member(alloc, path, value, "exportingProcess", 0, ENTRIES)?;
+    Ok(Referred {
+        selecting,
+        caches,
+        exporting,
+    })
+}
+
+/// A device with the names of its things to which others refer.
+#[derive(Drop)]
+struct Lists {
+    device: Device,
+    known: KnownNames,
+}
+
+impl Referred {
+    /// The device with these and the other lists.
+    fn with(
+        self,
+        points: Sequence<ObservationPoint>,
+        collecting: Sequence<CollectingProcess>,
+    ) -> Lists
+        ensures { result ≡ with_others points self collecting }
+    {
+        let Referred {
+            selecting,
+            caches,
+            exporting,
+        } = self;
+        let device = Device {
+            observation_points: points,
+            selection_processes: selecting.items,
+            caches: caches.items,
+            exporting_processes: exporting.items,
+            collecting_processes: collecting,
+        };
+        let known = KnownNames {
+            selecting: selecting.names,
+            caches: caches.names,
+            exporting: exporting.names,
+        };
+        Lists { device, known }
+    }
+}
+
+/// Reads all lists of the container `ipfix` at the path.
+fn read_lists(alloc: Global, path: &DocumentPath<'_>, value: &Value) -> Result<Lists, Fault>
+    ensures { Reads (row_faults list_rows (pointer path.now) (view value.now))
+        (named_lists_of (view value.now)) result }
+{
+    let points = entries_member(alloc, path, value, "observationPoint", 0, ENTRIES)?;
+    let referred = read_referred(alloc, path, value)?;
+    let collecting = entries_member(alloc, path, value, "collectingProcess", 0, ENTRIES)?;
+    Ok(referred.with(points, collecting))
+}
+
+/// The device that the lists of the container `ipfix` at the path make. Refuses a name that stands for nothing of it.
+fn device_at(alloc: Global, path: &DocumentPath<'_>, value: &Value) -> Result<Device, Fault>
+    ensures { Reads (row_faults ipfix_rows (pointer path.now) (view value.now))
+        (lists_of (view value.now)) result }
+{
+    let Lists { device, known } = read_lists(alloc, path, value)?;
+    let answer = refers(alloc, path, &device, &known);
+    drop(known);
+    answer?;
+    Ok(device)
+}
+
 /// The container `ipfix` (RFC 6728, section 6).
-#[derive(Debug, Drop)]
+#[derive(Drop)]
 pub struct Ipfix {
     /// What it configures.
     pub device: Device,
@@ -89,24 +174,7 @@ impl FromValue for Ipfix {
                 "collectingProcess",
             ],
         )?;
-        let points = entries_member(alloc, path, value, "observationPoint", 0, ENTRIES)?;
-        let selecting = named_member(alloc, path, value, "selectionProcess", 0, ENTRIES)?;
-        let caches = named_member(alloc, path, value, "cache", 0, ENTRIES)?;
-        let exporting = named_member(alloc, path, value, "exportingProcess", 0, ENTRIES)?;
-        let collecting = entries_member(alloc, path, value, "collectingProcess", 0, ENTRIES)?;
-        let device = Device {
-            observation_points: points,
-            selection_processes: selecting.items,
-            caches: caches.items,
-            exporting_processes: exporting.items,
-            collecting_processes: collecting,
-        };
-        let known = KnownNames {
-            selecting: selecting.names,
-            caches: caches.names,
-            exporting: exporting.names,
-        };
-        refers(alloc, path, &device, &known)?;
+        let device = device_at(alloc, path, value)?;
         Ok(Ipfix { device })
     }
 }

@@ -4,11 +4,11 @@ ghost use Rattle.fx_walk.specs.Pointer.{pointer};
 ghost use Rattle.fx_walk.specs.Walk.{Reads};
 ghost use Rattle.fx_config.specs.KeyFields.{is_prefix, key_field_faults, key_field_of, longest_prefix, part_of, prefix_check, prefix_part};
 
-use crate::element::{ElementNumber, NamedElement, element_given};
+use crate::element::read_element;
 use fx_base::{Fault, refusals};
 use fx_elements::{Axis, Element, width};
 use fx_layout::Part;
-use fx_walk::{DocumentPath, FromValue, Whole, object_of, one_of, optional_member, refusal};
+use fx_walk::{DocumentPath, FromValue, Whole, object_of, optional_member, refusal};
 use serde_json::Value;
 use std::alloc::Global;
 
@@ -88,11 +88,9 @@ impl FromValue for KeyField {
         value: &Value,
     ) -> Result<KeyField, Fault> {
         object_of(alloc, path, value, &["ieName", "ieId", "prefixLength"])?;
-        one_of(alloc, path, value, &["ieName", "ieId"])?;
-        let named = optional_member::<NamedElement>(alloc, path, value, "ieName")?;
-        let numbered = optional_member::<ElementNumber>(alloc, path, value, "ieId")?;
+        let given = read_element(alloc, path, value)?;
         let length = optional_member::<PrefixLength>(alloc, path, value, "prefixLength")?;
-        let element = element_given(named, numbered, None);
+        let element = given.with(None);
         let prefix_length = bits_given(length);
         known_prefix(alloc, path, element, prefix_length)?;
         Ok(KeyField {

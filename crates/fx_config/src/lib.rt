@@ -9,6 +9,7 @@ mod collecting_process;
 mod destination;
 mod device;
 mod element;
+mod entry_name;
 mod exporting_process;
 mod ipfix;
 mod key;

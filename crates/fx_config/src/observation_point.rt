@@ -1,12 +1,16 @@
 //! Observation points.
-ghost use Rattle.fx_config.specs.ObservationPoints.{direction_named, observation_point_faults, observation_point_of};
+ghost use Rattle.serde_json.specs.View.{view};
+ghost use Rattle.fx_walk.specs.Pointer.{pointer};
+ghost use Rattle.fx_walk.specs.Walk.{Reads, row_faults};
+ghost use Rattle.fx_config.specs.ObservationPoints.{direction_named, observation_point_faults, observation_point_of, scope_of, scope_rows};
 ghost use Rattle.fx_config.specs.declared.observation_point.Direction.TheVariants.{Both};
 
+use crate::entry_name::entry_name;
 use crate::limits::ENTRIES;
 use fx_base::{Fault, Name};
 use fx_walk::{
-    DocumentPath, Entry, Named, Names, Sequence, Whole, Word, entries_member, name_member,
-    object_of, required_member, word_member,
+    DocumentPath, Entry, Named, Names, Sequence, Whole, Word, entries_member, required_member,
+    word_member,
 };
 use serde_json::Value;
 use std::alloc::Global;
@@ -40,6 +44,34 @@ impl Word for Direction {
     fn meaning_unsaid() -> Direction {
         Direction::Both
     }
+}
+
+/// What an observation point sees.
+#[derive(Drop)]
+struct Scope {
+    observation_domain_id: u32,
+    interfaces: Sequence<Name>,
+    direction: Direction,
+}
+
+/// Reads what the observation point at the path sees.
+fn read_scope(alloc: Global, path: &DocumentPath<'_>, value: &Value) -> Result<Scope, Fault>
+    ensures { Reads (row_faults scope_rows (pointer path.now) (view value.now))
+        (scope_of (view value.now)) result }
+{
+    let domain = required_member::<Whole<0, 0xffff_ffff>>(
+        alloc,
+        path,
+        value,
+        "observationDomainId",
+    )?;
+    let interfaces = entries_member(alloc, path, value, "ifName", 1, ENTRIES)?;
+    let direction = word_member(alloc, path, value, "direction")?;
+    Ok(Scope {
+        observation_domain_id: domain.number(),
+        interfaces,
+        direction,
+    })
 }
 
 /// A place where packets are observed (RFC 6728, section 4.1).
@@ -76,7 +108,7 @@ impl Entry for ObservationPoint {
         value: &Value,
         earlier: &mut Names,
     ) -> Result<ObservationPoint, Fault> {
-        object_of(
+        let name = entry_name(
             alloc,
             path,
             value,
@@ -87,22 +119,15 @@ impl Entry for ObservationPoint {
                 "direction",
                 "selectionProcess",
             ],
+            earlier,
         )?;
-        let name = name_member(alloc, path, value, earlier)?;
-        let domain = required_member::<Whole<0, 0xffff_ffff>>(
-            alloc,
-            path,
-            value,
-            "observationDomainId",
-        )?;
-        let interfaces = entries_member(alloc, path, value, "ifName", 1, ENTRIES)?;
-        let direction = word_member(alloc, path, value, "direction")?;
+        let scope = read_scope(alloc, path, value)?;
         let processes = entries_member(alloc, path, value, "selectionProcess", 0, ENTRIES)?;
         Ok(ObservationPoint {
             name,
-            observation_domain_id: domain.number(),
-            interfaces,
-            direction,
+            observation_domain_id: scope.observation_domain_id,
+            interfaces: scope.interfaces,
+            direction: scope.direction,
             selection_processes: processes,
         })
     }

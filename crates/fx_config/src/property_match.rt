@@ -4,11 +4,11 @@ ghost use Rattle.fx_walk.specs.Pointer.{pointer};
 ghost use Rattle.fx_walk.specs.Walk.{Reads};
 ghost use Rattle.fx_config.specs.PropertyMatches.{axis_matched, property_check, property_given, property_match_faults, property_match_of, property_meant};
 
-use crate::element::{ElementNumber, Enterprise, NamedElement, element_given};
+use crate::element::{Enterprise, read_element};
 use fx_base::{Fault, refusals};
 use fx_elements::{Axis, Element, Range, read_value};
 use fx_walk::{
-    DocumentPath, FromValue, Text, object_of, one_of, optional_member, refusal, required_member,
+    DocumentPath, FromValue, Text, object_of, optional_member, refusal, required_member,
 };
 use serde_json::Value;
 use std::alloc::Global;
@@ -74,13 +74,10 @@ impl FromValue for PropertyMatch {
             value,
             &["ieName", "ieId", "ieEnterpriseNumber", "value"],
         )?;
-        one_of(alloc, path, value, &["ieName", "ieId"])?;
-        let named = optional_member::<NamedElement>(alloc, path, value, "ieName")?;
-        let numbered = optional_member::<ElementNumber>(alloc, path, value, "ieId")?;
+        let given = read_element(alloc, path, value)?;
         let enterprise = optional_member::<Enterprise>(alloc, path, value, "ieEnterpriseNumber")?;
         let text = required_member::<Text>(alloc, path, value, "value")?;
-        let element = element_given(named, numbered, enterprise);
-        let property = known_property(alloc, path, element, text.as_str())?;
-        Ok(property)
+        let element = given.with(enterprise);
+        known_property(alloc, path, element, text.as_str())
     }
 }

@@ -1,13 +1,11 @@
 //! Selection processes.
 ghost use Rattle.fx_config.specs.SelectionProcesses.{selection_process_faults, selection_process_of};
 
+use crate::entry_name::entry_name;
 use crate::limits::SELECTORS;
 use crate::selector::Selector;
 use fx_base::{Fault, Name};
-use fx_walk::{
-    DocumentPath, Entry, Named, Names, Sequence, entries_member, name_member, object_of,
-    optional_member,
-};
+use fx_walk::{DocumentPath, Entry, Named, Names, Sequence, entries_member, optional_member};
 use serde_json::Value;
 use std::alloc::Global;
 
@@ -41,8 +39,7 @@ impl Entry for SelectionProcess {
         value: &Value,
         earlier: &mut Names,
     ) -> Result<SelectionProcess, Fault> {
-        object_of(alloc, path, value, &["name", "selector", "cache"])?;
-        let name = name_member(alloc, path, value, earlier)?;
+        let name = entry_name(alloc, path, value, &["name", "selector", "cache"], earlier)?;
         let selectors = entries_member(alloc, path, value, "selector", 1, SELECTORS)?;
         let cache = optional_member(alloc, path, value, "cache")?;
         Ok(SelectionProcess {

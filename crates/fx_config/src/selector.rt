@@ -1,19 +1,22 @@
 //! Selectors of selection processes.
 ghost use Rattle.std.specs.Prelude.{◌≡◌};
 ghost use Rattle.serde_json.specs.View.{view};
-ghost use Rattle.fx_config.specs.Selectors.{all_faults, is_all, method_given, selector_faults, selector_of};
+ghost use Rattle.fx_walk.specs.Pointer.{pointer};
+ghost use Rattle.fx_walk.specs.Walk.{Reads, row_faults};
+ghost use Rattle.fx_config.specs.Selectors.{all_faults, is_all, method_given, method_in, method_rows, selector_faults, selector_of};
 
+use crate::entry_name::entry_name;
 use crate::property_match::PropertyMatch;
 use fx_base::{Fault, Name, refusals};
 use fx_walk::{
-    DocumentPath, Entry, FromValue, Named, Names, Refused, is_empty_type, name_member, none_of,
-    object_of, one_of, optional_member, refusal,
+    DocumentPath, Entry, FromValue, Named, Names, Refused, is_empty_type, none_of, one_of,
+    optional_member, refusal,
 };
 use serde_json::Value;
 use std::alloc::Global;
 
 /// The method that selects all packets: an empty container, or an empty type; 104 for any other value.
-#[derive(Clone, Copy, Debug, PartialEq, Eq)]
+#[derive(Clone, Copy)]
 struct SelectAll;
 
 fn is_all(value: &Value) -> bool
@@ -86,6 +89,18 @@ const INEXACT: [Refused<'static>; 5] = [
     },
 ];
 
+/// Reads the method of the selector at the path, of which exactly one is given.
+fn read_method(alloc: Global, path: &DocumentPath<'_>, value: &Value) -> Result<Method, Fault>
+    ensures { Reads (row_faults method_rows (pointer path.now) (view value.now))
+        (method_in (view value.now)) result }
+{
+    none_of(alloc, path, value, &INEXACT)?;
+    one_of(alloc, path, value, &["selectAll", "filterMatch"])?;
+    let _all = optional_member::<SelectAll>(alloc, path, value, "selectAll")?;
+    let filter = optional_member(alloc, path, value, "filterMatch")?;
+    Ok(method_given(filter))
+}
+
 /// A step in selecting packets (RFC 6728, section 4.2.1).
 #[derive(Debug, Drop)]
 pub struct Selector {
@@ -114,7 +129,7 @@ impl Entry for Selector {
         value: &Value,
         earlier: &mut Names,
     ) -> Result<Selector, Fault> {
-        object_of(
+        let name = entry_name(
             alloc,
             path,
             value,
@@ -128,15 +143,9 @@ impl Entry for Selector {
                 "selectAll",
                 "filterMatch",
             ],
+            earlier,
         )?;
-        let name = name_member(alloc, path, value, earlier)?;
-        none_of(alloc, path, value, &INEXACT)?;
-        one_of(alloc, path, value, &["selectAll", "filterMatch"])?;
-        let _all = optional_member::<SelectAll>(alloc, path, value, "selectAll")?;
-        let filter = optional_member(alloc, path, value, "filterMatch")?;
-        Ok(Selector {
-            name,
-            method: method_given(filter),
-        })
+        let method = read_method(alloc, path, value)?;
+        Ok(Selector { name, method })
     }
 }

@@ -1,7 +1,7 @@
 //! The nodes of a drawing.
 
 /// A node: its kind, and up to three numbers that tell it from others of that kind; numbers that aren't needed are 0.
-#[derive(Clone, Copy, PartialEq, Eq, Drop)]
+#[derive(Clone, Copy, Drop)]
 pub(crate) struct Node {
     pub(crate) kind: &'static str,
     pub(crate) first: u64,

@@ -1,5 +1,5 @@
 //! Addresses of IPv6 in all of their spellings (RFC 4291, section 2.2).
-ghost use Rattle.std.specs.Prelude.{◌≡◌, ◌<◌, ◌≤◌, ◌^◌, ◌⊎◌, ℕ, List, Some, IfSome, option_map};
+ghost use Rattle.std.specs.Prelude.{◌≡◌, ◌<◌, ◌≤◌, ◌+◌, ◌*◌, ◌^◌, ◌⊎◌, ℕ, List, Some, IfSome, option_and_then, option_map};
 ghost use Rattle.fx_elements.specs.Groups.{groups};
 ghost use Rattle.fx_elements.specs.Address6.{any_hex_of, any_group_of, last_of, side_of, cut_at_zeros, address6_of, prefix6_of, IsUncompressed, IsCompressed, no_groups, side_with};
 
@@ -18,20 +18,26 @@ fn read_any_hex(digit: u8) -> Option<u128>
     }
 }
 
+/// The number that two hexadecimal digits of either case make.
+#[inline(always)]
+fn read_any_pair(high: u8, low: u8) -> Option<u128>
+    ensures value { result ≡ option_and_then
+        (λ x. option_map (λ y. x * 16 + y) (any_hex_of low)) (any_hex_of high) }
+    ensures bound { IfSome result (λ v. v < 256) }
+{
+    Some(read_any_hex(high)? * 16 + read_any_hex(low)?)
+}
+
 /// The group that one to four hexadecimal digits of either case spell.
-#[tactic(auto, unfolding(crate::specs::Address6::any_group_of))]
 fn read_any_group(text: &[u8]) -> Option<u128>
     ensures value { result ≡ any_group_of text.now }
     ensures bound { IfSome result (λ v. v < 65536) }
 {
     match text {
         [a] => read_any_hex(*a),
-        [a, b] => Some(read_any_hex(*a)? * 16 + read_any_hex(*b)?),
-        [a, b, c] => Some((read_any_hex(*a)? * 16 + read_any_hex(*b)?) * 16 + read_any_hex(*c)?),
-        [a, b, c, d] => Some(
-            ((read_any_hex(*a)? * 16 + read_any_hex(*b)?) * 16 + read_any_hex(*c)?) * 16
-                + read_any_hex(*d)?,
-        ),
+        [a, b] => read_any_pair(*a, *b),
+        [a, b, c] => Some(read_any_pair(*a, *b)? * 16 + read_any_hex(*c)?),
+        [a, b, c, d] => Some(read_any_pair(*a, *b)? * 256 + read_any_pair(*c, *d)?),
         _ => None,
     }
 }

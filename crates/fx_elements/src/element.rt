@@ -1,6 +1,6 @@
 //! Information elements by name and number.
-ghost use Rattle.std.specs.Prelude.{◌≡◌};
-ghost use Rattle.fx_elements.specs.Elements.{element_named, element_numbered, named_in, numbered_in};
+ghost use Rattle.std.specs.Prelude.{◌≡◌, drop};
+ghost use Rattle.fx_elements.specs.Elements.{element_named, element_numbered, named_in, numbered_in, registry};
 
 use crate::axis::Axis;
 
@@ -27,6 +27,38 @@ pub enum Element {
     Other,
 }
 
+/// The element of this name among the last lines of the registry, from sourceIPv4Prefix (44) on.
+fn by_last_name(name: &str) -> Element
+    ensures { result ≡ named_in (drop 14 registry) name.now }
+{
+    match name {
+        "sourceIPv4Prefix" => Element::Prefix(Axis::Source),
+        "destinationIPv4Prefix" => Element::Prefix(Axis::Destination),
+        "ipVersion" => Element::OnAxis(Axis::Version),
+        "octetTotalCount" => Element::OctetTotalCount,
+        "packetTotalCount" => Element::PacketTotalCount,
+        "destinationIPv6Prefix" => Element::Prefix(Axis::Destination6),
+        "sourceIPv6Prefix" => Element::Prefix(Axis::Source6),
+        _ => Element::Other,
+    }
+}
+
+/// The element of this name among the lines of the registry from destinationTransportPort (11) on.
+fn by_later_name(name: &str) -> Element
+    ensures { result ≡ named_in (drop 7 registry) name.now }
+{
+    match name {
+        "destinationTransportPort" => Element::OnAxis(Axis::DestinationPort),
+        "destinationIPv4Address" => Element::OnAxis(Axis::Destination),
+        "destinationIPv4PrefixLength" => Element::PrefixLength(Axis::Destination),
+        "sourceIPv6Address" => Element::OnAxis(Axis::Source6),
+        "destinationIPv6Address" => Element::OnAxis(Axis::Destination6),
+        "sourceIPv6PrefixLength" => Element::PrefixLength(Axis::Source6),
+        "destinationIPv6PrefixLength" => Element::PrefixLength(Axis::Destination6),
+        _ => by_last_name(name),
+    }
+}
+
 /// The element of this name. Names are compared exactly; an unknown one is another element's.
 pub fn by_name(name: &str) -> Element
     ensures { result ≡ element_named name.now }
@@ -39,21 +71,7 @@ pub fn by_name(name: &str) -> Element
         "sourceTransportPort" => Element::OnAxis(Axis::SourcePort),
         "sourceIPv4Address" => Element::OnAxis(Axis::Source),
         "sourceIPv4PrefixLength" => Element::PrefixLength(Axis::Source),
-        "destinationTransportPort" => Element::OnAxis(Axis::DestinationPort),
-        "destinationIPv4Address" => Element::OnAxis(Axis::Destination),
-        "destinationIPv4PrefixLength" => Element::PrefixLength(Axis::Destination),
-        "sourceIPv4Prefix" => Element::Prefix(Axis::Source),
-        "destinationIPv4Prefix" => Element::Prefix(Axis::Destination),
-        "ipVersion" => Element::OnAxis(Axis::Version),
-        "sourceIPv6Address" => Element::OnAxis(Axis::Source6),
-        "sourceIPv6Prefix" => Element::Prefix(Axis::Source6),
-        "sourceIPv6PrefixLength" => Element::PrefixLength(Axis::Source6),
-        "destinationIPv6Address" => Element::OnAxis(Axis::Destination6),
-        "destinationIPv6Prefix" => Element::Prefix(Axis::Destination6),
-        "destinationIPv6PrefixLength" => Element::PrefixLength(Axis::Destination6),
-        "octetTotalCount" => Element::OctetTotalCount,
-        "packetTotalCount" => Element::PacketTotalCount,
-        _ => Element::Other,
+        _ => by_later_name(name),
     }
 }
 

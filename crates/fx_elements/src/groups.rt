@@ -1,5 +1,5 @@
 //! Addresses of IPv6 in their written form: eight groups in lower case, without leading zeros.
-ghost use Rattle.std.specs.Prelude.{◌≡◌, ◌<◌, ◌^◌, IfSome};
+ghost use Rattle.std.specs.Prelude.{◌≡◌, ◌<◌, ◌+◌, ◌*◌, ◌^◌, ◌==◌, ◌&&◌, length, nat_lt, slice_index, IfSome, option_and_then, option_map};
 ghost use Rattle.fx_elements.specs.Groups.{hex_of, group_of, groups_of};
 
 use crate::spelling::split_at_byte;
@@ -17,48 +17,55 @@ pub fn read_hex(digit: u8) -> Option<u128>
     }
 }
 
+/// The number that two hexadecimal digits in lower case make.
+#[inline(always)]
+fn read_pair(high: u8, low: u8) -> Option<u128>
+    ensures value { result ≡ option_and_then
+        (λ x. option_map (λ y. x * 16 + y) (hex_of low)) (hex_of high) }
+    ensures bound { IfSome result (λ v. v < 256) }
+{
+    Some(read_hex(high)? * 16 + read_hex(low)?)
+}
+
+/// Whether a zero stands before other digits.
+#[inline(always)]
+fn has_leading_zero(text: &[u8]) -> bool
+    ensures { result ≡ (nat_lt 1 (length text.now) && slice_index text.now 0 == 48) }
+{
+    text.len() > 1 && text[0] == b'0'
+}
+
 /// The number that has this hexadecimal text of one to four digits.
-#[tactic(auto, unfolding(crate::specs::Groups::group_of))]
 fn read_group(text: &[u8]) -> Option<u128>
     ensures value { result ≡ group_of text.now }
     ensures bound { IfSome result (λ v. v < 65536) }
 {
+    if has_leading_zero(text) {
+        return None;
+    }
     match text {
         [a] => read_hex(*a),
-        [b'0', ..] => None,
-        [a, b] => Some(read_hex(*a)? * 16 + read_hex(*b)?),
-        [a, b, c] => Some((read_hex(*a)? * 16 + read_hex(*b)?) * 16 + read_hex(*c)?),
-        [a, b, c, d] => {
-            Some(((read_hex(*a)? * 16 + read_hex(*b)?) * 16 + read_hex(*c)?) * 16 + read_hex(*d)?)
-        }
+        [a, b] => read_pair(*a, *b),
+        [a, b, c] => Some(read_pair(*a, *b)? * 16 + read_hex(*c)?),
+        [a, b, c, d] => Some(read_pair(*a, *b)? * 256 + read_pair(*c, *d)?),
         _ => None,
     }
 }
 
+/// How many colons stand between the eight groups of an address.
+const COLONS: usize = 7;
+
 /// The address of IPv6 whose eight groups these are.
-#[tactic(auto, unfolding(crate::specs::Groups::groups_of))]
 pub fn read_groups(text: &[u8]) -> Option<u128>
     ensures value { result ≡ groups_of text.now }
     ensures bound { IfSome result (λ v. v < 2 ^ 128) }
 {
-    let (a, rest) = split_at_byte(text, b':')?;
-    let (b, rest) = split_at_byte(rest, b':')?;
-    let (c, rest) = split_at_byte(rest, b':')?;
-    let (d, rest) = split_at_byte(rest, b':')?;
-    let (e, rest) = split_at_byte(rest, b':')?;
-    let (f, rest) = split_at_byte(rest, b':')?;
-    let (g, h) = split_at_byte(rest, b':')?;
-    let s = read_group(a)?;
-    let t = read_group(b)?;
-    let u = read_group(c)?;
-    let v = read_group(d)?;
-    let w = read_group(e)?;
-    let x = read_group(f)?;
-    let y = read_group(g)?;
-    let z = read_group(h)?;
-    Some(
-        ((((((s * 65536 + t) * 65536 + u) * 65536 + v) * 65536 + w) * 65536 + x) * 65536 + y)
-            * 65536
-            + z,
-    )
+    let mut address: u128 = 0;
+    let mut rest = text;
+    for _place in 0..COLONS {
+        let (group, behind) = split_at_byte(rest, b':')?;
+        address = address * 0x1_0000 + read_group(group)?;
+        rest = behind;
+    }
+    Some(address * 0x1_0000 + read_group(rest)?)
 }

@@ -1,5 +1,5 @@
 //! How numbers, addresses and prefixes are spelled, and how a text is read as one.
-ghost use Rattle.std.specs.Prelude.{◌≡◌, ◌<◌, ◌≤◌, ◌^◌, ◌-◌, ◌+◌, ℕ, List, length, IfSome, IfNone, option_map, Some, ◌↔◌, slice_index};
+ghost use Rattle.std.specs.Prelude.{◌≡◌, ◌<◌, ◌≤◌, ◌^◌, ◌-◌, ◌+◌, ℕ, List, length, IfSome, IfNone, option_and_then, option_map, Some, ◌↔◌, slice_index};
 ghost use Rattle.std.specs.Fmt.{decimal};
 ghost use Rattle.fx_elements.specs.Spelling.{cut_at, digits_of, largest, number_of, quad_of, prefix_of, quad, prefix};
 ghost use Rattle.fx_elements.specs.Groups.{groups, groups_of};
@@ -121,19 +121,28 @@ fn read_octet(text: &[u8]) -> Option<u64>
     }
 }
 
+/// The number before the first full stop, of at most 255, and what stands behind it.
+#[inline(always)]
+fn read_first_octet(text: &[u8]) -> Option<(u64, &[u8])>
+    ensures value { option_map {U = ℕ × List ℕ} (λ p. (p.0, p.1.now)) result
+        ≡ option_and_then (λ p. option_map {U = ℕ × List ℕ} (λ n. (n, p.1)) (number_of 255 p.0))
+        (cut_at 46 text.now) }
+    ensures bound { IfSome result (λ p. p.0 ≤ 255) }
+{
+    let (octet, rest) = split_at_byte(text, b'.')?;
+    let octet = read_octet(octet)?;
+    Some((octet, rest))
+}
+
 /// The address whose dotted quad this is.
-#[tactic(auto, unfolding(crate::specs::Spelling::quad_of))]
 pub fn read_quad(text: &[u8]) -> Option<u128>
     ensures value { result ≡ quad_of text.now }
     ensures bound { IfSome result (λ v. v < 2 ^ 32) }
 {
-    let (a, rest) = split_at_byte(text, b'.')?;
-    let (b, rest) = split_at_byte(rest, b'.')?;
-    let (c, d) = split_at_byte(rest, b'.')?;
-    let a = read_octet(a)?;
-    let b = read_octet(b)?;
-    let c = read_octet(c)?;
-    let d = read_octet(d)?;
+    let (a, rest) = read_first_octet(text)?;
+    let (b, rest) = read_first_octet(rest)?;
+    let (c, rest) = read_first_octet(rest)?;
+    let d = read_octet(rest)?;
     Some((((a * 256 + b) * 256 + c) * 256 + d) as u128)
 }
 

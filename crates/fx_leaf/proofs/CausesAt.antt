@@ -4,10 +4,10 @@ use Rattle.std.specs.Option.{is_some}
 use Rattle.std.proofs.lemmas.Option.{slice_get_past}
 use Rattle.fx_boxes.specs.Boxes.{Bounds}
 use Rattle.fx_layout.specs.Keys.{Layout}
-use Rattle.fx_tables.specs.Network.{Net, Process}
+use Rattle.fx_tables.specs.Network.{Exporter, Net, Process, before}
 use Rattle.fx_leaf.specs.declared.cause.Cause.{Cause}
 use Rattle.fx_leaf.specs.declared.verdict.Fate.TheVariants.{Never}
-use Rattle.fx_leaf.specs.Causes.{IsCauseAt, IsCauseIn, LeadsOn}
+use Rattle.fx_leaf.specs.Causes.{IsCauseAt, IsCauseIn, LeadsOn, SendsOn}
 use Rattle.fx_leaf.specs.Tables.{Table, Tables, entry, handled_entry}
 use Rattle.fx_leaf.specs.Verdicts.{Verdict, destination_verdict, process_verdict}
 use Rattle.fx_leaf.proofs.CausesFound.{found_there}
@@ -47,6 +47,15 @@ module _ (table : Table) (net : Net) (number link : ℕ) (d : Option ℕ) (is : 
   -- it leads to one without
   pub without_verdict : (p : ℕ) → slice_get net.links link ≡ Some p → entry table p number ≡ None → LeadsOn table net number (d ∷ []) p
   without_verdict p at none = record { link = link; among = (zero, omega arith, is); leads = at; none = none }
+
+-- ---- behind the exporting process at a place
+
+pub by_place : (table : Table) (net : Net) (number place : ℕ) (exporters : List Exporter) (e : Exporter) (ds : List (Option ℕ)) (o : Option ℕ) → exporters ≡ net.exporters → place < length exporters → e ≡ get_or exporters place e → ds ≡ e.destinations
+    → IfSome o (LeadsOn table net number ds) → IfSome o (SendsOn table net number (before (slice_get net.exporters place) []))
+by_place table net number place exporters e ds None same lt at is h = tt
+by_place table net number place exporters e ds (Some process) same lt at is h =
+    subst (λ (x : Option Exporter). SendsOn table net number (before x []) process) (sym (there_too exporters net.exporters place e same lt at))
+    (record { exporter = e; sends = (zero, omega arith, refl); on = subst (λ (xs : List (Option ℕ)). LeadsOn table net number xs process) is h })
 
 -- ---- at a collecting process
 

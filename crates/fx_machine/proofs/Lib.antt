@@ -10,6 +10,7 @@ pub mod LastLeaves
 pub mod ActsCanLeave
 pub mod CompleteRuns
 pub mod Rows
+pub mod SameValues
 pub mod AlikePackets
 pub mod AlikeClaims
 mod SumExamples

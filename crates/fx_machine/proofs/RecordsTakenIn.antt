@@ -1,6 +1,7 @@
 -- Records taken in by holders, and taken back.
-use Rattle.std.proofs.Common.{◌≡◌, ◌≢◌, ℕ, zero, suc, ◌+◌, ◌-◌, ◌<◌, ◌≤◌, true, false, cond, List, [], ◌∷◌, ◌++◌, length, take, option_and_then, Option, Some, None, refl, sym, ap, ◌∙◌, subst, arith, slice_get, slice_set, get_or, add-one, le_of_suc-le-suc}
-use Rattle.std.proofs.lemmas.Option.{slice_get-get_or}
+use Rattle.std.proofs.Common.{◌≡◌, ◌≢◌, ℕ, zero, suc, ◌+◌, ◌-◌, ◌<◌, ◌≤◌, true, false, cond, List, [], ◌∷◌, ◌++◌, length, take, drop, option_and_then, Option, Some, None, refl, sym, ap, ◌∙◌, subst, arith, slice_get, slice_set, get_or, add-one, le_of_suc-le-suc}
+use Rattle.std.proofs.lemmas.List.{at_drop_more, set-get_or}
+use Rattle.std.proofs.lemmas.Option.{slice_get-get_or, slice_get_past}
 use Rattle.fx_base.specs.declared.counts.Counts.{Counts}
 use Rattle.fx_base.specs.Counts.{add_counts}
 use Rattle.fx_layout.specs.Keys.{Key, same_key}
@@ -112,3 +113,38 @@ hold_unequal counts (h ∷ hs) held [] ne = refl
 hold_unequal counts (h ∷ hs) held (c ∷ cs) ne =
     let less : length hs ≢ length cs = λ e. ne (ap suc e) in
     none_then (λ (now : List (List Record)). hold_all counts hs now cs) (held_with held counts h c) (λ now. hold_unequal counts hs now cs less)
+
+-- a holder that isn't there, and one that refuses
+pub hold_past : (held : List (List Record)) (counts : Counts) (h : Holding) (choice : Option ℕ) → length held ≤ h.holder → held_with held counts h choice ≡ None
+hold_past held counts h choice past =
+    ap (λ o. take_in_at o held h.holder (record { key = h.key; counts = counts }) choice) (slice_get_past held h.holder past)
+
+pub hold_refused : (held : List (List Record)) (counts : Counts) (h : Holding) (choice : Option ℕ) (rs : List Record) → h.holder < length held → rs ≡ get_or held h.holder rs → taken_in rs choice (record { key = h.key; counts = counts }) ≡ None → held_with held counts h choice ≡ None
+hold_refused held counts h choice rs lt at refused =
+    let found : slice_get held h.holder ≡ Some rs = slice_get-get_or held h.holder rs lt ∙ ap Some (sym at) in
+    ap (λ o. take_in_at o held h.holder (record { key = h.key; counts = counts }) choice) found ∙ ap (put_in held h.holder) refused
+
+pub same_held : (held : List (List Record)) (n : ℕ) (rs now : List Record) → rs ≡ get_or held n rs → now ≡ rs → slice_set held n now ≡ held
+same_held held n rs now at same = ap (slice_set held n) (same ∙ at) ∙ set-get_or held n rs
+
+-- ---- each of several holders in turn
+
+pub rest_at : {A : Type 0} (xs : List A) (n : ℕ) (x : A) → n < length xs → x ≡ get_or xs n x → drop n xs ≡ x ∷ drop (n + 1) xs
+rest_at xs n x lt at = at_drop_more (λ rest. rest) xs n x lt ∙ ap (λ y. y ∷ drop (n + 1) xs) (sym at)
+
+pub one_holds : (counts : Counts) (hs hs' : List Holding) (cs cs' : Choices) (h : Holding) (choice : Option ℕ) (held held' : List (List Record)) → hs ≡ h ∷ hs' → cs ≡ choice ∷ cs' → held_with held counts h choice ≡ Some held' → hold_all counts hs held cs ≡ hold_all counts hs' held' cs'
+one_holds counts hs hs' cs cs' h choice held held' first chosen made =
+    ap (λ l. hold_all counts l held cs) first ∙ ap (λ l. hold_all counts (h ∷ hs') held l) chosen ∙ ap (option_and_then (λ (now : List (List Record)). hold_all counts hs' now cs')) made
+
+pub one_refuses : (counts : Counts) (hs hs' : List Holding) (cs cs' : Choices) (h : Holding) (choice : Option ℕ) (held : List (List Record)) → hs ≡ h ∷ hs' → cs ≡ choice ∷ cs' → held_with held counts h choice ≡ None → hold_all counts hs held cs ≡ None
+one_refuses counts hs hs' cs cs' h choice held first chosen refused =
+    ap (λ l. hold_all counts l held cs) first ∙ ap (λ l. hold_all counts (h ∷ hs') held l) chosen ∙ ap (option_and_then (λ (now : List (List Record)). hold_all counts hs' now cs')) refused
+
+pub none_holds : (counts : Counts) (hs : List Holding) (cs : Choices) (held : List (List Record)) → hs ≡ [] → cs ≡ [] → hold_all counts hs held cs ≡ Some held
+none_holds counts hs cs held no_holder no_choice =
+    ap (λ l. hold_all counts l held cs) no_holder ∙ ap (λ l. hold_all counts [] held l) no_choice
+
+-- what was noted at a holder that refuses is undone
+pub all_undone : (log log' noted : List Taking) (held held' before after : List (List Record)) → after ≡ undone noted held' → noted ≡ log' → held' ≡ held → log' ≡ log → undone log held ≡ before → after ≡ before
+all_undone log log' noted held held' before after is noted_is same same' back =
+    is ∙ ap (λ l. undone l held') (noted_is ∙ same') ∙ ap (undone log) same ∙ back

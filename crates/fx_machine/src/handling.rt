@@ -10,7 +10,7 @@ use std::alloc::{AllocError, Global};
 
 /// What becomes of a record that comes to a collecting process: whether it is tallied, the places of the
 /// exporting processes that send it, and the aggregations that take it in.
-#[derive(Debug, Drop)]
+#[derive(Drop)]
 pub struct Handling<'a> {
     pub tallies: bool,
     pub exporters: &'a [usize],

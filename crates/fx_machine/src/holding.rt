@@ -17,14 +17,14 @@ use fx_base::{Counts, Fault, refusals};
 use fx_tables::{Holding, Net, Occurrence, Packet, Record};
 
 /// The place of a held record, from 0, and what was counted under it before another joined it.
-#[derive(Clone, Copy, Debug, PartialEq, Eq)]
+#[derive(Clone, Copy, Debug)]
 pub struct Joined {
     pub place: usize,
     pub counts: Counts,
 }
 
 /// What a holder took in: a new record, which stands last, or one that joined another.
-#[derive(Clone, Copy, Debug, PartialEq, Eq)]
+#[derive(Clone, Copy, Debug)]
 pub struct Taking {
     pub holder: usize,
     pub joined: Option<Joined>,

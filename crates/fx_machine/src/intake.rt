@@ -12,7 +12,7 @@ use fx_tables::{Net, Occurrence};
 
 /// The key under which a holder takes a record in: one that stands already, or that of a packet where it is metered,
 /// which has to be made only for a new record.
-#[derive(Clone, Copy, Debug)]
+#[derive(Clone, Copy)]
 pub enum Intake<'a> {
     Keyed(&'a Key),
     Met {
@@ -22,21 +22,28 @@ pub enum Intake<'a> {
     },
 }
 
+/// The value that a packet with these fields has for a part.
+fn value_for(part: &Part, fields: &Fields) -> u128
+    ensures { result ≡ keys.leading_bits (axis_width part.now.axis) part.now.bits
+        (field fields.now part.now.axis) }
+{
+    leading_bits(width(part.axis), part.bits, fields.get(part.axis))
+}
+
 /// Whether these are the values that a packet with these fields has for these parts.
 fn has_values(values: &[u128], parts: &[Part], fields: &Fields) -> bool
     ensures { result ≡ bytes_eq values.now (map (λ part. keys.leading_bits (axis_width part.axis)
         part.bits (field fields.now part.axis)) parts.now) }
 {
-    match values {
-        [] => parts.is_empty(),
-        [value, values @ ..] => match parts {
-            [] => false,
-            [part, parts @ ..] => {
-                *value == leading_bits(width(part.axis), part.bits, fields.get(part.axis))
-                    && has_values(values, parts, fields)
-            }
-        },
+    if values.len() != parts.len() {
+        return false;
     }
+    for place in 0..values.len() {
+        if values[place] != value_for(&parts[place], fields) {
+            return false;
+        }
+    }
+    true
 }
 
 /// Whether the key is the one that a packet with these fields has under the layout.

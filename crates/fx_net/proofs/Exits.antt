@@ -1,9 +1,10 @@
 -- How a running network stops.
-use Rattle.std.proofs.Common.{◌≡◌, ◌⊎◌, Bool, Result, Ok, Err, inl, inr, sym, ap, subst}
+use Rattle.std.proofs.Common.{◌≡◌, ◌⊎◌, Bool, Result, Ok, Err, inl, inr, sym, ap, subst, ◌∙◌}
 use Rattle.std.specs.Prelude.{IfErr}
 use Rattle.std.specs.Result.{IsErr, IsErrAnd}
 use Rattle.fx_base.specs.declared.fault.Fault.{Fault}
 use Rattle.fx_base.specs.Lines.{Lines}
+use Rattle.fx_base.specs.Refusals.{want_of_memory}
 use Rattle.fx_link.specs.Links.{Put}
 use Rattle.fx_pcap.specs.Captures as captures
 use Rattle.fx_net.specs.declared.stop.Stop.{Stop}
@@ -15,6 +16,17 @@ use Rattle.fx_net.proofs.Frames.{told_again}
 pub told_exit : {X : Type 0} (r : Result X Stop) (e : Fault) (Q : Fault → Type 0) → IsErr r × IsErrAnd r (λ s. s ≡ stop_of e) → captures.IsToldByCapture e → Q e → IfErr r (λ s. Q (fault_of s))
 told_exit (Ok x) e Q h told q = absurd h.1
 told_exit (Err s) e Q h told q = subst (λ (t : Stop). Q (fault_of t)) (sym h.1) (subst Q (sym (told_again e told)) q)
+
+-- the same where memory may be wanting too
+pub refused_exit : {X : Type 0} (r : Result X Stop) (e : Fault) (Q : Fault → Type 0) → IsErr r × IsErrAnd r (λ s. s ≡ stop_of e) → captures.IsToldByCapture e → Q e → IfErr r (λ s. (s ≡ stop.Bare want_of_memory) ⊎ Q (fault_of s))
+refused_exit (Ok x) e Q h told q = absurd h.1
+refused_exit {X} (Err s) e Q h told q = inr (told_exit {X = X} (Err s) e Q h told q)
+
+-- the exit of a `?` where links are put out
+pub outside_exit : {X : Type 0} (r : Result X Stop) (e : Fault) (failed : Bool) (Q : Fault → Type 0) → IsErr r × IsErrAnd r (λ s. s ≡ stop_of e) → FailsOutside failed e → IfErr r (λ s. FailsOutside failed (fault_of s) ⊎ Q (fault_of s))
+outside_exit (Ok x) e failed Q h outside = absurd h.1
+outside_exit (Err s) e failed Q h (inl memory) = inl (inl (ap fault_of h.1 ∙ ap (λ (f : Fault). fault_of (stop_of f)) memory))
+outside_exit (Err s) e failed Q h (inr write) = inl (inr (ap fault_of h.1 ∙ ap (λ (f : Fault). fault_of (stop_of f)) write.0, write.1))
 
 -- the exit of any other `?`
 pub exit_with : {X E : Type 0} (r : Result X E) (e : E) (Q : E → Type 0) → IsErr r × IsErrAnd r (λ d. d ≡ e) → Q e → IfErr r Q

@@ -1,7 +1,7 @@
 -- Frames that are read and lines that are obeyed, one after another.
 use Rattle.std.proofs.Common.{◌≡◌, ◌⊎◌, inl, inr, ℕ, Bool, true, false, List, [], ◌∷◌, ◌++◌, Ok, refl, sym, ap, ◌∙◌, subst}
 use Rattle.fx_base.specs.declared.fault.Fault.{Fault}
-use Rattle.fx_base.specs.Lines.{Lines, AtLine, AdvancesToLine}
+use Rattle.fx_base.specs.Lines.{Lines, AtLine, AtTextEnd, AdvancesToLine}
 use Rattle.fx_link.specs.Links.{Put}
 use Rattle.fx_pcap.specs.Captures as captures
 use Rattle.fx_topology.specs.declared.network.NetworkDocument.{NetworkDocument}
@@ -94,6 +94,10 @@ closes_by old mid at to before put after ranked contents reads whole empties =
 pub at_line_of : (old new : Lines) (there : Bool) → AdvancesToLine old new (Ok there) → there ≡ true → AtLine old new
 at_line_of old new true h e = h
 at_line_of old new false h e = absurd cc
+
+pub at_text_end_of : (old new : Lines) (there : Bool) → AdvancesToLine old new (Ok there) → there ≡ false → AtTextEnd old new
+at_text_end_of old new true h e = absurd cc
+at_text_end_of old new false h e = h
 
 -- ---- a line that a reader lends
 

@@ -12,7 +12,7 @@ use Rattle.fx_topology.specs.declared.network.NetworkDocument.{NetworkDocument}
 use Rattle.fx_topology.specs.declared.network_device.NetworkDevice.{NetworkDevice}
 use Rattle.fx_plan.specs.Labels.{Label, exporting_labels}
 use Rattle.fx_plan.specs.Tables.{net_of, cache_holder, cache_holders}
-use Rattle.fx_net.specs.Opening.{store_of, stores_of, caches_in, aggregations_in, aggregation_stores, new_links}
+use Rattle.fx_net.specs.Opening.{store_of, stores_of, caches_in, aggregations_in, aggregation_stores}
 use Rattle.fx_net.specs.Stores.{Stored}
 
 as_many : (exporting : List Label) (ds : List NetworkDevice) → length (cache_holders exporting ds) ≡ length (flat_map (λ (d : NetworkDevice). d.config.caches) ds)
@@ -36,13 +36,14 @@ caches_are_holders network =
     let exporting = exporting_labels network.devices in
     omega (arith, length-map (caches_in network) store_of, as_many exporting network.devices, length-append (cache_holders exporting network.devices) (aggregations_in network))
 
-pub new_links_more : (ps : List ℕ) (n : ℕ) → n < length ps → new_links (take n ps) ++ at_rest new_wire ∷ [] ≡ new_links (take (n + 1) ps)
-new_links_more ps n lt = subst (λ m. new_links (take n ps) ++ at_rest new_wire ∷ [] ≡ new_links (take m ps)) (sym (add-one n)) (go ps n lt)
+-- a list that has the same for each item of another, for one item more
+pub same_more : {A B : Type 0} (b : B) (xs : List A) (n : ℕ) → n < length xs → map (λ (_ : A). b) (take n xs) ++ b ∷ [] ≡ map (λ (_ : A). b) (take (n + 1) xs)
+same_more {A} b xs n lt = subst (λ m. map (λ (_ : A). b) (take n xs) ++ b ∷ [] ≡ map (λ (_ : A). b) (take m xs)) (sym (add-one n)) (go xs n lt)
   where
-    go : (ps : List ℕ) (n : ℕ) → n < length ps → new_links (take n ps) ++ at_rest new_wire ∷ [] ≡ new_links (take (suc n) ps)
+    go : (xs : List A) (n : ℕ) → n < length xs → map (λ (_ : A). b) (take n xs) ++ b ∷ [] ≡ map (λ (_ : A). b) (take (suc n) xs)
     go [] n lt = absurd (omega arith)
-    go (p ∷ ps) zero lt = refl
-    go (p ∷ ps) (suc n) lt = ap (λ xs. at_rest new_wire ∷ xs) (go ps n (le_of_suc-le-suc lt))
+    go (x ∷ xs) zero lt = refl
+    go (x ∷ xs) (suc n) lt = ap (λ ys. b ∷ ys) (go xs n (le_of_suc-le-suc lt))
 
 pub all_stores : (network : NetworkDocument) (stores : List (Option Stored)) (n : ℕ) (hs : List Holder) → stores ≡ map store_of (caches_in network) → hs ≡ (net_of network).holders → n ≡ min (length stores) (length hs)
     → stores ++ aggregation_stores (take (length hs - n) (drop n hs)) ≡ stores_of network

@@ -1,4 +1,5 @@
 pub mod ChangedLists
+pub mod Lookups
 pub mod LinksPutOut
 pub mod HoldersInOrder
 pub mod StoresTakeIn

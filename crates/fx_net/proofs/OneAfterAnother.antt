@@ -26,6 +26,12 @@ pub completes_some : {A : Type 0} (do_ : A → Doing) (all : List A) (before : P
     → Completes do_ all before old (xs ++ rest) put mid → Each do_ xs put mid put2 mid2 → Completes do_ all before old rest put2 mid2
 completes_some do_ all before old xs rest put mid put2 mid2 goes e after new more = goes after new (each_join do_ xs rest put mid put2 mid2 after new e more)
 
+-- one more is done where what is left begins with it
+pub completes_next : {A : Type 0} (do_ : A → Doing) (all : List A) (before : Put) (old : Contents) (left : List A) (x : A) (rest : List A) (put : Put) (mid : Contents) (put2 : Put) (mid2 : Contents)
+    → left ≡ x ∷ rest → Completes do_ all before old left put mid → do_ x put mid put2 mid2 → Completes do_ all before old rest put2 mid2
+completes_next do_ all before old left x rest put mid put2 mid2 is goes e =
+    completes_one do_ all before old x rest put mid put2 mid2 (subst (λ (xs : List _). Completes do_ all before old xs put mid) is goes) e
+
 -- all is done
 pub completed : {A : Type 0} (do_ : A → Doing) (all : List A) (before : Put) (old : Contents) (put : Put) (mid : Contents)
     → Completes do_ all before old [] put mid → Each do_ all before old put mid

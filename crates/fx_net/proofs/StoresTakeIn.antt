@@ -1,5 +1,5 @@
 -- Stores that take in what comes to them.
-use Rattle.std.proofs.Common.{◌≡◌, ℕ, zero, suc, ◌<◌, ◌≤◌, List, [], ◌∷◌, ◌++◌, length, set, get_or, Option, Some, None, option_map, refl, sym, ap, ◌∙◌, append-nil, append_assoc}
+use Rattle.std.proofs.Common.{◌≡◌, false, ℕ, zero, suc, ◌<◌, ◌≤◌, List, [], ◌∷◌, ◌++◌, length, set, get_or, Option, Some, None, option_map, refl, sym, ap, ◌∙◌, append-nil, append_assoc}
 use Rattle.std.specs.Prelude.{option_and_then, if◌then◌else◌}
 use Rattle.fx_base.specs.declared.counts.Counts.{Counts}
 use Rattle.fx_tables.specs.declared.holding.Holding.{Holding}
@@ -73,6 +73,11 @@ same_leave counts [] before after h = refl
 same_leave counts (x ∷ xs) before after h =
     ap (λ b. (if b then leaver x.holder (x.key, counts) ∷ [] else []) ++ all_leave_at_once before counts xs) (sym (h x.holder))
     ∙ ap (λ ls. leaves_at_once after counts x ++ ls) (same_leave counts xs before after h)
+
+-- nothing leaves at once of a holder that isn't an immediate cache
+pub none_at_once : (stores : List (Option Stored)) (counts : Counts) (h : Holding) (passing : List Leaver) → is_immediate (stored_at stores h.holder) ≡ false → passing ≡ passing ++ leaves_at_once stores counts h
+none_at_once stores counts h passing e =
+    sym (append-nil passing) ∙ ap (λ b. passing ++ (if b then leaver h.holder (h.key, counts) ∷ [] else [])) (sym e)
 
 -- what leaves at once, one holder on
 pub passing_next : (counts : Counts) (h : Holding) (rest : List Holding) (before stores : List (Option Stored)) (passing more all : List Leaver)

@@ -5,7 +5,7 @@ ghost use Rattle.fx_net.specs.Running as running;
 use fx_base::{Fault, Place};
 
 /// A fault that is answered again and again: its number, and where it stands.
-#[derive(Clone, Copy, Debug, PartialEq, Eq)]
+#[derive(Clone, Copy)]
 pub(crate) enum Stop {
     /// Nowhere in particular.
     Bare { number: u16 },

@@ -1,5 +1,5 @@
 -- Extension headers are passed over one after another.
-use Rattle.std.proofs.Common.{◌≡◌, ℕ, zero, suc, ◌+◌, ◌-◌, ◌*◌, ◌≤◌, Bool, true, false, nat_lt, List, [], ◌∷◌, length, drop, Option, Some, None, refl, sym, ap, ◌∙◌, arith, slice_index, if◌then◌else◌}
+use Rattle.std.proofs.Common.{◌≡◌, ℕ, zero, suc, ◌+◌, ◌-◌, ◌*◌, ◌<◌, ◌≤◌, lt-ltb, Bool, true, false, nat_lt, List, [], ◌∷◌, length, drop, Option, Some, None, refl, sym, ap, ◌∙◌, arith, slice_index, if◌then◌else◌}
 use Rattle.std.proofs.lemmas.Bool.{le-ltb}
 use Rattle.fx_pcap.specs.declared.transport.TransportHeader.{TransportHeader}
 use Rattle.fx_pcap.specs.Headers.{is_fragment, is_extension, next_header, header_length, octets_read, is_later_fragment, without_ports, transport_in, with_header, transport_behind, transport_of, IsHeaderByHeader}
@@ -38,3 +38,16 @@ pub goes_on : (type : ℕ) (octets : List ℕ) (next : Option TransportHeader) �
 goes_on type octets next here long first =
     let enough : nat_lt (length octets) (octets_read type) ≡ false = le-ltb _ _ long in
     λ i. if here i then (if enough i then None else (if first i then Some (without_ports (next_header octets)) else next)) else transport_in type octets
+
+-- one whose octets aren't there
+pub cut_short : (type : ℕ) (octets : List ℕ) (next : Option TransportHeader) → is_extension type ≡ true → length octets < octets_read type → with_header type octets next ≡ None
+cut_short type octets next here short =
+    let few : nat_lt (length octets) (octets_read type) ≡ true = lt-ltb _ _ short in
+    λ i. if here i then (if few i then None else (if is_later_fragment type octets then Some (without_ports (next_header octets)) else next)) else transport_in type octets
+
+-- one of a later fragment
+pub in_fragment : (type : ℕ) (octets : List ℕ) (next : Option TransportHeader) → is_extension type ≡ true → octets_read type ≤ length octets → is_later_fragment type octets ≡ true
+    → with_header type octets next ≡ Some (without_ports (next_header octets))
+in_fragment type octets next here long later =
+    let enough : nat_lt (length octets) (octets_read type) ≡ false = le-ltb _ _ long in
+    λ i. if here i then (if enough i then None else (if later i then Some (without_ports (next_header octets)) else next)) else transport_in type octets

@@ -1,5 +1,7 @@
 pub mod Tags
 pub mod Typed
+pub mod Ipv4Packets
+pub mod ValuesFit
 pub mod Halting
 pub mod HeaderByHeader
 pub mod Left

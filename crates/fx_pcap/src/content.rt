@@ -8,14 +8,14 @@ use crate::ipv6::read_ipv6;
 use fx_boxes::Fields;
 
 /// What a capture's octets begin with, by its link type.
-#[derive(Clone, Copy, Debug, PartialEq, Eq)]
+#[derive(Clone, Copy)]
 pub(crate) enum LinkType {
     Ethernet,
     Ip,
 }
 
 /// What a frame holds.
-#[derive(Clone, Copy, Debug, PartialEq, Eq)]
+#[derive(Clone, Copy)]
 pub(crate) enum Content {
     /// A packet: its value on each axis, and how many octets it has.
     Packet(Fields, u32),

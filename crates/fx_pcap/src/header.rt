@@ -10,7 +10,7 @@ use fx_base::{Fault, refusals};
 pub(crate) const FILE_HEADER: usize = 24;
 
 /// How a capture is written.
-#[derive(Clone, Copy, Debug, PartialEq, Eq)]
+#[derive(Clone, Copy)]
 pub(crate) struct Format {
     pub(crate) order: Order,
     pub(crate) link: LinkType,

@@ -5,7 +5,7 @@ ghost use Rattle.fx_pcap.specs.Numbers.{number_in, network};
 use byteorder::{BigEndian, ByteOrder, LittleEndian};
 
 /// Which octet of a number comes first: the most significant or the least.
-#[derive(Clone, Copy, Debug, PartialEq, Eq)]
+#[derive(Clone, Copy)]
 pub(crate) enum Order {
     Big,
     Little,

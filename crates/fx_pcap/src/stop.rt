@@ -1,5 +1,5 @@
 /// Why a reader stops.
-#[derive(Clone, Copy, Debug, PartialEq, Eq)]
+#[derive(Clone, Copy)]
 pub(crate) enum CaptureStop {
     Device,
     Cut,

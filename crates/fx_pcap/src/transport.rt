@@ -6,7 +6,7 @@ use crate::order::network16;
 use crate::ports::{PORTS, begins_with_ports};
 
 /// A protocol and its ports, which are 0 where it has none and in a later fragment.
-#[derive(Clone, Copy, Debug, PartialEq, Eq)]
+#[derive(Clone, Copy)]
 pub(crate) struct TransportHeader {
     pub(crate) protocol: u8,
     pub(crate) source_port: u16,

@@ -12,7 +12,7 @@ use fx_topology::NetworkDevice;
 use std::alloc::{AllocError, Global};
 
 /// The number of a collecting process: that of its device, and its own on that device, from 1.
-#[derive(Clone, Copy, Debug, PartialEq, Eq)]
+#[derive(Clone, Copy)]
 pub struct ProcessNumber {
     pub device: usize,
     pub process: usize,

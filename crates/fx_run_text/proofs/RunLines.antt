@@ -1,5 +1,5 @@
 -- What the lines of a run's text say, as a reader of lines goes on, and where the reader stops, that reading stops.
-use Rattle.std.proofs.Common.{◌≡◌, ℕ, ◌<◌, ◌≤◌, ◌⊎◌, ◌&&◌, Bool, true, false, not, codes, List, ◌∷◌, length, Option, Some, None, Result, Ok, Err, IfSome, refl, ap, sym, ◌∙◌, arith, inl, inr, subst, lt-ltb}
+use Rattle.std.proofs.Common.{◌≡◌, ℕ, ◌<◌, ◌≤◌, ◌⊎◌, ◌&&◌, Bool, true, false, not, codes, List, [], ◌∷◌, length, Option, Some, None, Result, Ok, Err, IfSome, refl, ap, sym, ◌∙◌, arith, inl, inr, subst, lt-ltb}
 use Rattle.std.specs.Prelude.{nat_lt, ◌==◌}
 use Rattle.std.specs.Str.{bytes_eq}
 use Rattle.std.proofs.lemmas.Bool.{le-ltb}
@@ -9,16 +9,18 @@ use Rattle.fx_base.specs.declared.fault.Fault.{Fault}
 use Rattle.fx_base.specs.declared.fault.Place.TheVariants as places
 use Rattle.fx_base.specs.Device.{MayBeLeft}
 use Rattle.fx_base.specs.Fault.{fault_at}
-use Rattle.fx_base.specs.Lines.{Lines, AtLine, GoesOnToLines, text_lines, next_number, line_len, first_line, line_ends, after_line, AdvancesToLine, RefusesText, StopsText, Fails}
-use Rattle.fx_base.proofs.GoingOn.{cut_off_behind, something_follows, something_left}
+use Rattle.fx_base.specs.Lines.{Lines, AtLine, AtTextEnd, GoesOnToLines, text_lines, next_number, line_len, first_line, line_ends, after_line, AdvancesToLine, RefusesText, StopsText, Fails}
+use Rattle.fx_base.proofs.GoingOn.{cut_off_behind, may_follow, nothing_left, something_follows, something_left}
 use Rattle.fx_base.proofs.TextLines.{lines_first}
+use Rattle.fx_elements.specs.Words.{words}
 use Rattle.fx_tables.specs.declared.packet.Packet.{Packet}
 use Rattle.fx_run_text.specs.declared.run_line.RunLine.{RunLine}
 use Rattle.fx_run_text.specs.declared.run_line.RunLine.TheVariants as line
 use Rattle.fx_run_text.specs.declared.text_version.TextVersion.{TextVersion}
+use Rattle.fx_run_text.specs.declared.text_version.TextVersion.TheVariants.{One, Two}
 use Rattle.fx_tables.specs.Classes.{Class}
 use Rattle.fx_run_text.specs.RunText.{Run}
-use Rattle.fx_run_text.specs.RunReading.{TextLine, at_line, run_in, behind, end_of_lines, said, from_line, packet_fault, unless, with_packet, MayEnd, MayReadRun, MayReadBehind, ReadsNextLine, ReadsOn}
+use Rattle.fx_run_text.specs.RunReading.{TextLine, at_line, line_of, no_run, run_in, behind, end_of_lines, said, from_line, packet_fault, unless, well_formed, with_packet, MayEnd, MayReadRun, MayReadBehind, ReadsFirst, ReadsNextLine, ReadsOn}
 
 line_len_le : (text : List ℕ) → line_len text ≤ length text
 line_len_le text = prefix_len-le-length (λ b. not (b == 10)) text
@@ -62,6 +64,48 @@ next_wrong version old new number classes run at is =
     with_line (behind version classes old.number run) _ old new at (λ ls.
     ap (λ n. from_line classes n run (said version (new.line, new.ended)) ls (λ r. behind version classes n r ls)) (sym at.number)
     ∙ ap (λ y. from_line classes new.number run y ls (λ r. behind version classes new.number r ls)) is)
+
+pub at_end_of : (old new : Lines) (going : Bool) → AdvancesToLine old new (Ok going) → going ≡ false → AtTextEnd old new
+at_end_of old new going h e = subst (λ b. AdvancesToLine old new (Ok b)) e h
+
+pub next_missing : (version : TextVersion) (old new : Lines) (classes : List Class) (run : Run) → AtTextEnd old new → MayReadBehind version classes old run (Err (at_line 855 (next_number new.number)))
+next_missing version old new classes run end =
+    ([], nothing_left old.left new.left end.text, ap (λ n. Err (at_line 855 (next_number n))) (sym end.number))
+
+pub first_missing : (old new : Lines) (classes : List Class) → AtTextEnd old new → MayReadRun classes old (Err (at_line 855 (next_number new.number)))
+first_missing old new classes end =
+    ([], nothing_left old.left new.left end.text, ap (λ n. Err (at_line 855 (next_number n))) (sym end.number))
+
+-- what a line says that a line feed ended, and one that none ended
+pub said_ended : (version : TextVersion) (old new : Lines) (o : Option RunLine) → AtLine old new → new.ended ≡ true → line_of version (words new.line) ≡ o → said version (new.line, new.ended) ≡ well_formed o
+said_ended version old new o at ended is = rw (short old new at, ended, is) refl
+
+pub said_unended : (version : TextVersion) (old new : Lines) → AtLine old new → new.ended ≡ false → said version (new.line, new.ended) ≡ Err 855
+said_unended version old new at unended = rw (short old new at, unended) refl
+
+pub next_line : (version : TextVersion) (old new : Lines) (x : RunLine) → AtLine old new → new.ended ≡ true → said version (new.line, new.ended) ≡ Ok x → ReadsNextLine version old new x
+next_line version old new x at ended is rest left =
+    let before = at.lines rest (may_follow new rest ended left) in
+    let ls = text_lines rest in (
+      before.0,
+      before.1,
+      λ classes run.
+          ap (behind version classes old.number run) before.2
+          ∙ ap (λ n. from_line classes n run (said version (new.line, new.ended)) ls (λ r. behind version classes n r ls)) (sym at.number)
+          ∙ ap (λ y. from_line classes new.number run y ls (λ r. behind version classes new.number r ls)) is,
+    )
+
+pub first_one : (old new : Lines) → AtLine old new → new.ended ≡ true → bytes_eq new.line (codes "once-run 1") ≡ true → ReadsFirst One old new
+first_one old new at ended one rest left =
+    let before = at.lines rest (may_follow new rest ended left) in
+    let ls = text_lines rest in
+    (before.0, before.1, λ classes. ap (run_in classes old.number) before.2 ∙ rw (short old new at, ended, one) (ap (λ n. behind One classes n no_run ls) (sym at.number)))
+
+pub first_two : (old new : Lines) → AtLine old new → new.ended ≡ true → bytes_eq new.line (codes "once-run 1") ≡ false → bytes_eq new.line (codes "once-run 2") ≡ true → ReadsFirst Two old new
+first_two old new at ended one two rest left =
+    let before = at.lines rest (may_follow new rest ended left) in
+    let ls = text_lines rest in
+    (before.0, before.1, λ classes. ap (run_in classes old.number) before.2 ∙ rw (short old new at, ended, one, two) (ap (λ n. behind Two classes n no_run ls) (sym at.number)))
 
 -- ---- the end
 

@@ -11,7 +11,7 @@ use fx_tables::{HolderName, Packet};
 use std::alloc::{AllocError, Global};
 
 /// What a step does, without what it chooses. All numbers and positions count from 1.
-#[derive(Clone, Copy, Debug, PartialEq, Eq)]
+#[derive(Clone, Copy)]
 pub(crate) enum StepAction {
     Cross { packet: u64, crossing: u64 },
     Expire { holder: HolderName, position: u64 },
@@ -55,7 +55,7 @@ pub enum RunLine {
 }
 
 /// What was read of a line behind the first. The values of a packet stand in the place that was given for them.
-#[derive(Debug, Drop)]
+#[derive(Drop)]
 pub(crate) enum ReadLine {
     Packet,
     Step(Step),
@@ -86,7 +86,7 @@ pub(crate) fn blank_packet() -> Packet {
 }
 
 /// The values on the axes behind the first six.
-#[derive(Clone, Copy, Debug, PartialEq, Eq)]
+#[derive(Clone, Copy)]
 struct LastFields {
     version: u128,
     source: u128,

@@ -9,7 +9,7 @@ use fx_elements::{AXES, TOPS};
 use std::marker::Model;
 
 /// The least and the greatest value on each axis.
-#[derive(Debug, Drop)]
+#[derive(Drop)]
 struct Bounds {
     low: [u128; AXES],
     high: [u128; AXES],

@@ -13,7 +13,7 @@ use fx_layout::{Key, Layout};
 use std::marker::Model;
 
 /// What is known of the value on an axis: how many of its leading bits, and a value that has them.
-#[derive(Clone, Copy, Debug, PartialEq, Eq)]
+#[derive(Clone, Copy)]
 pub(crate) struct Leading {
     pub bits: u32,
     pub value: u128,

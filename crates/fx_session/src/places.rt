@@ -22,7 +22,7 @@ use fx_wire::{FieldSpecifier, VARIABLE};
 const MOST_FIELDS: usize = 64;
 
 /// Where a value stands in a record, from 0: its first octet, and the one behind its last.
-#[derive(Clone, Copy, Debug, PartialEq, Eq)]
+#[derive(Clone, Copy)]
 pub(crate) struct ValuePlace {
     pub start: usize,
     pub end: usize,

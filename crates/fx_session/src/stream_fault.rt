@@ -7,7 +7,7 @@ use fx_wire::Malformed;
 use std::alloc::{AllocError, AllocFailed};
 
 /// Why a message of a stream is refused (RFC 7011), or couldn't be read for want of memory.
-#[derive(Clone, Copy, Debug, PartialEq, Eq)]
+#[derive(Clone, Copy)]
 pub(crate) enum StreamFault {
     /// Its octets, or those of a template record, are no such thing.
     Malformed(Malformed),

@@ -28,7 +28,7 @@ use fx_tables::{Crossing, HolderName, Net, Occurrence};
 use std::alloc::{AllocError, Global};
 
 /// The steps so far, the records on their way, of which the last leaves first, and how many wait where.
-#[derive(Debug, Drop)]
+#[derive(Drop)]
 pub(crate) struct Building {
     steps: Vec<Step>,
     plan: StepPlan,

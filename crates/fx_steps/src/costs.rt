@@ -7,7 +7,7 @@ ghost use Rattle.fx_steps.specs.Costs as costs;
 pub(crate) const OVER_LIMIT: u32 = 1_000_001;
 
 /// The least numbers of steps in which something comes to each fate, where they are at most 1,000,000; else 1,000,001.
-#[derive(Clone, Copy, Debug, Default, PartialEq, Eq)]
+#[derive(Clone, Copy, Default)]
 pub(crate) struct Costs {
     pub(crate) never: u32,
     pub(crate) once: u32,

@@ -14,7 +14,7 @@ use std::alloc::{AllocError, Global};
 use std::marker::Model;
 
 /// Those of records that come to a collecting process, by the number of their layout.
-#[derive(Debug, Drop)]
+#[derive(Drop)]
 pub(crate) struct CostRow {
     entries: ArrayVec<Costs, LAYOUTS>,
 }

@@ -8,7 +8,7 @@ use fx_tables::Net;
 use std::alloc::{AllocError, Global};
 
 /// The numbers of records that wait at the holders and on the links, by place.
-#[derive(Debug, Drop)]
+#[derive(Drop)]
 pub(crate) struct Waiting {
     held: Vec<u64>,
     carried: Vec<u64>,

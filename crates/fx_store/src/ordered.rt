@@ -12,7 +12,7 @@ use std::hash::{Hash, Hasher};
 use std::marker::Model;
 
 /// A flow key by all that it has: its values and its layout.
-#[derive(Debug, Drop)]
+#[derive(Drop)]
 pub(crate) struct Ordered {
     key: Key,
 }

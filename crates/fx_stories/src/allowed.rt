@@ -162,7 +162,7 @@ const OF_TRAFFIC: [(&str, &[&str]); 4] = [
 ];
 
 /// The members that a table has for the objects under a member.
-fn members_in(
+pub(crate) fn members_in(
     table: &[(&'static str, &'static [&'static str])],
     member: &str,
 ) -> &'static [&'static str] {
@@ -185,13 +185,18 @@ fn members_allowed(member: &str, is_network: bool) -> &'static [&'static str] {
 }
 
 /// Whether an object has one of these members.
-fn has_one(object: &Value, names: &[&str]) -> bool {
-    names.iter().any(|name| object.get(*name).is_some())
+pub(crate) fn has_one(object: &Value, names: &[&str]) -> bool {
+    for name in names {
+        if object.get(*name).is_some() {
+            return true;
+        }
+    }
+    false
 }
 
 /// Whether a name is one of these.
-fn is_one_of(names: &[&str], name: &str) -> bool {
-    names.iter().any(|known| *known == name)
+pub(crate) fn is_one_of(names: &[&str], name: &str) -> bool {
+    names.contains(&name)
 }
 
 /// Tells which of these names an object doesn't have yet, which may not have a member of another name. Of those of which

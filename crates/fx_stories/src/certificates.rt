@@ -233,8 +233,31 @@ fn tell_certificate<C: Source>(
     ensures err { IfErr result IsUntold }
 {
     let targets = documents.traffic.targets(alloc)?;
+    tell_among(
+        alloc,
+        story,
+        documents,
+        certificate,
+        fault,
+        number,
+        targets.as_slice(),
+    )
+}
+
+/// Tells what a certificate's line of this number is about, over the documents and their paths.
+fn tell_among<C: Source>(
+    alloc: Global,
+    story: &mut Story,
+    documents: &Documents,
+    certificate: &mut LineReader<C>,
+    fault: &Fault,
+    number: u64,
+    targets: &[Target<'_>],
+) -> Result<(), Fault>
+    ensures { IfErr result IsUntold }
+{
     let mut walk = Walk::new(alloc);
-    go_before(&mut walk, targets.as_slice(), certificate, number)?;
+    go_before(&mut walk, targets, certificate, number)?;
     let item = tell_next(story, certificate, number, fault.number)?;
     if number == 1 {
         return Ok(());
@@ -243,15 +266,27 @@ fn tell_certificate<C: Source>(
         tell_behind_end(story, certificate);
         return Ok(());
     }
-    tell_stand(
-        alloc,
-        story,
-        documents,
-        targets.as_slice(),
-        &walk,
-        item,
-        fault.number,
-    )
+    tell_stand(alloc, story, documents, targets, &walk, item, fault.number)
+}
+
+/// Tells what a certificate's line of this number is about.
+fn tell_refused<C: Source>(
+    alloc: Global,
+    story: &mut Story,
+    network: &[u8],
+    traffic: &[u8],
+    certificate: &mut LineReader<C>,
+    fault: &Fault,
+    number: u64,
+) -> Result<(), Fault>
+    ensures { IfErr result IsUntold }
+{
+    match documents_again(alloc, network, traffic)? {
+        Some(documents) => {
+            tell_certificate(alloc, story, &documents, certificate, fault, number)
+        }
+        None => Ok(()),
+    }
 }
 
 /// What is to be told of a certificate's refusal.
@@ -266,9 +301,15 @@ fn story_of<C: Source>(
 {
     let mut story = Story::new(alloc);
     if let Place::Line(number) = &fault.place {
-        if let Some(documents) = documents_again(alloc, network, traffic)? {
-            tell_certificate(alloc, &mut story, &documents, certificate, fault, *number)?;
-        }
+        tell_refused(
+            alloc,
+            &mut story,
+            network,
+            traffic,
+            certificate,
+            fault,
+            *number,
+        )?;
     }
     Ok(story)
 }

@@ -11,25 +11,17 @@ use std::alloc::{AllocError, Global};
 
 /// Whether an aggregation hands its records to the exporting process of this name.
 fn aggregates_to(aggregation: &Aggregation, name: &Name) -> bool {
-    aggregation
-        .exporting_processes
-        .as_slice()
-        .iter()
-        .any(|one| one == name)
+    aggregation.exporting_processes.as_slice().contains(name)
 }
 
 /// Whether a collecting process hands records to the exporting process of this name, as they are or added up.
 fn hands_to(process: &CollectingProcess, name: &Name) -> bool {
-    process
-        .exporting_processes
-        .as_slice()
-        .iter()
-        .any(|one| one == name)
-        || process
-            .aggregations
-            .as_slice()
-            .iter()
-            .any(|aggregation| aggregates_to(aggregation, name))
+    for aggregation in process.aggregations.as_slice() {
+        if aggregates_to(aggregation, name) {
+            return true;
+        }
+    }
+    process.exporting_processes.as_slice().contains(name)
 }
 
 /// The collecting process to which a link leads.
@@ -56,7 +48,7 @@ fn goes_on(devices: &[NetworkDevice], link: &NamedLink, next: &NamedLink) -> boo
 }
 
 /// What is known of a link.
-#[derive(Clone, Copy, PartialEq, Eq)]
+#[derive(Clone, Copy)]
 enum Mark {
     /// Nothing yet.
     New,

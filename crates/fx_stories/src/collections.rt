@@ -53,7 +53,12 @@ fn tell_gaps(story: &mut Story, counting: &Counting) {
 
 /// Whether a template has a field of an element.
 fn has(fields: &[FieldSpecifier], element: Element) -> bool {
-    fields.iter().any(|field| field.element() == element)
+    for field in fields {
+        if field.element() == element {
+            return true;
+        }
+    }
+    false
 }
 
 /// The counters that a template lacks, where it lacks one.
@@ -107,13 +112,23 @@ fn is_of_other_version(fields: &[FieldSpecifier], axis: Axis) -> bool {
     }
 }
 
+/// The first field of a key that a template doesn't say, if there is one.
+fn first_unsaid<'a>(fields: &[FieldSpecifier], key: &'a [Part]) -> Option<&'a Part> {
+    for wanted in key {
+        if !says(fields, wanted.axis) {
+            return Some(wanted);
+        }
+    }
+    None
+}
+
 /// Tells what the records of a template lack of the report's key.
 fn tell_unassigned(story: &mut Story, key: &[Part], declared: &Declared) {
     let fields = declared.fields.as_slice();
     story.text_number("unassigned: ", declared.unassigned);
     story.text(" of ");
     tell_template(story, declared);
-    let Some(wanted) = key.iter().find(|wanted| !says(fields, wanted.axis)) else {
+    let Some(wanted) = first_unsaid(fields, key) else {
         story.sentence(": their prefixes have fewer bits than the report's key");
         return;
     };

@@ -12,7 +12,12 @@ const COUNTERS: [&str; 2] = ["octetDeltaCount", "packetDeltaCount"];
 
 /// Whether one of these fields names this element.
 fn is_among(fields: &[Value], element: Element) -> bool {
-    fields.iter().any(|field| element_of(field) == element)
+    for field in fields {
+        if element_of(field) == element {
+            return true;
+        }
+    }
+    false
 }
 
 /// Tells the fields of a layout whose element is misspelled, where it is nearest to this counter.

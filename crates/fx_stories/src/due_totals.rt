@@ -9,7 +9,7 @@ use std::alloc::{AllocError, Global};
 const KEPT: usize = 200;
 
 /// What is due at a line of texts of totals.
-#[derive(Clone, Copy, PartialEq, Eq)]
+#[derive(Clone, Copy)]
 pub(crate) enum Due {
     /// The first line of the first text.
     First,

@@ -156,7 +156,12 @@ fn tell_misspelled<'x>(
 
 /// Whether an element that isn't told apart has this name.
 fn is_registered(name: &str) -> bool {
-    (0..256).any(|number| element_name(number) == name)
+    for number in 0..256 {
+        if element_name(number) == name {
+            return true;
+        }
+    }
+    false
 }
 
 /// Tells the fields of a layout whose elements are misspelled, of a cache of a device.

@@ -55,8 +55,12 @@ fn tell_process(story: &mut Story, network: &Value, device: &str, process: &str)
 
 /// Whether two links lead from one destination.
 fn have_one_start(one: &Value, other: &Value) -> bool {
-    ["device", "exportingProcess", "destination"].iter().all(|member| text_member(one, member)
-        == text_member(other, member))
+    for member in ["device", "exportingProcess", "destination"] {
+        if text_member(one, member) != text_member(other, member) {
+            return false;
+        }
+    }
+    true
 }
 
 /// Tells the earlier link that leads from the same destination as the one at a pointer.

@@ -16,7 +16,12 @@ fn exclude(one: &Selector, other: &Selector) -> bool {
 
 /// The first of these selectors that excludes another.
 fn excluding<'a>(selectors: &'a [Selector], other: &Selector) -> Option<&'a Selector> {
-    selectors.iter().find(|selector| exclude(selector, other))
+    for selector in selectors {
+        if exclude(selector, other) {
+            return Some(selector);
+        }
+    }
+    None
 }
 
 /// Tells the values that pass a filter.

@@ -53,10 +53,12 @@ impl Found<'_> {
 
     /// Whether one of the first so many ways leads to the collecting process of a link.
     fn has_end(&self, link: &NamedLink, before: usize) -> bool {
-        self.places
-            .iter()
-            .take(before)
-            .any(|place| self.ends_at(*place, link))
+        for place in self.places.iter().take(before) {
+            if self.ends_at(*place, link) {
+                return true;
+            }
+        }
+        false
     }
 
     /// Whether records with the same key come to the collecting process of a link already.
@@ -92,9 +94,7 @@ fn add_links(
     let links = found.plan.network().links.as_slice();
     for place in 0..links.len() {
         let link = &links[place];
-        if link.device == device.name
-            && exporters.iter().any(|name| *name == link.exporting_process)
-        {
+        if link.device == device.name && exporters.contains(&link.exporting_process) {
             found.add(place, link, holder);
         }
     }

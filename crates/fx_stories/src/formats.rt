@@ -116,11 +116,15 @@ pub(crate) fn packed_format(octets: &[u8]) -> Option<&'static str> {
 
 /// Whether octets begin a text.
 pub(crate) fn is_text(octets: &[u8]) -> bool {
-    match octets.get(..4) {
-        Some(first) => first.iter().all(|octet| octet.is_ascii_graphic()
-            || octet.is_ascii_whitespace()),
-        None => false,
+    let Some(first) = octets.get(..4) else {
+        return false;
+    };
+    for octet in first {
+        if !octet.is_ascii_graphic() && !octet.is_ascii_whitespace() {
+            return false;
+        }
     }
+    true
 }
 
 /// Whether octets begin the hexadecimal digits of an IPFIX message.

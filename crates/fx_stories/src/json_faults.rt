@@ -298,10 +298,12 @@ fn tell_open(story: &mut Story, octets: &[u8]) {
 
 /// Whether a text begins as a document does, behind white space.
 fn begins_as_document(octets: &[u8]) -> bool {
-    match octets.iter().find(|octet| !octet.is_ascii_whitespace()) {
-        Some(octet) => *octet == b'{',
-        None => true,
+    for octet in octets {
+        if !octet.is_ascii_whitespace() {
+            return *octet == b'{';
+        }
     }
+    true
 }
 
 /// Tells what is wrong with a text at an octet that begins no string, with those behind it and what stands before it, and

@@ -1,4 +1,5 @@
 //! Which kind of JSON value is due at a place, and which is there.
+use crate::allowed::is_one_of;
 use crate::pointers::{Location, location_of};
 use crate::story::Story;
 use serde_json::Value;
@@ -97,11 +98,6 @@ const NUMBERS: [&str; 9] = [
 
 /// Members of a traffic declaration that are texts wherever they stand.
 const TRAFFIC_TEXTS: [&str; 4] = ["name", "device", "interface", "direction"];
-
-/// Whether a name is one of these.
-fn is_one_of(names: &[&str], name: &str) -> bool {
-    names.iter().any(|known| *known == name)
-}
 
 /// What stands under a member of a network that names something in one object and is a list of such in another.
 fn due_of_names(location: &Location<'_>) -> Due {

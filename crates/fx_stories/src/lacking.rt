@@ -39,10 +39,12 @@ impl Arriving<'_> {
 
     /// The first of these parts of a key that the record's key lacks, if it lacks one.
     fn lacked(&self, parts: &[Part]) -> Option<Part> {
-        parts
-            .iter()
-            .copied()
-            .find(|part| !self.reads(part.axis, part.bits))
+        for part in parts {
+            if !self.reads(part.axis, part.bits) {
+                return Some(*part);
+            }
+        }
+        None
     }
 
     /// Tells a field that the record's key lacks, with the shorter prefix that it has in its place.
@@ -93,11 +95,12 @@ impl Arriving<'_> {
 
     /// The first match of an aggregation that can't be read from the record's key, if there is one.
     fn unread_match<'b>(&self, aggregation: &'b Aggregation) -> Option<&'b PropertyMatch> {
-        aggregation
-            .matches
-            .as_slice()
-            .iter()
-            .find(|property| !self.reads(property.axis, property.range.bits))
+        for property in aggregation.matches.as_slice() {
+            if !self.reads(property.axis, property.range.bits) {
+                return Some(property);
+            }
+        }
+        None
     }
 
     /// Whether the key and the matches of an aggregation can be read from the record's key.
@@ -123,10 +126,13 @@ impl Arriving<'_> {
 
     /// The first match of an aggregation that doesn't hold for the packet, if there is one.
     fn failing_match<'b>(&self, aggregation: &'b Aggregation) -> Option<&'b PropertyMatch> {
-        aggregation.matches.as_slice().iter().find(|property| {
+        for property in aggregation.matches.as_slice() {
             let value = self.fields.get(property.axis);
-            value < property.range.low || property.range.high < value
-        })
+            if value < property.range.low || property.range.high < value {
+                return Some(property);
+            }
+        }
+        None
     }
 
     /// Tells why an aggregation doesn't take the record in, if it doesn't, with a text behind it.

@@ -213,6 +213,19 @@ fn tell_left(story: &mut Story, plan: &Plan, end: &mut End<'_, '_>) -> Result<()
     end.tell_links(story, network.links.as_slice())
 }
 
+/// Makes these steps, as far as they can be made, and tells what they leave undone.
+fn tell_after(
+    story: &mut Story,
+    documents: &Documents,
+    packets: &[Packet],
+    steps: &[Step],
+    end: &mut End<'_, '_>,
+) -> Result<(), AllocError> {
+    end.make(steps)?;
+    end.tell_all_to_come(story, documents, packets)?;
+    tell_left(story, &documents.plan, end)
+}
+
 /// Tells what a run of these packets leaves undone: which crossings are to come, the first 20 of them, and which records
 /// are held or on links.
 pub(crate) fn tell_undone(
@@ -227,15 +240,13 @@ pub(crate) fn tell_undone(
     let copied = Vec::from_slice(alloc, packets)?;
     let classes = documents.traffic.classes();
     let opened = State::open(alloc, documents.plan.net(), classes, copied);
-    if let Some(mut state) = unless_wrong(opened)? {
-        let mut end = End {
-            alloc,
-            state: &mut state,
-            to_come: 0,
-        };
-        end.make(steps)?;
-        end.tell_all_to_come(story, documents, packets)?;
-        tell_left(story, &documents.plan, &mut end)?;
-    }
-    Ok(())
+    let Some(mut state) = unless_wrong(opened)? else {
+        return Ok(());
+    };
+    let mut end = End {
+        alloc,
+        state: &mut state,
+        to_come: 0,
+    };
+    Ok(tell_after(story, documents, packets, steps, &mut end)?)
 }

@@ -79,25 +79,32 @@ pub(crate) fn axis_of(form: &str, word: &str) -> Option<Axis> {
     if !form.starts_with("packet ") {
         return None;
     }
-    let place = AXIS_WORDS.iter().position(|known| *known == word)?;
-    EVERY_AXIS.get(place).copied()
+    for place in 0..AXIS_WORDS.len() {
+        if AXIS_WORDS[place] == word {
+            return EVERY_AXIS.get(place).copied();
+        }
+    }
+    None
 }
 
 /// Whether a word of a form stands for itself.
 pub(crate) fn is_literal(word: &str) -> bool {
+    for octet in word.as_bytes() {
+        if octet.is_ascii_lowercase() {
+            return true;
+        }
+    }
     word.len() == 1
-        || !word
-            .as_bytes()
-            .iter()
-            .all(|octet| !octet.is_ascii_lowercase())
 }
 
 /// The axis of this word.
 pub(crate) fn axis_named(word: &[u8]) -> Option<Axis> {
-    EVERY_AXIS
-        .iter()
-        .copied()
-        .find(|axis| is_word(word, axis_word(*axis).as_bytes()))
+    for axis in EVERY_AXIS {
+        if is_word(word, axis_word(axis).as_bytes()) {
+            return Some(axis);
+        }
+    }
+    None
 }
 
 /// The greatest number that may stand for a word of a form, behind another word of a line.

@@ -15,6 +15,7 @@ use crate::unread::{tell_unread_fields, tell_unread_members};
 use crate::unseen::tell_unseen;
 use crate::unused::tell_unused;
 use fx_base::{Fault, Sink, put_text};
+use fx_traffic::Target;
 use std::alloc::{AllocError, Global};
 
 /// Tells what is read in silence in a network's document.
@@ -49,17 +50,32 @@ fn tell_classes(story: &mut Story, documents: &Documents) {
     }
 }
 
-/// Tells what the classes of a traffic declaration say in silence.
-fn tell_declared(alloc: Global, story: &mut Story, documents: &Documents) -> Result<(), Fault>
+/// Tells which crossings of paths no observation point sees, or none in their direction.
+fn tell_targets(
+    alloc: Global,
+    story: &mut Story,
+    documents: &Documents,
+    targets: &[Target<'_>],
+) -> Result<(), AllocError> {
+    tell_unseen(alloc, story, documents, targets)?;
+    tell_directions(alloc, story, documents, targets)
+}
+
+/// Tells what a traffic declaration says in silence, and its classes.
+fn tell_declared(
+    alloc: Global,
+    story: &mut Story,
+    traffic: &[u8],
+    documents: &Documents,
+) -> Result<(), Fault>
     ensures { IfErr result IsMemory }
 {
-    let targets = documents.traffic.targets(alloc)?;
+    tell_twice(alloc, story, "traffic", traffic)?;
     tell_classes(story, documents);
     tell_prefixes_of_classes(story, &documents.classes);
     tell_overlapping(story, documents);
-    tell_unseen(alloc, story, documents, targets.as_slice())?;
-    tell_directions(alloc, story, documents, targets.as_slice())?;
-    Ok(())
+    let targets = documents.traffic.targets(alloc)?;
+    Ok(tell_targets(alloc, story, documents, targets.as_slice())?)
 }
 
 /// Tells what is read in silence in a traffic declaration.
@@ -71,11 +87,10 @@ fn tell_traffic(
 ) -> Result<(), Fault>
     ensures { IfErr result IsMemory }
 {
-    if let Some(documents) = documents_again(alloc, network, traffic)? {
-        tell_twice(alloc, story, "traffic", traffic)?;
-        tell_declared(alloc, story, &documents)?;
+    match documents_again(alloc, network, traffic)? {
+        Some(documents) => tell_declared(alloc, story, traffic, &documents),
+        None => Ok(()),
     }
-    Ok(())
 }
 
 /// What is to be told of accepted documents.

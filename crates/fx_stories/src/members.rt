@@ -1,4 +1,5 @@
 //! Which members an object lacks, and which it has.
+use crate::allowed::{has_one, members_in};
 use crate::elements::element_of;
 use crate::story::Story;
 use fx_elements::Element;
@@ -27,36 +28,64 @@ pub(crate) fn one_required(member: &str) -> &'static [&'static str] {
     }
 }
 
-/// What has to be there in the object at a pointer whose last member is this one, or in the whole of a network's or a
-/// traffic's document.
-fn members_required(member: &str, is_network: bool) -> Required {
-    let all: &'static [&'static str] = match member {
-        "" if is_network => &["devices", "links", "report"],
-        "" => &["classes"],
-        "devices" => &["name", "config"],
-        "config" => &["ietf-ipfix-psamp:ipfix"],
-        "links" => &[
+/// The members that objects have to have, by the member under which such an object stands.
+const REQUIRED: [(&str, &[&str]); 22] = [
+    ("devices", &["name", "config"]),
+    ("config", &["ietf-ipfix-psamp:ipfix"]),
+    (
+        "links",
+        &[
             "device",
             "exportingProcess",
             "destination",
             "toDevice",
             "toProcess",
         ],
-        "report" => &["device", "collectingProcess", "key"],
-        "classes" => &["name", "paths"],
-        "paths" => &["device", "interface", "direction"],
-        "observationPoint" => &["name", "observationDomainId", "ifName"],
-        "selectionProcess" => &["name", "selector"],
-        "filterMatch" | "match" => &["value"],
-        "immediateCache" | "timeoutCache" | "naturalCache" | "permanentCache" => &["cacheLayout"],
-        "cacheLayout" => &["cacheField"],
-        "exportingProcess" => &["name", "destination"],
-        "selector" | "cache" | "cacheField" | "destination" | "collectingProcess" => &["name"],
-        "once-audit:aggregation" => &["name"],
-        _ => &[],
-    };
-    let one = one_required(member);
-    Required { all, one }
+    ),
+    ("report", &["device", "collectingProcess", "key"]),
+    ("classes", &["name", "paths"]),
+    ("paths", &["device", "interface", "direction"]),
+    (
+        "observationPoint",
+        &["name", "observationDomainId", "ifName"],
+    ),
+    ("selectionProcess", &["name", "selector"]),
+    ("filterMatch", &["value"]),
+    ("match", &["value"]),
+    ("immediateCache", &["cacheLayout"]),
+    ("timeoutCache", &["cacheLayout"]),
+    ("naturalCache", &["cacheLayout"]),
+    ("permanentCache", &["cacheLayout"]),
+    ("cacheLayout", &["cacheField"]),
+    ("exportingProcess", &["name", "destination"]),
+    ("selector", &["name"]),
+    ("cache", &["name"]),
+    ("cacheField", &["name"]),
+    ("destination", &["name"]),
+    ("collectingProcess", &["name"]),
+    ("once-audit:aggregation", &["name"]),
+];
+
+/// The members that the whole of a network's or a traffic's document has to have.
+fn members_of_document(is_network: bool) -> &'static [&'static str] {
+    if is_network {
+        &["devices", "links", "report"]
+    } else {
+        &["classes"]
+    }
+}
+
+/// What has to be there in the object at a pointer whose last member is this one, or in the whole of a network's or a
+/// traffic's document.
+fn members_required(member: &str, is_network: bool) -> Required {
+    Required {
+        all: if member.is_empty() {
+            members_of_document(is_network)
+        } else {
+            members_in(&REQUIRED, member)
+        },
+        one: one_required(member),
+    }
 }
 
 /// Tells those of these members that an object lacks.
@@ -102,8 +131,7 @@ pub(crate) fn tell_lacking(story: &mut Story, object: &Value, member: &str, is_n
     }
     let required = members_required(member, is_network);
     tell_missing(story, object, required.all);
-    let none = required.one.iter().all(|name| object.get(*name).is_none());
-    if none && !required.one.is_empty() {
+    if !has_one(object, required.one) && !required.one.is_empty() {
         tell_choice(story, required.one);
     }
     if matches!(element_of(object), Element::Prefix(_)) && member == "key" {

@@ -9,6 +9,7 @@ use crate::refutations::{arriving, origins_of};
 use crate::sightings::Sighting;
 use crate::story::{Story, between};
 use crate::unmetered::tell_unmetered_path;
+use crate::ways::Ways;
 use fx_base::entry_numbered;
 use fx_collect::Totals;
 use fx_refute::Refutation;
@@ -25,7 +26,7 @@ struct Wrong<'a> {
     documents: &'a Documents,
     packet: &'a Packet,
     steps: &'a [Step],
-    origins: Origins<'a>,
+    origins: &'a Origins<'a>,
     /// The place of the first step at which records go on to the report in more than one way.
     parting: Option<usize>,
 }
@@ -162,6 +163,51 @@ packets that are to be counted, or don't declare the class exempt, and audit aga
     }
 }
 
+/// The place of the first step that several ways take, if there is one.
+fn first_parting(ways: &[usize]) -> Option<usize> {
+    for place in 0..ways.len() {
+        if ways[place] > 1 {
+            return Some(place);
+        }
+    }
+    None
+}
+
+/// How many packets totals have for the report's key of a packet.
+fn counted(documents: &Documents, packet: &Packet, totals: &Totals) -> u64 {
+    let key = documents.plan.net().report_layout().key_of(&packet.fields);
+    match totals.get(&key) {
+        Some(counts) => counts.packets,
+        None => 0,
+    }
+}
+
+/// What became of the records of a refutation's packet at its steps.
+fn origins_along<'a>(
+    alloc: Global,
+    documents: &'a Documents,
+    refutation: &'a Refutation,
+) -> Result<Origins<'a>, AllocError> {
+    let mut origins = origins_of(alloc, documents, refutation.packet())?;
+    for step in refutation.steps() {
+        origins.take(step)?;
+    }
+    Ok(origins)
+}
+
+/// Tells what to do about a packet whose totals are wrong, with these of its records' ways to the report.
+fn tell_along(
+    story: &mut Story,
+    wrong: &Wrong<'_>,
+    ways: &Ways,
+    counted: u64,
+) -> Result<(), AllocError> {
+    let sightings = wrong.origins.held.reported(ways)?;
+    story.text("what to do: ");
+    wrong.tell(story, sightings.as_slice(), counted);
+    Ok(())
+}
+
 /// Tells what to do about a refutation whose run has these totals.
 pub(crate) fn tell_mending(
     alloc: Global,
@@ -171,25 +217,14 @@ pub(crate) fn tell_mending(
     ran: &Totals,
 ) -> Result<(), AllocError> {
     let packet = refutation.packet();
-    let mut origins = origins_of(alloc, documents, packet)?;
-    for step in refutation.steps() {
-        origins.take(step)?;
-    }
+    let origins = origins_along(alloc, documents, refutation)?;
     let ways = origins.ways(alloc)?;
-    let sightings = origins.held.reported(&ways)?;
     let wrong = Wrong {
         documents,
         packet,
         steps: refutation.steps(),
-        origins,
-        parting: ways.steps.iter().position(|count| *count > 1),
+        origins: &origins,
+        parting: first_parting(ways.steps.as_slice()),
     };
-    let key = documents.plan.net().report_layout().key_of(&packet.fields);
-    let counted = match ran.get(&key) {
-        Some(counts) => counts.packets,
-        None => 0,
-    };
-    story.text("what to do: ");
-    wrong.tell(story, sightings.as_slice(), counted);
-    Ok(())
+    tell_along(story, &wrong, &ways, counted(documents, packet, ran))
 }

@@ -24,11 +24,15 @@ pub(crate) fn link_from<'a>(
     process: &Name,
     destination: &Name,
 ) -> Option<&'a NamedLink> {
-    links.iter().find(|link| {
-        link.device == *device
+    for link in links {
+        if link.device == *device
             && link.exporting_process == *process
             && link.destination == *destination
-    })
+        {
+            return Some(link);
+        }
+    }
+    None
 }
 
 /// The selection process of this number at an observation point, from 1.

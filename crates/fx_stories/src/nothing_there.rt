@@ -202,10 +202,11 @@ pub(crate) fn tell_unanswered<C: Source>(
 ) -> Result<(), Fault>
     ensures { IfErr result IsUntold }
 {
-    let taking = taking_of(story, lines, Some(number))?;
+    // A line next that is refused has read nothing.
+    let read = taking_of(story, lines, Some(number))?
+        .packets
+        .saturating_sub(1);
     if let Some(plan) = plan_again(alloc, network)? {
-        // A line next that is refused has read nothing.
-        let read = taking.packets.saturating_sub(1);
         tell_nothing_there(story, &plan, lines.line().bytes, read);
     }
     Ok(())

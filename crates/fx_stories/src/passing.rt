@@ -19,7 +19,7 @@ struct Passing<'a> {
 
 /// Whether a name is among these.
 fn is_among(names: &[Name], name: &Name) -> bool {
-    names.iter().any(|one| one == name)
+    names.contains(name)
 }
 
 /// Tells why a selection process of a point doesn't meter a packet that the point sees.

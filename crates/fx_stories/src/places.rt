@@ -47,6 +47,16 @@ pub(crate) fn number_in(octets: &[u8]) -> u64 {
     number
 }
 
+/// Whether octets are decimal digits alone.
+pub(crate) fn are_digits(octets: &[u8]) -> bool {
+    for octet in octets {
+        if !octet.is_ascii_digit() {
+            return false;
+        }
+    }
+    true
+}
+
 /// The octets from one place to another, or none where they aren't there.
 pub(crate) fn part(octets: &[u8], start: usize, end: usize) -> &[u8] {
     match octets.get(start..end) {

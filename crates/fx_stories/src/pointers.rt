@@ -1,13 +1,10 @@
 //! JSON Pointers, segment by segment.
+use crate::places::are_digits;
 use serde_json::Value;
 
 /// Whether a segment of a pointer is the place of an item in a list.
 fn is_place(segment: &str) -> bool {
-    !segment.is_empty()
-        && segment
-            .as_bytes()
-            .iter()
-            .all(|octet| octet.is_ascii_digit())
+    !segment.is_empty() && are_digits(segment.as_bytes())
 }
 
 /// Where a pointer leads.
@@ -44,14 +41,13 @@ pub(crate) fn location_of(pointer: &str) -> Location<'_> {
 
 /// The last member that a pointer names, or an empty text.
 pub(crate) fn last_member(pointer: &str) -> &str {
-    match pointer
-        .split('/')
-        .filter(|segment| !is_place(segment))
-        .last()
-    {
-        Some(member) => member,
-        None => "",
+    let mut last = "";
+    for segment in pointer.split('/') {
+        if !is_place(segment) {
+            last = segment;
+        }
     }
+    last
 }
 
 /// The value below another that a segment of a pointer leads to.
@@ -98,9 +94,12 @@ pub(crate) fn items_member<'a>(value: &'a Value, name: &str) -> &'a [Value] {
 
 /// The entry of a list of an object that has this name.
 pub(crate) fn entry_of<'a>(value: &'a Value, list: &str, name: &str) -> Option<&'a Value> {
-    items_member(value, list)
-        .iter()
-        .find(|entry| text_member(entry, "name") == Some(name))
+    for entry in items_member(value, list) {
+        if text_member(entry, "name") == Some(name) {
+            return Some(entry);
+        }
+    }
+    None
 }
 
 /// What a device of a network is configured to do.

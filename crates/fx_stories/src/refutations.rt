@@ -123,6 +123,26 @@ fn tell_totals(story: &mut Story, totals: &Totals)
     story.lines_of(room.octets());
 }
 
+/// Tells the totals of a refutation's run, the plain sums, and what to do about their difference.
+fn tell_compared(
+    alloc: Global,
+    story: &mut Story,
+    documents: &Documents,
+    refutation: &Refutation,
+    ran: &mut Totals,
+    plain: &mut Totals,
+) -> Result<(), Fault>
+    ensures { IfErr result IsMemory }
+{
+    ran.sort()?;
+    plain.sort()?;
+    story.sentence("in the end the collector holds");
+    tell_totals(story, ran);
+    story.sentence("and it should hold");
+    tell_totals(story, plain);
+    Ok(tell_mending(alloc, story, documents, refutation, ran)?)
+}
+
 /// Tells what a refutation's run comes to, what it should come to, and what to do about it.
 fn tell_sums(
     alloc: Global,
@@ -134,14 +154,7 @@ fn tell_sums(
 {
     match confirm(alloc, &documents.plan, &documents.traffic, refutation) {
         Ok((mut ran, mut plain)) => {
-            ran.sort()?;
-            plain.sort()?;
-            story.sentence("in the end the collector holds");
-            tell_totals(story, &ran);
-            story.sentence("and it should hold");
-            tell_totals(story, &plain);
-            tell_mending(alloc, story, documents, refutation, &ran)?;
-            Ok(())
+            tell_compared(alloc, story, documents, refutation, &mut ran, &mut plain)
         }
         Err(fault) => {
             if fault.number == refusals::WANT_OF_MEMORY {
@@ -207,6 +220,37 @@ fn tell_refutation(
     tell_sums(alloc, story, documents, refutation)
 }
 
+/// Tells the refutation that lines say over the documents.
+fn tell_read<C: Source>(
+    alloc: Global,
+    story: &mut Story,
+    documents: &Documents,
+    lines: &mut LineReader<C>,
+) -> Result<(), Fault>
+    ensures { IfErr result IsUntold }
+{
+    match unless_wrong(read_refutation(alloc, lines))? {
+        Some(refutation) => tell_refutation(alloc, story, documents, &refutation),
+        None => Ok(()),
+    }
+}
+
+/// Tells the refutation that lines say.
+fn tell_lines<C: Source>(
+    alloc: Global,
+    story: &mut Story,
+    network: &[u8],
+    traffic: &[u8],
+    lines: &mut LineReader<C>,
+) -> Result<(), Fault>
+    ensures { IfErr result IsUntold }
+{
+    match documents_again(alloc, network, traffic)? {
+        Some(documents) => tell_read(alloc, story, &documents, lines),
+        None => Ok(()),
+    }
+}
+
 /// What is to be told of a refutation.
 fn story_of<C: Source>(
     alloc: Global,
@@ -217,11 +261,7 @@ fn story_of<C: Source>(
     ensures { IfErr result IsUntold }
 {
     let mut story = Story::new(alloc);
-    if let Some(documents) = documents_again(alloc, network, traffic)? {
-        if let Some(refutation) = unless_wrong(read_refutation(alloc, refutation))? {
-            tell_refutation(alloc, &mut story, &documents, &refutation)?;
-        }
-    }
+    tell_lines(alloc, &mut story, network, traffic, refutation)?;
     Ok(story)
 }
 

@@ -3,13 +3,44 @@ ghost use Rattle.std.specs.Prelude.{◌≡◌, ◌⊎◌, IfErr, OnOk};
 ghost use Rattle.fx_base.specs.Device.{IsWriteFault, KeepsGoing};
 ghost use Rattle.fx_stories.specs.Stories.{IsUntold, WritesStory};
 
-use crate::again::documents_again;
+use crate::again::{Documents, documents_again};
 use crate::left::tell_undone;
 use crate::lines::unless_wrong;
 use crate::story::Story;
 use fx_base::{Fault, LineReader, Sink, Source, put_text};
 use fx_run_text::read_run;
 use std::alloc::Global;
+
+/// Tells what the run that lines say leaves undone over the documents.
+fn tell_run<C: Source>(
+    alloc: Global,
+    story: &mut Story,
+    documents: &Documents,
+    lines: &mut LineReader<C>,
+) -> Result<(), Fault>
+    ensures { IfErr result IsUntold }
+{
+    match unless_wrong(read_run(alloc, documents.traffic.classes(), lines))? {
+        Some(run) => tell_undone(alloc, story, documents, run.packets(), run.steps()),
+        None => Ok(()),
+    }
+}
+
+/// Tells what the run that lines say leaves undone.
+fn tell_replayed<C: Source>(
+    alloc: Global,
+    story: &mut Story,
+    network: &[u8],
+    traffic: &[u8],
+    lines: &mut LineReader<C>,
+) -> Result<(), Fault>
+    ensures { IfErr result IsUntold }
+{
+    match documents_again(alloc, network, traffic)? {
+        Some(documents) => tell_run(alloc, story, &documents, lines),
+        None => Ok(()),
+    }
+}
 
 /// What is to be told of a run that was replayed.
 fn story_of<C: Source>(
@@ -21,11 +52,7 @@ fn story_of<C: Source>(
     ensures { IfErr result IsUntold }
 {
     let mut story = Story::new(alloc);
-    if let Some(documents) = documents_again(alloc, network, traffic)? {
-        if let Some(run) = unless_wrong(read_run(alloc, documents.traffic.classes(), lines))? {
-            tell_undone(alloc, &mut story, &documents, run.packets(), run.steps())?;
-        }
-    }
+    tell_replayed(alloc, &mut story, network, traffic, lines)?;
     Ok(story)
 }
 

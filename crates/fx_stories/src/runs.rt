@@ -92,6 +92,39 @@ fn tell_run(
     Ok(())
 }
 
+/// Tells the first step that is refused of the refutation that lines say, over the documents.
+fn tell_step_refuted<C: Source>(
+    alloc: Global,
+    story: &mut Story,
+    documents: &Documents,
+    lines: &mut LineReader<C>,
+) -> Result<(), Fault>
+    ensures { IfErr result IsUntold }
+{
+    match unless_wrong(read_refutation(alloc, lines))? {
+        Some(refutation) => {
+            let packets = [*refutation.packet()];
+            tell_run(alloc, story, documents, &packets, refutation.steps())
+        }
+        None => Ok(()),
+    }
+}
+
+/// Tells the first step that is refused of the run that lines say, over the documents.
+fn tell_step_run<C: Source>(
+    alloc: Global,
+    story: &mut Story,
+    documents: &Documents,
+    lines: &mut LineReader<C>,
+) -> Result<(), Fault>
+    ensures { IfErr result IsUntold }
+{
+    match unless_wrong(read_run(alloc, documents.traffic.classes(), lines))? {
+        Some(run) => tell_run(alloc, story, documents, run.packets(), run.steps()),
+        None => Ok(()),
+    }
+}
+
 /// Tells the first step that is refused of the refutation that lines say.
 fn tell_refutation_step<C: Source>(
     alloc: Global,
@@ -102,13 +135,10 @@ fn tell_refutation_step<C: Source>(
 ) -> Result<(), Fault>
     ensures { IfErr result IsUntold }
 {
-    if let Some(documents) = documents_again(alloc, network, traffic)? {
-        if let Some(refutation) = unless_wrong(read_refutation(alloc, lines))? {
-            let packets = [*refutation.packet()];
-            tell_run(alloc, story, &documents, &packets, refutation.steps())?;
-        }
+    match documents_again(alloc, network, traffic)? {
+        Some(documents) => tell_step_refuted(alloc, story, &documents, lines),
+        None => Ok(()),
     }
-    Ok(())
 }
 
 /// Tells the first step that is refused of the run that lines say.
@@ -121,12 +151,21 @@ fn tell_refused_step<C: Source>(
 ) -> Result<(), Fault>
     ensures { IfErr result IsUntold }
 {
-    if let Some(documents) = documents_again(alloc, network, traffic)? {
-        if let Some(run) = unless_wrong(read_run(alloc, documents.traffic.classes(), lines))? {
-            tell_run(alloc, story, &documents, run.packets(), run.steps())?;
-        }
+    match documents_again(alloc, network, traffic)? {
+        Some(documents) => tell_step_run(alloc, story, &documents, lines),
+        None => Ok(()),
     }
-    Ok(())
+}
+
+/// Tells the packet of a line of this number, if it has one, and why it isn't in its class.
+fn tell_packet_read(story: &mut Story, documents: &Documents, number: u64, read: &Option<RunLine>) {
+    let Some(RunLine::Packet(packet)) = read else {
+        return;
+    };
+    // The first line is the form's.
+    story.text_number("packet ", number.saturating_sub(1));
+    tell_fields(story, ": ", &packet.fields, packet.octets);
+    tell_named_class(story, documents, packet.class, packet.path, &packet.fields);
 }
 
 /// Tells the packet that a line has, and why it isn't in its class.
@@ -138,13 +177,7 @@ fn tell_line_packet(
     line: &Line<'_>,
 ) -> Result<(), AllocError> {
     let read = read_run_line(alloc, version, line.bytes)?;
-    let Some(RunLine::Packet(packet)) = &read else {
-        return Ok(());
-    };
-    // The first line is the form's.
-    story.text_number("packet ", line.number.saturating_sub(1));
-    tell_fields(story, ": ", &packet.fields, packet.octets);
-    tell_named_class(story, documents, packet.class, packet.path, &packet.fields);
+    tell_packet_read(story, documents, line.number, &read);
     Ok(())
 }
 

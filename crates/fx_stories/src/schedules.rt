@@ -12,7 +12,7 @@ use fx_base::{Fault, Line, LineReader, Place, Sink, Source, put_text, refusals};
 use fx_boxes::Fields;
 use fx_elements::{Words, is_word};
 use fx_pcap::Capture;
-use fx_tables::Classes;
+use fx_tables::{Class, Classes};
 use std::alloc::Global;
 
 /// What the lines of a schedule take of a capture.
@@ -84,6 +84,16 @@ fn go_on<F: Source>(capture: &mut Capture<F>, packets: u64) -> bool {
     true
 }
 
+/// The place of the first class that holds a packet, if one does.
+fn first_class(classes: &[Class], fields: &Fields) -> Option<usize> {
+    for place in 0..classes.len() {
+        if classes[place].holds(fields) {
+            return Some(place);
+        }
+    }
+    None
+}
+
 /// Goes on to the first packet of a capture that is in no class, and answers its number, where so many come before.
 fn go_to_stranger<F: Source>(
     capture: &mut Capture<F>,
@@ -95,7 +105,7 @@ fn go_to_stranger<F: Source>(
             return None;
         }
         let fields = capture.frame().fields;
-        if !classes.as_slice().iter().any(|class| class.holds(&fields)) {
+        if first_class(classes.as_slice(), &fields).is_none() {
             return Some(number + 1);
         }
     }
@@ -105,7 +115,7 @@ fn go_to_stranger<F: Source>(
 /// Tells which class a line `next` alone would take for a packet.
 fn tell_first_class(story: &mut Story, documents: &Documents, fields: &Fields) {
     let classes = documents.traffic.classes().as_slice();
-    match classes.iter().position(|class| class.holds(fields)) {
+    match first_class(classes, fields) {
         Some(place) => {
             let number = (place as u64).saturating_add(1);
             story.text_number("the first class that holds the packet is ", number);

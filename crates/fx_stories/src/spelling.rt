@@ -1,5 +1,6 @@
 //! What is wrong with a text that should spell a value of an axis.
 use crate::fields::element_name;
+use crate::places::are_digits;
 use crate::story::Story;
 use fx_elements::{Axis, Element, read_number, read_on, top, width};
 
@@ -14,7 +15,7 @@ fn number_words(text: &str) -> Option<&'static str> {
     if text.is_empty() {
         return Some(" is no number");
     }
-    if !text.as_bytes().iter().all(|octet| octet.is_ascii_digit()) {
+    if !are_digits(text.as_bytes()) {
         return Some(" isn't a number in decimal digits");
     }
     if text.starts_with('0') {
@@ -40,25 +41,35 @@ fn tell_quad(story: &mut Story, text: &str) {
     story.sentence("; one of IPv4 has four");
 }
 
-/// Whether a character may stand in an address of IPv6.
-fn is_of_address6(octet: u8) -> bool {
-    octet.is_ascii_hexdigit() || octet == b':' || octet == b'.'
+/// Whether all these characters may stand in an address of IPv6.
+fn are_of_address6(octets: &[u8]) -> bool {
+    for octet in octets {
+        if !octet.is_ascii_hexdigit() && *octet != b':' && *octet != b'.' {
+            return false;
+        }
+    }
+    true
 }
 
-/// Whether a group of an address of IPv6 has too many digits.
-fn is_long_group(group: &str) -> bool {
-    group.len() > 4 && !group.contains('.')
+/// Whether an address of IPv6 has a group of too many digits.
+fn has_long_group(text: &str) -> bool {
+    for group in text.split(':') {
+        if group.len() > 4 && !group.contains('.') {
+            return true;
+        }
+    }
+    false
 }
 
 /// What is wrong with an address of IPv6.
 fn wide_words(text: &str) -> &'static str {
-    if !text.as_bytes().iter().all(|octet| is_of_address6(*octet)) {
+    if !are_of_address6(text.as_bytes()) {
         return " has characters that are none of 0 to 9, a to f, : and .";
     }
     if !text.contains(':') {
         return " has no colon: it is none of IPv6";
     }
-    if text.split(':').any(|group| is_long_group(group)) {
+    if has_long_group(text) {
         return " has a group of more than four digits";
     }
     match text.split_once("::") {

@@ -75,6 +75,31 @@ fn take_sets(
     Ok(())
 }
 
+/// Does what a message says of templates, up to the first set with which something is wrong, which is told.
+fn take_templates_of(
+    alloc: Global,
+    story: &mut Story,
+    templates: &mut Templates,
+    message: &MessageThere<'_>,
+) -> Result<(), AllocError> {
+    let sets = message.sets(alloc)?;
+    take_sets(alloc, story, templates, message, sets.as_slice(), None)
+}
+
+/// Does what a message says of templates, and counts it where messages are counted.
+fn take_message(
+    alloc: Global,
+    story: &mut Story,
+    templates: &mut Templates,
+    message: &MessageThere<'_>,
+) -> Result<(), AllocError> {
+    take_templates_of(alloc, story, templates, message)?;
+    match &mut templates.counting {
+        Some(counting) => counting.take_message(message),
+        None => Ok(()),
+    }
+}
+
 impl Reading {
     /// Before the first octet.
     fn new(alloc: Global, fault: u16, refused: u64) -> Reading {
@@ -111,18 +136,7 @@ impl Reading {
                 place: self.place,
                 octets: part(rest, 0, length),
             };
-            let sets = message.sets(self.alloc)?;
-            take_sets(
-                self.alloc,
-                story,
-                &mut self.templates,
-                &message,
-                sets.as_slice(),
-                None,
-            )?;
-            if let Some(counting) = &mut self.templates.counting {
-                counting.take_message(&message)?;
-            }
+            take_message(self.alloc, story, &mut self.templates, &message)?;
             at = at.saturating_add(length);
             self.place = self.place.saturating_add(length as u64);
             self.number = self.number.saturating_add(1);

@@ -175,27 +175,47 @@ fn tell_difference(story: &mut Story, old: &Declared, new: &Declared, place: Opt
     }
 }
 
-/// Keeps a template whose fields are at the front of the octets, and answers the octets behind it; none where it is
-/// refused, which is told.
-fn declare<'o>(
-    alloc: Global,
+/// Adds the fields of a template, and answers whether all of them are well-formed; the first that isn't is told.
+fn add_fields(
     story: &mut Story,
-    templates: &mut Templates,
     record: &RecordThere<'_>,
-    new: NewTemplate,
-    octets: &'o [u8],
-) -> Result<Option<&'o [u8]>, AllocError> {
-    let mut fields: Vec<FieldSpecifier> = Vec::new(alloc);
-    let mut left = FieldSpecifiers::new(new.count, octets);
+    new: &NewTemplate,
+    left: &mut FieldSpecifiers<'_>,
+    fields: &mut Vec<FieldSpecifier>,
+) -> Result<bool, AllocError> {
     while let Some(next) = left.next() {
         let Ok(field) = next else {
-            record.tell_wrong_field(story, &new, fields.len(), left.rest());
-            return Ok(None);
+            record.tell_wrong_field(story, new, fields.len(), left.rest());
+            return Ok(false);
         };
         fields.push(field)?;
     }
-    if record.kind == TemplateKind::Plain && record.tell_narrow(story, &new, fields.as_slice()) {
-        return Ok(None);
+    Ok(true)
+}
+
+/// Tells that a template is refused beside one that is declared already, where it is, and answers whether.
+fn tell_declared_otherwise(
+    story: &mut Story,
+    templates: &Templates,
+    record: &RecordThere<'_>,
+    declared: &Declared,
+) -> bool {
+    match templates.live(declared.domain, declared.id) {
+        Some(old) => record.tell_other(story, old, declared),
+        None => false,
+    }
+}
+
+/// Keeps a template with these fields, and answers whether it is kept; where it is refused, that is told.
+fn keep(
+    story: &mut Story,
+    templates: &mut Templates,
+    record: &RecordThere<'_>,
+    new: &NewTemplate,
+    fields: Vec<FieldSpecifier>,
+) -> Result<bool, AllocError> {
+    if record.kind == TemplateKind::Plain && record.tell_narrow(story, new, fields.as_slice()) {
+        return Ok(false);
     }
     let declared = Declared {
         domain: record.message.domain(),
@@ -209,13 +229,31 @@ fn declare<'o>(
         records: 0,
         unassigned: 0,
     };
-    if let Some(old) = templates.live(declared.domain, declared.id) {
-        if record.tell_other(story, old, &declared) {
-            return Ok(None);
-        }
+    if tell_declared_otherwise(story, templates, record, &declared) {
+        return Ok(false);
     }
     templates.declare(declared)?;
-    Ok(Some(left.rest()))
+    Ok(true)
+}
+
+/// Keeps a template whose fields are at the front of the octets, and answers the octets behind it; none where it is
+/// refused, which is told.
+fn declare<'o>(
+    alloc: Global,
+    story: &mut Story,
+    templates: &mut Templates,
+    record: &RecordThere<'_>,
+    new: NewTemplate,
+    octets: &'o [u8],
+) -> Result<Option<&'o [u8]>, AllocError> {
+    let mut fields: Vec<FieldSpecifier> = Vec::new(alloc);
+    let mut left = FieldSpecifiers::new(new.count, octets);
+    if add_fields(story, record, &new, &mut left, &mut fields)?
+        && keep(story, templates, record, &new, fields)?
+    {
+        return Ok(Some(left.rest()));
+    }
+    Ok(None)
 }
 
 /// Does what the template record at the front of the octets says, and answers the octets behind it; none where it is

@@ -64,6 +64,16 @@ pub(crate) struct Templates {
     pub(crate) counting: Option<Counting>,
 }
 
+/// The place of the template, among these, that stands for records of this id in this domain.
+fn place_of_live(templates: &[Declared], domain: u32, id: u16) -> Option<usize> {
+    for place in 0..templates.len() {
+        if templates[place].is_live(domain, id) {
+            return Some(place);
+        }
+    }
+    None
+}
+
 impl Templates {
     /// Before the first message.
     pub(crate) fn new(alloc: Global) -> Templates {
@@ -81,10 +91,7 @@ impl Templates {
             return;
         };
         let domain = message.domain();
-        let place = self
-            .items
-            .iter()
-            .position(|declared| declared.is_live(domain, set.id));
+        let place = place_of_live(self.items.as_slice(), domain, set.id);
         match self.items.get_mut(place.unwrap_or(usize::MAX)) {
             Some(declared) => {
                 let content = part(message.octets, set.start(), set.end());
@@ -107,8 +114,7 @@ impl Templates {
     /// The template that stands for records of this id in this domain.
     pub(crate) fn live(&self, domain: u32, id: u16) -> Option<&Declared> {
         self.items
-            .iter()
-            .find(|declared| declared.is_live(domain, id))
+            .get(place_of_live(self.items.as_slice(), domain, id)?)
     }
 
     /// Keeps a template, unless it is declared already.

@@ -196,14 +196,12 @@ impl Trial<'_> {
     ) -> Result<Option<Wrong>, AllocError> {
         let written = choices_of(self.step);
         let before = written.get(..place).unwrap_or(&[]);
-        if place >= self.exporters {
-            let position = self.same_key(alloc, state, before, written.len())?;
-            if position.is_some() {
-                return Ok(Some(Wrong { place, position }));
-            }
-        }
-        let position = None;
-        if self.succeeds(alloc, state, before, written.len())? {
+        let position = if place >= self.exporters {
+            self.same_key(alloc, state, before, written.len())?
+        } else {
+            None
+        };
+        if position.is_some() || self.succeeds(alloc, state, before, written.len())? {
             return Ok(Some(Wrong { place, position }));
         }
         Ok(None)

@@ -5,7 +5,7 @@ use crate::paths::tell_class;
 use crate::story::{Story, between};
 use fx_base::entry_at;
 use fx_elements::Axis;
-use fx_tables::{Crossing, Packet};
+use fx_tables::{Crossing, Packet, Point, Selection};
 
 /// How many crossings are told.
 const TOLD: usize = 8;
@@ -46,20 +46,31 @@ fn tell_crossings_of(story: &mut Story, documents: &Documents, crossings: &[Cros
     }
 }
 
+/// Whether a selection selects packets of other versions than this one alone.
+fn is_of_others(selection: &Selection, version: u128) -> bool {
+    match &selection.region {
+        Some(region) => {
+            version < region.corner().get(Axis::Version)
+                || region.far_corner().get(Axis::Version) < version
+        }
+        None => false,
+    }
+}
+
+/// Whether a selection process of a point selects packets of other versions than this one alone.
+fn has_others(point: &Point, version: u128) -> bool {
+    for selection in point.selections() {
+        if is_of_others(selection, version) {
+            return true;
+        }
+    }
+    false
+}
+
 /// Whether a selection process of a point that sees a crossing selects packets of other versions than this one alone.
 fn passes_over(documents: &Documents, crossing: &Crossing, version: u128) -> bool {
     for point in documents.plan.net().points_of(crossing.device) {
-        let selects = point
-            .selections()
-            .iter()
-            .any(|selection| match &selection.region {
-                Some(region) => {
-                    version < region.corner().get(Axis::Version)
-                        || region.far_corner().get(Axis::Version) < version
-                }
-                None => false,
-            });
-        if selects && point.watches(crossing) {
+        if has_others(point, version) && point.watches(crossing) {
             return true;
         }
     }

@@ -136,13 +136,20 @@ fn tell_unsent(story: &mut Story, device: &NetworkDevice, process: &CollectingPr
     }
 }
 
+/// Whether a link leads to a collecting process of a device.
+fn is_linked(links: &[NamedLink], device: &Name, process: &Name) -> bool {
+    for link in links {
+        if link.to_device == *device && link.to_process == *process {
+            return true;
+        }
+    }
+    false
+}
+
 /// Tells the collecting processes of a device to which no link leads, and their aggregations whose records go nowhere.
 fn tell_collecting(story: &mut Story, links: &[NamedLink], device: &NetworkDevice) {
     for process in device.config.collecting_processes.as_slice() {
-        let linked = links.iter().any(|link| {
-            link.to_device == device.name && link.to_process == process.name
-        });
-        if !linked {
+        if !is_linked(links, &device.name, &process.name) {
             let words = " has no link that leads to it";
             tell_end(
                 story,

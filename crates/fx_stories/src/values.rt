@@ -21,7 +21,7 @@ const WHOLE: [&str; 6] = [
 /// Which values a member may have, of a network's document or of a traffic declaration, where that can be said in a few
 /// words.
 fn words_allowed(member: &str, is_network: bool) -> &'static str {
-    if WHOLE.iter().any(|name| *name == member) {
+    if WHOLE.contains(&member) {
         return "a whole number from 0 to 4294967295";
     }
     match member {
@@ -118,11 +118,16 @@ fn tell_several(story: &mut Story, object: &Value, names: &'static [&'static str
 
 /// Whether more than one of these members are there.
 fn are_several(object: &Value, names: &'static [&'static str]) -> bool {
-    names
-        .iter()
-        .filter(|name| object.get(**name).is_some())
-        .count()
-        > 1
+    let mut found = false;
+    for name in names {
+        if object.get(*name).is_some() {
+            if found {
+                return true;
+            }
+            found = true;
+        }
+    }
+    false
 }
 
 /// Tells what is wrong with an object that names an element and a value of it.
@@ -147,6 +152,16 @@ fn is_same_axis(one: &Value, other: &Value) -> bool {
     }
 }
 
+/// Whether one of these fields of a key is of the axis of another.
+fn has_same_axis(fields: &[Value], other: &Value) -> bool {
+    for field in fields {
+        if is_same_axis(field, other) {
+            return true;
+        }
+    }
+    false
+}
+
 /// Tells what is wrong with a field of a key, behind these fields.
 fn tell_field(
     alloc: Global,
@@ -163,7 +178,7 @@ fn tell_field(
             "prefixLength stands beside the element of a prefix alone, as sourceIPv4Prefix",
         );
     }
-    if earlier.iter().any(|other| is_same_axis(other, field)) {
+    if has_same_axis(earlier, field) {
         story.sentence(
             "an earlier field of the key has this axis; an address and its prefix are one axis",
         );

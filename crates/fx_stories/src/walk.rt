@@ -22,9 +22,13 @@ pub(crate) struct Walk {
 
 /// The place of the path of a class, among these.
 fn place_of_target(targets: &[Target<'_>], class: u64, path: u64) -> Option<usize> {
-    targets
-        .iter()
-        .position(|target| target.class == class && target.path == path)
+    for place in 0..targets.len() {
+        let target = &targets[place];
+        if target.class == class && target.path == path {
+            return Some(place);
+        }
+    }
+    None
 }
 
 impl Walk {

@@ -1,6 +1,7 @@
 //! Which word of a line is wrong, and which form the line should have.
 use crate::line_forms::{Fit, Kind, axis_of, fit_of, forms_of, is_literal, is_of_other_version};
 use crate::other_files::foreign_words;
+use crate::places::are_digits;
 use crate::story::Story;
 use fx_base::Line;
 use fx_elements::{Axis, is_word, read_u64};
@@ -43,11 +44,6 @@ fn number_words(form: &str, due: &str) -> &'static str {
     }
 }
 
-/// Whether a word is digits alone.
-fn is_digits(word: &[u8]) -> bool {
-    word.iter().all(|octet| octet.is_ascii_digit())
-}
-
 /// What is strange about a word, wherever it stands.
 fn strange_word(word: &[u8]) -> Option<&'static str> {
     if word.is_empty() {
@@ -58,9 +54,9 @@ fn strange_word(word: &[u8]) -> Option<&'static str> {
         Some("the line ends in CR and LF; lines end in LF alone")
     } else if word.starts_with(b"\xef\xbb\xbf") {
         Some("it begins with a byte order mark: take that out")
-    } else if word.len() > 1 && word.starts_with(b"0") && is_digits(word) {
+    } else if word.len() > 1 && word.starts_with(b"0") && are_digits(word) {
         Some("a number has no zeros in front")
-    } else if is_digits(word) && read_u64(word).is_none() {
+    } else if are_digits(word) && read_u64(word).is_none() {
         Some(
             "it is too great: numbers are at most 18446744073709551615, which is 2 to the 64 less 1",
         )

@@ -1,2 +1,3 @@
 pub mod LinkByLink
 pub mod StartsFindLinks
+pub mod Chains

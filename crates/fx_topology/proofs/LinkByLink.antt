@@ -2,7 +2,10 @@
 use Rattle.std.proofs.Common.{◌≡◌, ℕ, ◌+◌, ◌<◌, List, [], ◌∷◌, ◌++◌, length, get_or, drop, map, refl, sym, ap, ◌∙◌, arith, append_assoc}
 use Rattle.std.proofs.lemmas.List.{drop_more}
 use Rattle.serde_json.specs.Data.{Data}
+use Rattle.fx_base.specs.declared.fault.Fault.{Fault}
 use Rattle.fx_walk.specs.Pointer.{nth}
+use Rattle.fx_walk.specs.Walk.{Refuses}
+use Rattle.fx_walk.proofs.Faults.{refuses_more}
 use Rattle.fx_topology.specs.Links.{link_faults, link_of, links_faults}
 use Rattle.fx_topology.specs.declared.link.NamedLink.{NamedLink}
 use Rattle.fx_topology.specs.declared.network_device.NetworkDevice.{NetworkDevice}
@@ -19,3 +22,7 @@ next_faults devices before after up i d all rest link items links none is = rw (
 
 pub next_values : (before after : List NamedLink) (d : Data) (all rest : List Data) (link : NamedLink) → all ≡ d ∷ rest → after ≡ before ++ link ∷ [] → link ≡ link_of d → after ++ map link_of rest ≡ before ++ map link_of all
 next_values before after d all rest link items links is = rw (items, links, is) (append_assoc before (link_of d ∷ []) (map link_of rest))
+
+-- where it is refused, they are
+pub refused_here : (devices : List NetworkDevice) (before : List NamedLink) (up : List ℕ) (i : ℕ) (d : Data) (all rest : List Data) (e : Fault) → all ≡ d ∷ rest → Refuses e (link_faults devices before (nth up i) d) → Refuses e (links_faults devices before up i all)
+refused_here devices before up i d all rest e items refused = rw items (refuses_more e _ _ refused)

@@ -1,5 +1,5 @@
 -- A map of where links lead from finds what a look at all links does, also behind one more link.
-use Rattle.std.proofs.Common.{◌≡◌, ℕ, Bool, true, false, cond, ◌&&◌, List, [], ◌∷◌, ◌++◌, length, Some, is_some, BTreeMap, Ordering, Less, Equal, Greater, refl, ap, sym, ◌∙◌}
+use Rattle.std.proofs.Common.{◌≡◌, ℕ, Bool, true, false, true≢false, not, if◌then◌else◌, cond, ◌&&◌, List, [], ◌∷◌, ◌++◌, length, Some, is_some, BTreeMap, Ordering, Less, Equal, Greater, refl, ap, sym, ◌∙◌}
 use Rattle.std.specs.BTreeMap.{Updates, get}
 use Rattle.std.specs.List.{list_any, position}
 use Rattle.std.specs.Ordering.{is_eq, ordering_then}
@@ -68,3 +68,25 @@ places_behind old new links start link n of is absent count updates = λ other.
     updates.0 other
     ∙ (λ j. cond (equal_start start other link is j) (Some (count j)) (of other j))
     ∙ place_behind links link other absent
+
+there_is : (b new : Bool) → new ≡ not b → new ≡ false → b ≡ true
+there_is true new h is = refl
+there_is false new h is = absurd (true≢false (sym h ∙ is))
+
+absent_is : (b new : Bool) → new ≡ not b → new ≡ true → b ≡ false
+absent_is false new h is = refl
+absent_is true new h is = absurd (true≢false (sym is ∙ h))
+
+-- where a place was kept for a link only if none led from there, whether one did
+module _ (links : List NamedLink) (link : NamedLink) (new : Bool) (kept : new ≡ not (starts_there links link)) where
+  pub known_placed : (places : BTreeMap Start ℕ) (now : List NamedLink) → new ≡ false → ArePlacesOfLinks places (if starts_there links link then links else links ++ link ∷ []) → now ≡ links → ArePlacesOfLinks places now
+  known_placed places now is of same = rw same (rw (there_is (starts_there links link) new kept is) at of)
+
+  pub new_placed : (places : BTreeMap Start ℕ) (before now : List NamedLink) → new ≡ true → ArePlacesOfLinks places (if starts_there links link then links else links ++ link ∷ []) → before ≡ links → now ≡ before ++ link ∷ [] → ArePlacesOfLinks places now
+  new_placed places before now is of same more = rw (more, same) (rw (absent_is (starts_there links link) new kept is) at of)
+
+  pub known_there : (now : List NamedLink) → new ≡ false → now ≡ links → now ≡ (if starts_there links link then links else links ++ link ∷ [])
+  known_there now is same = rw (there_is (starts_there links link) new kept is) same
+
+  pub new_behind : (before now : List NamedLink) → new ≡ true → before ≡ links → now ≡ before ++ link ∷ [] → now ≡ (if starts_there links link then links else links ++ link ∷ [])
+  new_behind before now is same more = rw (absent_is (starts_there links link) new kept is, more, same) refl

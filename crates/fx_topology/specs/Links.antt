@@ -58,6 +58,16 @@ starts_there earlier link = list_any (same_start link) earlier
 
 -- ---- faults
 
+-- the names of a link
+abbrev pub name_rows : List Row
+name_rows =
+    required_row (codes "device") name_faults
+    ∷ required_row (codes "exportingProcess") name_faults
+    ∷ required_row (codes "destination") name_faults
+    ∷ required_row (codes "toDevice") name_faults
+    ∷ required_row (codes "toProcess") name_faults
+    ∷ []
+
 -- a link behind others: its members, its ends (201), a second link of one destination (202)
 abbrev pub link_rows : List NetworkDevice → List NamedLink → List Row
 link_rows devices earlier =

@@ -38,6 +38,14 @@ report_of d = record {
 abbrev pub has_place : List NetworkDevice → Report → Bool
 has_place devices report = has_collecting_process report.collecting_process (device_named devices report.device)
 
+-- its members
+abbrev pub member_rows : List Row
+member_rows =
+    required_row (codes "device") name_faults
+    ∷ required_row (codes "collectingProcess") name_faults
+    ∷ required_items key_field_limit (codes "key") key_field_faults
+    ∷ []
+
 abbrev pub report_rows : List NetworkDevice → List Row
 report_rows devices =
     required_row (codes "device") name_faults

@@ -1,9 +1,10 @@
 //! Links that are found by where they lead from.
-ghost use Rattle.std.specs.Prelude.{◌≡◌, ◌∷◌, ◌++◌, [], IfErr, IfOk, OnOk, if◌then◌else◌, not};
+ghost use Rattle.std.specs.Prelude.{◌≡◌, ◌<◌, ◌∷◌, ◌++◌, [], IfErr, IfOk, OnErr, OnOk, if◌then◌else◌, not, vec_len};
+ghost use Rattle.std.specs.Vec.{vec_capacity};
 ghost use Rattle.std.specs.List.{position};
 ghost use Rattle.fx_base.specs.Fault.{IsMemory};
 ghost use Rattle.fx_topology.specs.Links.{leads_from, starts_there};
-ghost use Rattle.fx_topology.specs.Starts.{IsStartAt};
+ghost use Rattle.fx_topology.specs.Starts.{ArePlacesOfLinks, IsStartAt};
 
 use crate::link::NamedLink;
 use fx_base::{Fault, Name};
@@ -37,6 +38,37 @@ impl Start {
             destination,
         })
     }
+}
+
+/// Makes room for the link behind these, and keeps its place by where it leads from. Answers false where one of them
+/// leads from there.
+fn keep_place(
+    alloc: Global,
+    links: &mut Vec<NamedLink>,
+    places: &mut BTreeMap<Start, usize>,
+    link: &NamedLink,
+) -> Result<bool, AllocError>
+    requires { ArePlacesOfLinks places.old links.old.items }
+    ensures links { links.new.items ≡ links.old.items }
+    ensures room { OnOk result (vec_len links.new < vec_capacity links.new) }
+    ensures answer { IfOk result (λ new. new ≡ not (starts_there links.old.items link.now)) }
+    ensures places { OnOk result (ArePlacesOfLinks places.new
+        (if starts_there links.old.items link.now then links.old.items
+        else links.old.items ++ link.now ∷ [])) }
+    ensures same { OnErr result (ArePlacesOfLinks places.new links.old.items) }
+{
+    links.reserve(1)?;
+    let start = Start::new(
+        alloc,
+        &link.device,
+        &link.exporting_process,
+        &link.destination,
+    )?;
+    if places.contains_key(&start) {
+        return Ok(false);
+    }
+    places.insert(start, links.len())?;
+    Ok(true)
 }
 
 /// Links of which no two lead from one destination, in the order in which they came. Contracts see the list of them.
@@ -103,17 +135,9 @@ impl LinkTable {
         ensures links { OnOk result (self.new
             ≡ (if starts_there self.old link then self.old else self.old ++ link ∷ [])) }
     {
-        let start = Start::new(
-            self.alloc,
-            &link.device,
-            &link.exporting_process,
-            &link.destination,
-        )?;
-        if self.places.contains_key(&start) {
+        if !keep_place(self.alloc, &mut self.links, &mut self.places, &link)? {
             return Ok(false);
         }
-        self.links.reserve(1)?;
-        self.places.insert(start, self.links.len())?;
         self.links.push(link)?;
         Ok(true)
     }

@@ -2,9 +2,9 @@
 ghost use Rattle.std.specs.Prelude.{◌≡◌, ℕ, List, [], ◌∷◌, ◌++◌, OnOk, map, codes, not};
 ghost use Rattle.serde_json.specs.View.{view};
 ghost use Rattle.fx_walk.specs.Pointer.{pointer};
-ghost use Rattle.fx_walk.specs.Walk.{Reads, fault_if, member_of};
+ghost use Rattle.fx_walk.specs.Walk.{Reads, fault_if, member_of, row_faults};
 ghost use Rattle.fx_walk.specs.Lists.{items_of};
-ghost use Rattle.fx_topology.specs.Links.{has_ends, starts_there, link_faults, link_of, links_faults, links_row};
+ghost use Rattle.fx_topology.specs.Links.{has_ends, name_rows, starts_there, link_faults, link_of, links_faults, links_row};
 ghost use Rattle.fx_base.specs.Refusals.{linked_twice, unknown_link_end};
 
 use crate::ends::has_ends;
@@ -52,6 +52,25 @@ fn add_alone(
     refuse_if(alloc, path, refusals::LINKED_TWICE, !alone)
 }
 
+/// The link that the names in the object at the path make.
+fn read_link(alloc: Global, path: &DocumentPath<'_>, value: &Value) -> Result<NamedLink, Fault>
+    ensures { Reads (row_faults name_rows (pointer path.now) (view value.now))
+        (link_of (view value.now)) result }
+{
+    let device = required_member::<Name>(alloc, path, value, "device")?;
+    let exporting = required_member::<Name>(alloc, path, value, "exportingProcess")?;
+    let destination = required_member::<Name>(alloc, path, value, "destination")?;
+    let to_device = required_member::<Name>(alloc, path, value, "toDevice")?;
+    let to_process = required_member::<Name>(alloc, path, value, "toProcess")?;
+    Ok(NamedLink {
+        device,
+        exporting_process: exporting,
+        destination,
+        to_device,
+        to_process,
+    })
+}
+
 /// Puts the link that stands at the path behind these: 201 where one of its ends isn't there, 202 where an earlier
 /// link leads from the same destination.
 fn add_link(
@@ -77,21 +96,9 @@ fn add_link(
             "toProcess",
         ],
     )?;
-    let device = required_member::<Name>(alloc, path, value, "device")?;
-    let exporting = required_member::<Name>(alloc, path, value, "exportingProcess")?;
-    let destination = required_member::<Name>(alloc, path, value, "destination")?;
-    let to_device = required_member::<Name>(alloc, path, value, "toDevice")?;
-    let to_process = required_member::<Name>(alloc, path, value, "toProcess")?;
-    let link = NamedLink {
-        device,
-        exporting_process: exporting,
-        destination,
-        to_device,
-        to_process,
-    };
+    let link = read_link(alloc, path, value)?;
     ends_are_there(alloc, path, devices, &link)?;
-    add_alone(alloc, path, earlier, link)?;
-    Ok(())
+    add_alone(alloc, path, earlier, link)
 }
 
 /// What the links of the list at the path mean, in order.

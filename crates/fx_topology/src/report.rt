@@ -2,8 +2,8 @@
 ghost use Rattle.std.specs.Prelude.{◌≡◌, ℕ, List, [], ◌∷◌, codes, not, is_some};
 ghost use Rattle.serde_json.specs.View.{view};
 ghost use Rattle.fx_walk.specs.Pointer.{pointer};
-ghost use Rattle.fx_walk.specs.Walk.{Reads, fault_if, member_of, required_row};
-ghost use Rattle.fx_topology.specs.Reports.{has_place, key_layout, report_faults, report_of};
+ghost use Rattle.fx_walk.specs.Walk.{Reads, fault_if, member_of, required_row, row_faults};
+ghost use Rattle.fx_topology.specs.Reports.{has_place, key_layout, member_rows, report_faults, report_of};
 ghost use Rattle.fx_base.specs.Refusals.{report_key, unknown_report_process};
 
 use crate::ends::has_collecting_process;
@@ -64,6 +64,21 @@ fn key_is_axes(alloc: Global, path: &DocumentPath<'_>, report: &Report) -> Resul
     refuse_if(alloc, path, refusals::REPORT_KEY, fails)
 }
 
+/// The report that the members of the object at the path make.
+fn read_report(alloc: Global, path: &DocumentPath<'_>, value: &Value) -> Result<Report, Fault>
+    ensures { Reads (row_faults member_rows (pointer path.now) (view value.now))
+        (report_of (view value.now)) result }
+{
+    let device = required_member::<Name>(alloc, path, value, "device")?;
+    let collecting = required_member::<Name>(alloc, path, value, "collectingProcess")?;
+    let key = required_items(alloc, path, value, "key", KEY_FIELDS)?;
+    Ok(Report {
+        device,
+        collecting_process: collecting,
+        key,
+    })
+}
+
 /// The report that stands at the path, in a network of these devices.
 fn report_at(
     alloc: Global,
@@ -75,14 +90,7 @@ fn report_at(
         (report_of (view value.now)) result }
 {
     object_of(alloc, path, value, &["device", "collectingProcess", "key"])?;
-    let device = required_member::<Name>(alloc, path, value, "device")?;
-    let collecting = required_member::<Name>(alloc, path, value, "collectingProcess")?;
-    let key = required_items(alloc, path, value, "key", KEY_FIELDS)?;
-    let report = Report {
-        device,
-        collecting_process: collecting,
-        key,
-    };
+    let report = read_report(alloc, path, value)?;
     process_is_there(alloc, path, devices, &report)?;
     key_is_axes(alloc, path, &report)?;
     Ok(report)

@@ -1,7 +1,9 @@
 pub mod Faults
 pub mod Items
+pub mod NamesRead
 pub mod NextItems
 pub mod Choices
 pub mod Lists
+pub mod MemberLists
 pub mod Lookups
 pub mod Places

@@ -11,7 +11,7 @@ use Rattle.serde_json.specs.View.{view}
 use Rattle.serde_json.specs.declared.value.Value.{Value}
 use Rattle.fx_base.specs.declared.fault.Fault.{Fault}
 use Rattle.fx_walk.specs.Pointer.{below, nth}
-use Rattle.fx_walk.specs.Walk.{FoundFault, Row, Refuses, of_kind, fault_if}
+use Rattle.fx_walk.specs.Walk.{FoundFault, Row, Refuses, of_kind, fault_if, member_of}
 use Rattle.fx_walk.specs.Scalars.{text_of, text_that}
 use Rattle.fx_base.specs.Name.{is_name}
 use Rattle.fx_base.specs.Refusals.{bad_value, missing_member, name_twice, too_many_entries}
@@ -92,3 +92,10 @@ IsListBy few many least most up d (Err e) = (faults : List ℕ → List Data →
 
 abbrev pub IsListOf : ℕ → ℕ → List ℕ → Data → Result (Bor (List Value)) Fault → Type 0
 IsListOf = IsListBy missing_member too_many_entries
+
+-- What a look at the kind and length of an object's member comes to, where one that isn't there is an empty list.
+abbrev pub IsMemberList : ℕ → ℕ → List ℕ → List ℕ → Data → Result (Bor (List Value)) Fault → Type 0
+IsMemberList least most up name d (Ok values) =
+    ((faults : List ℕ → List Data → List FoundFault) → faults (below up name) [] ≡ [] → faults_of_list least most faults up name (get name d) ≡ faults (below up name) (map view values.now))
+    × (items_of (member_of name d) ≡ map view values.now)
+IsMemberList least most up name d (Err e) = (faults : List ℕ → List Data → List FoundFault) → Refuses e (faults_of_list least most faults up name (get name d))

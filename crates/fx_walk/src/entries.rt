@@ -8,7 +8,7 @@ ghost use Rattle.fx_walk.specs.Lists.{entries, entries_faults, items_of, name_on
 ghost use Rattle.fx_walk.specs.NamedEntries.{named_entries};
 ghost use Rattle.fx_walk.specs.Scalars.{text_of};
 
-use crate::list::items_in;
+use crate::list::member_items;
 use crate::names::Names;
 use crate::path::{DocumentPath, refusal};
 use crate::scalar::read_name;
@@ -248,21 +248,8 @@ pub fn named_member<T: Entry>(
         (named_entries T.name (map T.meaning (items_of (member_of name.now (view object.now)))))
         result }
 {
-    match object.get(name) {
-        Some(value) => {
-            let path = DocumentPath::Member(path, name);
-            let items = items_in(alloc, &path, value, least, most)?;
-            entries_of(alloc, &path, items)
-        }
-        None if least > 0 => Err(refusal(alloc, refusals::MISSING_MEMBER, path)),
-        None => {
-            let names = EntryNames::new(alloc, Names::new(alloc))?;
-            Ok(Entries {
-                items: Sequence::from_vec(Vec::new(alloc)),
-                names,
-            })
-        }
-    }
+    let items = member_items(alloc, path, object, name, least, most)?;
+    entries_of(alloc, &DocumentPath::Member(path, name), items)
 }
 
 /// A member that is a list of entries as [`named_member`] reads it, without their names.

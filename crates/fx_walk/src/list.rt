@@ -3,7 +3,7 @@ ghost use Rattle.std.specs.Prelude.{◌≡◌, ℕ, List, [], ◌∷◌, ◌++�
 ghost use Rattle.serde_json.specs.View.{view};
 ghost use Rattle.fx_walk.specs.Pointer.{pointer};
 ghost use Rattle.fx_walk.specs.Walk.{Reads, member_of};
-ghost use Rattle.fx_walk.specs.Lists.{IsListBy, IsListOf, items, items_faults, items_of};
+ghost use Rattle.fx_walk.specs.Lists.{IsListBy, IsListOf, IsMemberList, items, items_faults, items_of};
 
 use crate::member::FromValue;
 use crate::path::{DocumentPath, refusal};
@@ -57,6 +57,25 @@ pub fn items_in<'v>(
     )
 }
 
+/// The items of a member that is a list of `least` to `most` items. Where it may be empty it may be left out, and has
+/// none; else 103 at the object.
+pub fn member_items<'v>(
+    alloc: Global,
+    path: &DocumentPath<'_>,
+    object: &'v Value,
+    name: &str,
+    least: usize,
+    most: usize,
+) -> Result<&'v [Value], Fault>
+    ensures { IsMemberList least most (pointer path.now) name.now (view object.now) result }
+{
+    match object.get(name) {
+        Some(value) => items_in(alloc, &DocumentPath::Member(path, name), value, least, most),
+        None if least > 0 => Err(refusal(alloc, refusals::MISSING_MEMBER, path)),
+        None => Ok(&[]),
+    }
+}
+
 /// What the items of the list at the path mean, in order.
 fn values_of<T: FromValue>(
     alloc: Global,
@@ -89,13 +108,6 @@ pub fn items_member<T: FromValue>(
         (view object.now)) (map T.meaning (items_of (member_of name.now (view object.now))))
         result }
 {
-    match object.get(name) {
-        Some(value) => {
-            let path = DocumentPath::Member(path, name);
-            let items = items_in(alloc, &path, value, least, most)?;
-            values_of(alloc, &path, items)
-        }
-        None if least > 0 => Err(refusal(alloc, refusals::MISSING_MEMBER, path)),
-        None => Ok(Sequence::from_vec(Vec::new(alloc))),
-    }
+    let items = member_items(alloc, path, object, name, least, most)?;
+    values_of(alloc, &DocumentPath::Member(path, name), items)
 }

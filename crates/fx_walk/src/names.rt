@@ -1,10 +1,10 @@
 //! Names that are looked up at once.
-ghost use Rattle.std.specs.Prelude.{◌≡◌, ◌∷◌, ◌++◌, [], List, ℕ, not, if◌then◌else◌, OnOk, OnErr, IfOk, IfErr};
+ghost use Rattle.std.specs.Prelude.{◌≡◌, ◌∷◌, ◌++◌, [], List, ℕ, not, false, if◌then◌else◌, OnOk, OnErr, IfOk, IfErr};
 ghost use Rattle.fx_base.specs.Fault.{IsMemory};
 ghost use Rattle.fx_walk.specs.Lists.{is_among, place_in};
 
 use fx_base::{Fault, Name};
-use std::alloc::Global;
+use std::alloc::{AllocError, Global};
 use std::collections::BTreeMap;
 use std::marker::Model;
 
@@ -67,11 +67,21 @@ impl Names {
         if self.contains(name) {
             return Ok(false);
         }
+        self.push(name)?;
+        Ok(true)
+    }
+
+    /// Puts the name, which is none of these, behind them.
+    fn push(&mut self, name: &Name) -> Result<(), AllocError>
+        requires { is_among self.old name.now ≡ false }
+        ensures names { OnOk result (self.new ≡ self.old ++ name.now ∷ []) }
+        ensures same { OnErr result (self.new ≡ self.old) }
+    {
+        self.texts.reserve(1)?;
         let text = String::from_str(self.alloc, name.as_str())?;
         let key = String::from_str(self.alloc, name.as_str())?;
-        self.texts.reserve(1)?;
         self.places.insert(key, self.texts.len())?;
         self.texts.push(text)?;
-        Ok(true)
+        Ok(())
     }
 }

@@ -1,5 +1,5 @@
 //! Where a value stands in a document.
-ghost use Rattle.fx_walk.specs.Pointer.{escaped_name, pointer};
+ghost use Rattle.fx_walk.specs.Pointer.{below, escaped_char, escaped_name, pointer};
 ghost use Rattle.fx_walk.specs.Walk.{Refuses};
 ghost use Rattle.fx_base.specs.Fault.{fault_at};
 ghost use Rattle.fx_base.specs.declared.fault.Place.TheVariants as places;
@@ -19,19 +19,36 @@ pub enum DocumentPath<'a> {
     Item(&'a DocumentPath<'a>, usize),
 }
 
+/// Writes a character of a name: `~` as `~0`, and `/` as `~1`.
+fn push_escaped_char(out: &mut String, c: char) -> Result<(), AllocError>
+    ensures { OnOk result (string_bytes out.new ≡ string_bytes out.old ++ escaped_char c) }
+{
+    match c {
+        '~' => out.push_str("~0"),
+        '/' => out.push_str("~1"),
+        _ => out.push(c),
+    }
+}
+
+/// Writes a name so that it has no `/` (RFC 6901, section 3).
 fn push_escaped(out: &mut String, name: &str) -> Result<(), AllocError>
     ensures { OnOk result (string_bytes out.new ≡ string_bytes out.old ++ escaped_name name.now) }
 {
     for c in name.chars() {
-        match c {
-            '~' => out.push_str("~0")?,
-            '/' => out.push_str("~1")?,
-            _ => out.push(c)?,
-        }
+        push_escaped_char(out, c)?;
     }
     Ok(())
 }
 
+/// Writes the step to a member: `/` and its name.
+fn push_member(out: &mut String, name: &str) -> Result<(), AllocError>
+    ensures { OnOk result (string_bytes out.new ≡ below (string_bytes out.old) name.now) }
+{
+    out.push_str("/")?;
+    push_escaped(out, name)
+}
+
+/// Writes the pointer to where the path leads.
 fn push_pointer(out: &mut String, path: &DocumentPath<'_>) -> Result<(), AllocError>
     ensures { OnOk result (string_bytes out.new ≡ string_bytes out.old ++ pointer path.now) }
 {
@@ -39,8 +56,7 @@ fn push_pointer(out: &mut String, path: &DocumentPath<'_>) -> Result<(), AllocEr
         DocumentPath::Root => Ok(()),
         DocumentPath::Member(up, name) => {
             push_pointer(out, up)?;
-            out.push_str("/")?;
-            push_escaped(out, name)
+            push_member(out, name)
         }
         DocumentPath::Item(up, place) => {
             push_pointer(out, up)?;

@@ -3,7 +3,7 @@ use Rattle.fx_base.specs.declared.fault.Fault.{Fault}
 use Rattle.fx_elements.specs.declared.element.Element.{Element}
 use Rattle.fx_config.specs.KeyFields.{longest_prefix, prefix_check}
 use Rattle.fx_walk.specs.Pointer.{below, pointer}
-use Rattle.fx_walk.specs.Walk.{FoundFault, Refuses}
+use Rattle.fx_walk.specs.Walk.{Refuses}
 use Rattle.fx_walk.proofs.Faults.{pointer-Member}
 use Rattle.fx_config.proofs.key_field.known_prefix.Goals as goal
 

@@ -1,5 +1,5 @@
 use Rattle.std.proofs.Common.{◌≡◌, ℕ, zero, suc, ◌<◌, ◌∙◌, ◌++◌, List, [], ◌∷◌, length, map, take, get_or, ap, sym, arith, rules, append-nil, append_assoc, add-one, le_of_suc-le-suc}
-use Rattle.std.proofs.lemmas.List.{map-append}
+use Rattle.std.proofs.lemmas.List.{map-append, take_all}
 use Rattle.std.specs.List.{flat_map}
 use Rattle.fx_config.specs.declared.cache.Cache.{Cache}
 use Rattle.fx_topology.specs.declared.network_device.NetworkDevice.{NetworkDevice}
@@ -28,3 +28,8 @@ loop-device-preserved c =
     ∙ ap (λ stores. stores ++ map store_of (caches d)) c.loop-device.invariant
     ∙ sym (map-append store_of before (caches d))
     ∙ ap (map store_of) (one_more caches devices n d c.loop-device-test.true c.device-item.is ∙ ap (λ k. flat_map caches (take k devices)) (sym (add-one n)))
+
+pub returns-clause-ok : goal.returns-clause-ok
+unfolding caches
+returns-clause-ok c =
+    c.loop-device.invariant ∙ ap (λ (ds : List NetworkDevice). map store_of (flat_map caches ds)) (take_all c.loop-device.device-index c.args.devices.now c.loop-device-test.false)

@@ -1,7 +1,8 @@
 use Rattle.std.proofs.Common.{◌++◌, ◌∙◌, ap, take, List, [], ◌∷◌}
-use Rattle.fx_link.specs.Ongoing.{Ongoing}
+use Rattle.fx_link.specs.Ongoing.{Ongoing, at_rest}
+use Rattle.fx_link.specs.Wires.{new_wire}
 use Rattle.fx_net.specs.Opening.{new_links}
-use Rattle.fx_net.proofs.HoldersInOrder.{made_new, new_links_more}
+use Rattle.fx_net.proofs.HoldersInOrder.{made_new, same_more}
 use Rattle.fx_net.proofs.opening.links_of.Goals as goal
 
 pub loop-process-preserved : goal.loop-process-preserved
@@ -9,4 +10,4 @@ loop-process-preserved c =
     c.in_ok-push.ensures.items
     ∙ ap (λ (xs : List Ongoing). xs ++ c.in_ok-new.field-0 ∷ []) c.loop-process.invariant
     ∙ ap (λ (o : Ongoing). new_links (take c.loop-process._process-index c.args.processes.now) ++ o ∷ []) (made_new c.in_ok-new.field-0 c.in_ok-new.ensures)
-    ∙ new_links_more c.args.processes.now c.loop-process._process-index c.loop-process-test.true
+    ∙ same_more (at_rest new_wire) c.args.processes.now c.loop-process._process-index c.loop-process-test.true

@@ -1,5 +1,5 @@
-use Rattle.std.proofs.Common.{◌≡◌, ◌+◌, ◌++◌, ◌∷◌, ◌∙◌, sym, ap, drop, get_or, List}
-use Rattle.std.proofs.lemmas.List.{drop_more}
+use Rattle.std.proofs.Common.{◌≡◌, ◌+◌, ◌++◌, ◌∷◌, ◌∙◌, sym, ap, drop, get_or, List, append-nil}
+use Rattle.std.proofs.lemmas.List.{drop_all, drop_more}
 use Rattle.fx_tables.specs.declared.holding.Holding.{Holding}
 use Rattle.fx_tables.specs.declared.observation.Occurrence.{Occurrence}
 use Rattle.fx_tables.specs.Holdings.{holding_of, met_holdings}
@@ -31,3 +31,20 @@ loop-occurrence-preserved c =
           (ap (λ (hs : List Holding). passing ++ all_leave_at_once before counts hs) (sym here) ∙ c.loop-occurrence.invariant.passing);
       still = still_next counts h before stores c.take_packet.new.stores.items left c.take_packet.new.leavers.left.items c.in_ok-take_packet.ensures.ok c.loop-occurrence.invariant.still;
     }
+
+pub returns-clause-ok : goal.returns-clause-ok
+returns-clause-ok c =
+    let holders = c.args.net.now.holders in
+    let met = c.args.met.now in
+    sym (ap (λ (os : List Occurrence). with_holdings c.args.counts (met_holdings holders c.args.fields.now os) (record { stores = c.loop-occurrence.stores.items; left = c.loop-occurrence.leavers.left.items }))
+    (drop_all c.loop-occurrence.occurrence-index met c.loop-occurrence-test.false))
+    ∙ c.loop-occurrence.invariant.adding
+
+pub returns-clause-passing : goal.returns-clause-passing
+returns-clause-passing c =
+    let holders = c.args.net.now.holders in
+    let met = c.args.met.now in
+    let passing = c.loop-occurrence.leavers.passing.items in
+    sym (ap (λ (os : List Occurrence). passing ++ all_leave_at_once c.args.stores.now.items c.args.counts (met_holdings holders c.args.fields.now os))
+    (drop_all c.loop-occurrence.occurrence-index met c.loop-occurrence-test.false) ∙ append-nil passing)
+    ∙ c.loop-occurrence.invariant.passing

@@ -1,6 +1,7 @@
 use Rattle.std.proofs.Common.{ℕ, ◌+◌, ◌≤◌, ◌<◌, length, ap, sym, ◌∙◌, arith}
 use Rattle.fx_pcap.specs.Records.{captured_length}
 use Rattle.fx_base.specs.Window.{octets_of}
+use Rattle.fx_base.proofs.Asked.{asked_further}
 use Rattle.fx_base.proofs.Spending.{failed_behind}
 use Rattle.fx_pcap.proofs.Refusing.{too_long, cut}
 use Rattle.fx_pcap.proofs.Whole.{number_in_front}
@@ -40,3 +41,18 @@ returns-then-octets-size-clause-stop g c =
     let size = read ∙ sym (number_in_front c.args.order 4 8 held w.held c.fill-2.ensures.front (omega (arith, header))) in
     let few : length w.held < 16 + captured_length c.args.order w.held = omega (arith, size, c.if-octets-size.true, ap length c.octets.ensures.value) in
     cut c.args.order w.held w.left (octets_of c.args.window.now) (c.fill-2.ensures.octets ∙ c.fill.ensures.octets) (c.in-Ok-fill.ensures.enough (omega (arith, c.if-octets-size.true, ap length c.octets.ensures.value))) (omega (arith, header, c.fill-2.ensures.fits)) (omega (arith, size, c.if-captured-gt-LONGEST.false)) few
+
+pub returns-in_default-fill-clause-asked : goal.returns-in_default-fill-clause-asked
+returns-in_default-fill-clause-asked g c =
+    let w = c.args.window.now in
+    asked_further w.asked c.fill.new.self.asked c.fill-2.new.self.asked w.calls c.fill.new.self.calls c.fill-2.new.self.calls c.fill.ensures.calls.0 c.fill-2.ensures.calls.0 c.fill.ensures.asked c.fill-2.ensures.asked
+
+pub returns-then-octets-size-clause-asked : goal.returns-then-octets-size-clause-asked
+returns-then-octets-size-clause-asked g c =
+    let w = c.args.window.now in
+    asked_further w.asked c.fill.new.self.asked c.fill-2.new.self.asked w.calls c.fill.new.self.calls c.fill-2.new.self.calls c.fill.ensures.calls.0 c.fill-2.ensures.calls.0 c.fill.ensures.asked c.fill-2.ensures.asked
+
+pub returns-clause-asked : goal.returns-clause-asked
+returns-clause-asked g c =
+    let w = c.args.window.now in
+    asked_further w.asked c.fill.new.self.asked c.fill-2.new.self.asked w.calls c.fill.new.self.calls c.fill-2.new.self.calls c.fill.ensures.calls.0 c.fill-2.ensures.calls.0 c.fill.ensures.asked c.fill-2.ensures.asked

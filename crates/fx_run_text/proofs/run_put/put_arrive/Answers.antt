@@ -1,10 +1,31 @@
+use Rattle.std.proofs.lemmas.Result.{err_from_is_err_and}
 use Rattle.std.proofs.Common.{[], ◌∷◌, codes, decimal, map}
 use Rattle.fx_run_text.specs.RunLineText.{spaced_words}
 use Rattle.fx_run_text.specs.RunText.{choice_word}
-use Rattle.fx_run_text.proofs.RunPutting.{arrive_put, writes_4}
+use Rattle.fx_run_text.proofs.RunPutting.{going_then, arrive_put, writes_4}
 use Rattle.fx_run_text.proofs.run_put.put_arrive.Goals as goal
 
-pub returns-clause-ok : goal.returns-clause-ok
-returns-clause-ok g c =
+pub returns-in_err-put_text : goal.returns-in_err-put_text
+returns-in_err-put_text g c =
+    let p = err_from_is_err_and c.from_residual.result c.from_residual.ensures.1 in
+    rw (p.1, p.2) (record { ok = tt; going = tt; err = c.in_err-put_text.ensures.err })
+
+pub returns-in_err-put_spaced : goal.returns-in_err-put_spaced
+returns-in_err-put_spaced g c =
+    let p = err_from_is_err_and c.from_residual-in_err-put_spaced.result c.from_residual-in_err-put_spaced.ensures.1 in
+    rw (p.1, p.2) (record { ok = tt; going = tt; err = c.in_err-put_spaced.ensures.err })
+
+pub returns-in_err-put_spaced-2 : goal.returns-in_err-put_spaced-2
+returns-in_err-put_spaced-2 g c =
+    let p = err_from_is_err_and c.from_residual-in_err-put_spaced-2.result c.from_residual-in_err-put_spaced-2.ensures.1 in
+    rw (p.1, p.2) (record { ok = tt; going = tt; err = c.in_err-put_spaced-2.ensures.err })
+
+pub returns : goal.returns
+returns g c =
     let taken = g.S.Sink.taken in
-    writes_4 c.put_choices.result (taken c.args.sink.now) (taken c.put_text.new.sink) (taken c.put_spaced.new.sink) (taken c.put_spaced-2.new.sink) (taken c.put_choices.new.sink) (codes "arrive") (spaced_words (decimal c.args.link ∷ [])) (spaced_words (decimal c.args.position ∷ [])) (spaced_words (map choice_word c.args.choices.now)) _ c.in_ok-put_text.ensures.ok c.in_ok-put_spaced.ensures.ok c.in_ok-put_spaced-2.ensures.ok c.put_choices.ensures.ok (arrive_put c.args.link c.args.position c.args.choices.now)
+    let failed = g.S.Sink.failed in
+    record {
+      ok = writes_4 c.put_choices.result (taken c.args.sink.now) (taken c.put_text.new.sink) (taken c.put_spaced.new.sink) (taken c.put_spaced-2.new.sink) (taken c.put_choices.new.sink) (codes "arrive") (spaced_words (decimal c.args.link ∷ [])) (spaced_words (decimal c.args.position ∷ [])) (spaced_words (map choice_word c.args.choices.now)) _ c.in_ok-put_text.ensures.ok c.in_ok-put_spaced.ensures.ok c.in_ok-put_spaced-2.ensures.ok c.put_choices.ensures.ok (arrive_put c.args.link c.args.position c.args.choices.now);
+      going = going_then c.put_choices.result (failed c.args.sink.now) (failed c.put_text.new.sink) (failed c.put_choices.new.sink) c.in_ok-put_text.ensures.going (going_then c.put_choices.result (failed c.put_text.new.sink) (failed c.put_spaced.new.sink) (failed c.put_choices.new.sink) c.in_ok-put_spaced.ensures.going (going_then c.put_choices.result (failed c.put_spaced.new.sink) (failed c.put_spaced-2.new.sink) (failed c.put_choices.new.sink) c.in_ok-put_spaced-2.ensures.going c.put_choices.ensures.going));
+      err = c.put_choices.ensures.err;
+    }

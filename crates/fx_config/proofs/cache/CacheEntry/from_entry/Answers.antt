@@ -1,40 +1,23 @@
-use Rattle.std.proofs.Common.{refl}
-use Rattle.fx_config.specs.Caches.{cache_rows}
+use Rattle.std.proofs.Common.{drop, refl, ◌∙◌}
+use Rattle.serde_json.specs.View.{view}
+use Rattle.fx_walk.specs.Pointer.{pointer}
 use Rattle.fx_walk.proofs.Faults.{exit, refuses_more}
+use Rattle.fx_config.specs.Caches.{cache_rows, kind_rows}
+use Rattle.fx_config.proofs.Chains.{from_rows, no_rows, none_more, rows_before, skip}
 use Rattle.fx_config.proofs.cache.CacheEntry.from_entry.Goals as goal
-
-pub returns-in_err-object_of-clause-reads : goal.returns-in_err-object_of-clause-reads
-returns-in_err-object_of-clause-reads c =
-    exit _ _ _ _ c.from_residual.ensures (c.in_err-object_of.ensures (cache_rows c.args.earlier.now) refl)
 
 pub returns-in_err-name-clause-reads : goal.returns-in_err-name-clause-reads
 returns-in_err-name-clause-reads c =
-    exit _ _ _ _ c.from_residual-in_err-name.ensures (rw (c.in_ok-object_of.ensures (cache_rows c.args.earlier.now) refl) (refuses_more _ _ _ c.in_err-name.ensures.reads))
+    exit _ _ _ _ c.from_residual.ensures (c.in_err-name.ensures.reads (drop 1 (cache_rows c.args.earlier.now)) refl)
 
-pub returns-in_err-one_of-clause-reads : goal.returns-in_err-one_of-clause-reads
-returns-in_err-one_of-clause-reads c =
-    exit _ _ _ _ c.from_residual-in_err-one_of.ensures (rw (c.in_ok-object_of.ensures (cache_rows c.args.earlier.now) refl, c.in_ok-name.ensures.reads.0) (refuses_more _ _ _ c.in_err-one_of.ensures))
-
-pub returns-in_err-immediate-clause-reads : goal.returns-in_err-immediate-clause-reads
-returns-in_err-immediate-clause-reads c =
-    exit _ _ _ _ c.from_residual-in_err-immediate.ensures (rw (c.in_ok-object_of.ensures (cache_rows c.args.earlier.now) refl, c.in_ok-name.ensures.reads.0, c.in_ok-one_of.ensures.0) (refuses_more _ _ _ c.in_err-immediate.ensures))
-
-pub returns-in_err-timeout-clause-reads : goal.returns-in_err-timeout-clause-reads
-returns-in_err-timeout-clause-reads c =
-    exit _ _ _ _ c.from_residual-in_err-timeout.ensures (rw (c.in_ok-object_of.ensures (cache_rows c.args.earlier.now) refl, c.in_ok-name.ensures.reads.0, c.in_ok-one_of.ensures.0, c.in_ok-immediate.ensures.0) (refuses_more _ _ _ c.in_err-timeout.ensures))
-
-pub returns-in_err-natural-clause-reads : goal.returns-in_err-natural-clause-reads
-returns-in_err-natural-clause-reads c =
-    exit _ _ _ _ c.from_residual-in_err-natural.ensures (rw (c.in_ok-object_of.ensures (cache_rows c.args.earlier.now) refl, c.in_ok-name.ensures.reads.0, c.in_ok-one_of.ensures.0, c.in_ok-immediate.ensures.0, c.in_ok-timeout.ensures.0) (refuses_more _ _ _ c.in_err-natural.ensures))
-
-pub returns-in_err-permanent-clause-reads : goal.returns-in_err-permanent-clause-reads
-returns-in_err-permanent-clause-reads c =
-    exit _ _ _ _ c.from_residual-in_err-permanent.ensures (rw (c.in_ok-object_of.ensures (cache_rows c.args.earlier.now) refl, c.in_ok-name.ensures.reads.0, c.in_ok-one_of.ensures.0, c.in_ok-immediate.ensures.0, c.in_ok-timeout.ensures.0, c.in_ok-natural.ensures.0) (refuses_more _ _ _ c.in_err-permanent.ensures))
+pub returns-in_err-given-clause-reads : goal.returns-in_err-given-clause-reads
+returns-in_err-given-clause-reads c =
+    exit _ _ _ _ c.from_residual-in_err-given.ensures (from_rows _ _ _ (c.in_ok-name.ensures.reads.0 (drop 1 (cache_rows c.args.earlier.now)) refl ∙ rows_before kind_rows (drop 6 (cache_rows c.args.earlier.now)) (pointer c.args.path.now) (view c.args.value.now)) (refuses_more _ _ _ c.in_err-given.ensures))
 
 pub returns-in_err-processes-clause-reads : goal.returns-in_err-processes-clause-reads
 returns-in_err-processes-clause-reads c =
-    exit _ _ _ _ c.from_residual-in_err-processes.ensures (rw (c.in_ok-object_of.ensures (cache_rows c.args.earlier.now) refl, c.in_ok-name.ensures.reads.0, c.in_ok-one_of.ensures.0, c.in_ok-immediate.ensures.0, c.in_ok-timeout.ensures.0, c.in_ok-natural.ensures.0, c.in_ok-permanent.ensures.0) (refuses_more _ _ _ c.in_err-processes.ensures))
+    exit _ _ _ _ c.from_residual-in_err-processes.ensures (from_rows _ _ _ (c.in_ok-name.ensures.reads.0 (drop 1 (cache_rows c.args.earlier.now)) refl ∙ rows_before kind_rows (drop 6 (cache_rows c.args.earlier.now)) (pointer c.args.path.now) (view c.args.value.now)) (skip _ _ _ c.in_ok-given.ensures.0 (refuses_more _ _ _ c.in_err-processes.ensures)))
 
 pub returns-clause-reads : goal.returns-clause-reads
 returns-clause-reads c =
-    (rw (c.in_ok-object_of.ensures (cache_rows c.args.earlier.now) refl, c.in_ok-name.ensures.reads.0, c.in_ok-one_of.ensures.0, c.in_ok-immediate.ensures.0, c.in_ok-timeout.ensures.0, c.in_ok-natural.ensures.0, c.in_ok-permanent.ensures.0, c.in_ok-processes.ensures.0) refl, rw (c.in_ok-name.ensures.reads.1, c.kind_given-given.ensures, c.in_ok-immediate.ensures.1, c.in_ok-timeout.ensures.1, c.in_ok-natural.ensures.1, c.in_ok-permanent.ensures.1, c.in_ok-processes.ensures.1) refl)
+    (no_rows _ _ (c.in_ok-name.ensures.reads.0 (drop 1 (cache_rows c.args.earlier.now)) refl ∙ rows_before kind_rows (drop 6 (cache_rows c.args.earlier.now)) (pointer c.args.path.now) (view c.args.value.now)) (none_more _ _ c.in_ok-given.ensures.0 (none_more _ _ c.in_ok-processes.ensures.0 refl)), rw (c.in_ok-name.ensures.reads.1, c.in_ok-given.ensures.1, c.in_ok-processes.ensures.1) refl)

@@ -1,24 +1,16 @@
 use Rattle.std.proofs.Common.{refl}
-use Rattle.fx_config.specs.Destinations.{destination_rows}
-use Rattle.fx_walk.proofs.Faults.{exit, refuses_more}
+use Rattle.fx_walk.proofs.Faults.{exit}
+use Rattle.fx_config.specs.Destinations.{transport_rows}
+use Rattle.fx_config.proofs.Chains.{from_rows, no_rows}
 use Rattle.fx_config.proofs.destination.DestinationEntry.from_entry.Goals as goal
 
-pub returns-in_err-object_of-clause-reads : goal.returns-in_err-object_of-clause-reads
-returns-in_err-object_of-clause-reads c =
-    exit _ _ _ _ c.from_residual.ensures (c.in_err-object_of.ensures (destination_rows c.args.earlier.now) refl)
-
 pub returns-in_err-name-clause-reads : goal.returns-in_err-name-clause-reads
-returns-in_err-name-clause-reads c =
-    exit _ _ _ _ c.from_residual-in_err-name.ensures (rw (c.in_ok-object_of.ensures (destination_rows c.args.earlier.now) refl) (refuses_more _ _ _ c.in_err-name.ensures.reads))
+returns-in_err-name-clause-reads c = exit _ _ _ _ c.from_residual.ensures (c.in_err-name.ensures.reads transport_rows refl)
 
-pub returns-in_err-none_of-clause-reads : goal.returns-in_err-none_of-clause-reads
-returns-in_err-none_of-clause-reads c =
-    exit _ _ _ _ c.from_residual-in_err-none_of.ensures (rw (c.in_ok-object_of.ensures (destination_rows c.args.earlier.now) refl, c.in_ok-name.ensures.reads.0) (refuses_more _ _ _ c.in_err-none_of.ensures))
-
-pub returns-in_err-one_of-clause-reads : goal.returns-in_err-one_of-clause-reads
-returns-in_err-one_of-clause-reads c =
-    exit _ _ _ _ c.from_residual-in_err-one_of.ensures (rw (c.in_ok-object_of.ensures (destination_rows c.args.earlier.now) refl, c.in_ok-name.ensures.reads.0, c.in_ok-none_of.ensures.0) (refuses_more _ _ _ c.in_err-one_of.ensures))
+pub returns-in_err-transport-clause-reads : goal.returns-in_err-transport-clause-reads
+returns-in_err-transport-clause-reads c =
+    exit _ _ _ _ c.from_residual-in_err-transport.ensures (from_rows _ _ _ (c.in_ok-name.ensures.reads.0 transport_rows refl) c.in_err-transport.ensures)
 
 pub returns-clause-reads : goal.returns-clause-reads
 returns-clause-reads c =
-    (rw (c.in_ok-object_of.ensures (destination_rows c.args.earlier.now) refl, c.in_ok-name.ensures.reads.0, c.in_ok-none_of.ensures.0, c.in_ok-one_of.ensures.0) refl, rw (c.in_ok-name.ensures.reads.1, c.transport_of.ensures) refl)
+    (no_rows _ _ (c.in_ok-name.ensures.reads.0 transport_rows refl) c.in_ok-transport.ensures.0, rw (c.in_ok-name.ensures.reads.1, c.in_ok-transport.ensures.1) refl)

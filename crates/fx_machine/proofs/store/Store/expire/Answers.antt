@@ -1,9 +1,11 @@
-use Rattle.std.proofs.Common.{◌≡◌, ◌<◌, ◌≤◌, ◌∙◌, inl, inr, sym, ap, ap₂, ℕ, List, [], length, slice_get, Option, Some, None, Err, drop}
+use Rattle.std.proofs.Common.{◌≡◌, refl, ◌<◌, ◌≤◌, ◌∙◌, inl, inr, sym, ap, ap₂, ℕ, List, [], length, slice_get, Option, Some, None, Err, drop}
 use Rattle.std.proofs.lemmas.Result.{err_from_is_err_and}
 use Rattle.fx_base.specs.declared.fault.Fault.{Fault}
 use Rattle.fx_tables.specs.declared.record.Record.{Record}
 use Rattle.fx_tables.specs.Network.{Net, Exporter, at_places, named_by}
 use Rattle.fx_machine.specs.Sends.{put_all, Chosen, chosen_from}
+use Rattle.fx_machine.specs.States.{State}
+use Rattle.fx_machine.specs.Steps.{after_expire, expire_at, expire_from}
 use Rattle.fx_machine.specs.Stores.{taken_out}
 use Rattle.fx_machine.specs.Comings.{coming_of}
 use Rattle.fx_machine.proofs.StepOutcomes.{expire_is, expired, choices_left, choices_used}
@@ -65,3 +67,55 @@ returns-clause-ok c s e =
     let picked = chosen net place c.exporters.result.now c.named_by-exporters.result.now cs o c.exporters.ensures c.named_by-exporters.ensures c.in_ok-links.ensures.ok.1 in
     let carried : c.put_all.new.carried.items ≡ put_all links r in'.carried.items = c.in_default-put_all.ensures.ok ∙ ap₂ (λ (ls : List ℕ) (x : Record). put_all ls x in'.carried.items) c.as_slice-2.ensures.value c.copy-entry.ensures in
     expired net c.args.holder c.args.number cs (coming_of 1 in'.to_come.items) in'.held.items in'.carried.items in'.totals.items in'.unassigned s (c.self.view_is ∙ e) place rs r links (drop used cs) c.take_out_at.new.lists.items c.put_all.new.carried.items c.in-Some.ensures k c.in-Some-record_numbered.ensures picked (choices_used cs used all) c.take_out_at.ensures carried
+
+pub returns-in_default : goal.returns-in_default
+returns-in_default c = record {
+  ok = tt;
+  same = refl;
+  err = (
+    ap (λ (f : Fault). f.place) c.bare.ensures,
+    inr (λ s e. ap (λ (place : Option ℕ). expire_at c.args.net.now place c.args.number s c.args.choices.now) (sym c.in_default.ensures) ∙ ap (λ (f : Fault). Err f.number) (sym c.bare.ensures)),
+  );
+}
+
+pub returns-in_default-entry_at : goal.returns-in_default-entry_at
+returns-in_default-entry_at c =
+    let in' = c.self.inside in
+    let net = c.args.net.now in
+    let place = c.in-Some.place in
+    let cs = c.args.choices.now in
+    let none : None ≡ slice_get in'.held.items place = c.in_default-entry_at.ensures ∙ ap (λ (x : List (List Record)). slice_get x place) c.as_slice.ensures.value in
+    record {
+      ok = tt;
+      same = refl;
+      err = (
+        ap (λ (f : Fault). f.place) c.bare-in_default-entry_at.ensures,
+        inr (λ s e.
+            ap (λ (place : Option ℕ). expire_at net place c.args.number s cs) (sym c.in-Some.ensures)
+            ∙ ap (λ (x : State). expire_from net place (slice_get x.held place) c.args.number s cs) (sym (c.self.view_is ∙ e))
+            ∙ ap (λ (o : Option (List Record)). expire_from net place o c.args.number s cs) (sym none)
+            ∙ ap (λ (f : Fault). Err f.number) (sym c.bare-in_default-entry_at.ensures)),
+      );
+    }
+
+pub returns-in_default-record_numbered : goal.returns-in_default-record_numbered
+returns-in_default-record_numbered c =
+    let in' = c.self.inside in
+    let net = c.args.net.now in
+    let place = c.in-Some.place in
+    let rs = c.in-Some-entry_at.records.now in
+    let cs = c.args.choices.now in
+    let k : Some rs ≡ slice_get in'.held.items place = c.in-Some-entry_at.ensures ∙ ap (λ (x : List (List Record)). slice_get x place) c.as_slice.ensures.value in
+    record {
+      ok = tt;
+      same = refl;
+      err = (
+        ap (λ (f : Fault). f.place) c.bare-in_default-record_numbered.ensures,
+        inr (λ s e.
+            ap (λ (place : Option ℕ). expire_at net place c.args.number s cs) (sym c.in-Some.ensures)
+            ∙ ap (λ (x : State). expire_from net place (slice_get x.held place) c.args.number s cs) (sym (c.self.view_is ∙ e))
+            ∙ ap (λ (o : Option (List Record)). expire_from net place o c.args.number s cs) (sym k)
+            ∙ ap (λ (o : Option Record). after_expire net place rs c.args.number o s cs) (sym c.in_default-record_numbered.ensures)
+            ∙ ap (λ (f : Fault). Err f.number) (sym c.bare-in_default-record_numbered.ensures)),
+      );
+    }

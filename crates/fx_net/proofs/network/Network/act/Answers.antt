@@ -1,7 +1,8 @@
 use Rattle.std.proofs.Common.{sym, subst}
 use Rattle.fx_net.specs.declared.action.Action.{Action}
+use Rattle.fx_net.specs.declared.action.Action.TheVariants as action
 use Rattle.fx_net.specs.Running.{Acts}
-use Rattle.fx_net.proofs.LinesAreDone.{both_ok, acts_next, acts_of, acts_expire, acts_emit, acts_use}
+use Rattle.fx_net.proofs.LinesAreDone.{both_ok, acts_next, acts_of, acts_expire, acts_emit, acts_carry, acts_use, names_nothing}
 use Rattle.fx_net.proofs.network.Network.act.Goals as goal
 
 pub returns-in-Next-clause-ok : goal.returns-in-Next-clause-ok
@@ -28,3 +29,24 @@ pub returns-in-Use-clause-ok : goal.returns-in-Use-clause-ok
 returns-in-Use-clause-ok g c =
     both_ok c.use_destination.result c.use_destination.ensures.ok c.use_destination.ensures.rest
     (λ h rest. subst (λ (a : Action). Acts a c.args.self.now c.use_destination.new.self c.args.capture.now c.args.capture.now) (sym c.in-Use.is) (acts_use c.in-Use.device c.in-Use.exporter c.in-Use.destination c.args.self.now c.use_destination.new.self c.args.capture.now h rest))
+
+pub returns-in-Carry-clause-ok : goal.returns-in-Carry-clause-ok
+returns-in-Carry-clause-ok g c =
+    both_ok c.carry.result c.carry.ensures.ok c.carry.ensures.rest
+    (λ h rest. subst (λ (a : Action). Acts a c.args.self.now c.carry.new.self c.args.capture.now c.args.capture.now) (sym c.in-Carry.is) (acts_carry c.in-Carry.link c.in-Carry.octets c.args.self.now c.carry.new.self c.args.capture.now h rest))
+
+pub returns-in-Expire-clause-err : goal.returns-in-Expire-clause-err
+returns-in-Expire-clause-err g c =
+    names_nothing c.expire.result c.args.self.now c.args.capture.now c.args.capture.now c.args.line c.args.asked (action.Expire c.in-Expire.device c.in-Expire.cache) c.in-Expire.is c.expire.ensures.err
+
+pub returns-in-Emit-clause-err : goal.returns-in-Emit-clause-err
+returns-in-Emit-clause-err g c =
+    names_nothing c.expire-in-Emit.result c.args.self.now c.args.capture.now c.args.capture.now c.args.line c.args.asked (action.Emit c.in-Emit.device c.in-Emit.process c.in-Emit.aggregation) c.in-Emit.is c.expire-in-Emit.ensures.err
+
+pub returns-in-Carry-clause-err : goal.returns-in-Carry-clause-err
+returns-in-Carry-clause-err g c =
+    names_nothing c.carry.result c.args.self.now c.args.capture.now c.args.capture.now c.args.line c.args.asked (action.Carry c.in-Carry.link c.in-Carry.octets) c.in-Carry.is c.carry.ensures.err
+
+pub returns-in-Use-clause-err : goal.returns-in-Use-clause-err
+returns-in-Use-clause-err g c =
+    names_nothing c.use_destination.result c.args.self.now c.args.capture.now c.args.capture.now c.args.line c.args.asked (action.Use c.in-Use.device c.in-Use.exporter c.in-Use.destination) c.in-Use.is c.use_destination.ensures.err

@@ -2,7 +2,7 @@ use Rattle.std.proofs.Common.{◌⊎◌, inr, ◌∙◌, ap}
 use Rattle.fx_base.specs.declared.fault.Fault.{Fault}
 use Rattle.fx_net.specs.Running.{RunningNetwork, FailsOutside, RefusesRun, not_read}
 use Rattle.fx_net.proofs.Exits.{exit_with}
-use Rattle.fx_net.proofs.FramesRead.{at_line_of, obeys_lent, line_fault}
+use Rattle.fx_net.proofs.FramesRead.{at_line_of, at_text_end_of, obeys_lent, line_fault}
 use Rattle.fx_net.proofs.network.Network.obey_all.Goals as goal
 
 pub returns-in_err-advance-clause-err : goal.returns-in_err-advance-clause-err
@@ -30,3 +30,10 @@ returns-in_err-obey-clause-err g c =
     c.from_residual-in_err-obey.ensures
     (line_fault c.args.self.now c.loop-self.self c.args.capture.now c.loop-self.capture c.obey.new.capture c.args.schedule.now c.loop-self.schedule c.advance.new.self (g.L.Links.put_on c.args.links.now) (g.L.Links.put_on c.loop-self.links) (g.L.Links.failed c.obey.new.links) c.line.result.bytes.now c.line.result.number c.in_err-obey.field-0.0
     c.loop-self.invariant.obeyed at c.line.ensures.bytes c.line.ensures.number (c.in_err-obey.ensures.err c.loop-self.invariant.faultless))
+
+pub returns-clause-ok : goal.returns-clause-ok
+returns-clause-ok g c = record {
+  behind = c.loop-self.schedule;
+  obeyed = c.loop-self.invariant.obeyed;
+  end = at_text_end_of c.loop-self.schedule c.advance.new.self c.in_ok-advance.field-0 c.in_ok-advance.ensures c.if-branch.false;
+}

@@ -3,7 +3,7 @@ use Rattle.fx_base.specs.declared.fault.Fault.{Fault}
 use Rattle.fx_net.specs.declared.stop.Stop.{Stop}
 use Rattle.fx_net.specs.Running.{RunningNetwork, FailsOutside, RefusesClose, capture_cut, fault_of}
 use Rattle.fx_net.proofs.Exits.{told_exit, exit_with, close_refused}
-use Rattle.fx_net.proofs.Frames.{at_frame_of}
+use Rattle.fx_net.proofs.Frames.{at_end_of, at_frame_of}
 use Rattle.fx_net.proofs.FramesRead.{reads_more, goes_more}
 use Rattle.fx_net.proofs.network.Network.read_rest.Goals as goal
 
@@ -33,3 +33,10 @@ returns-in_err-read_one-clause-err g c =
     c.from_residual-in_err-read_one.ensures
     (close_refused c.args.self.now c.loop-met.self c.args.capture.now c.advance.new.self (g.L.Links.failed c.read_one.new.links) c.in_err-read_one.field-0.0 c.in_err-read_one.ensures.err
     (goes_more c.args.capture.now c.loop-met.capture c.advance.new.self c.loop-met.invariant.gone at) c.loop-met.invariant.rest)
+
+pub returns-clause-ok : goal.returns-clause-ok
+returns-clause-ok g c = record {
+  last = c.loop-met.capture;
+  read = c.loop-met.invariant.read;
+  end = at_end_of c.loop-met.capture c.advance.new.self c.in_ok-advance.field-0 c.in_ok-advance.ensures.advances c.if-branch.false;
+}
