@@ -8,7 +8,7 @@ use Rattle.fx_walk.specs.Scalars.{text_of}
 use Rattle.fx_walk.specs.Walk.{Reads, Refuses, Row, listed_in, member_of, object_faults, row_faults}
 use Rattle.fx_walk.proofs.Faults.{refuses_more}
 use Rattle.fx_config.specs.EntryNames.{IsEntryName, name_row}
-use Rattle.fx_config.proofs.Chains.{from_rows, none_first}
+use Rattle.fx_walk.proofs.RowFaults.{from_rows, none_first}
 
 -- of an object without other members
 pub named : (listed earlier : List (List ℕ)) (up : List ℕ) (d : Data) (r : Result Name Fault) → ((rows : List Row) → listed_in rows ≡ listed → object_faults rows up d ≡ row_faults rows up d) → Reads ((name_row earlier).faults up d) (text_of (member_of (codes "name") d)) r → IsEntryName listed earlier up d r

@@ -1,4 +1,3 @@
 pub mod NamesResolve
 pub mod NextFields
-pub mod Chains
 pub mod EntryNamed

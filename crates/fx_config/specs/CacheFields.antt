@@ -1,5 +1,5 @@
 -- Fields of caches' records (RFC 6728, section 4.3.3).
-use Rattle.std.specs.Prelude.{ℕ, ◌==◌, ◌/◌, if◌then◌else◌, List, [], ◌∷◌, ◌++◌, codes, Bool, true, false, not, ◌&&◌, Option, Some, None, option_map, is_some}
+use Rattle.std.specs.Prelude.{ℕ, ◌==◌, ◌/◌, if◌then◌else◌, List, [], ◌∷◌, ◌++◌, codes, Bool, true, false, not, ◌&&◌, Option, Some, None, option_map, is_some, drop}
 use Rattle.serde_json.specs.Data.{Data}
 use Rattle.serde_json.specs.Find.{get}
 use Rattle.fx_walk.specs.Pointer.{below}
@@ -63,18 +63,6 @@ length_in d = option_map number_of (get (codes "ieLength") d)
 abbrev pub is_key_in : Bool → Data → Bool
 is_key_in immediate d = is_key immediate (element_in d) (is_some (get (codes "isFlowKey") d))
 
--- what a field holds, and whether it is a flow key
-abbrev pub use_rows : Bool → List Row
-use_rows immediate =
-    one_of (codes "ieName" ∷ codes "ieId" ∷ [])
-    ∷ optional (codes "ieName") text_faults
-    ∷ optional (codes "ieId") (whole_faults 1 32767)
-    ∷ optional (codes "ieLength") (whole_faults 1 65535)
-    ∷ optional (codes "ieEnterpriseNumber") (whole_faults 0 0xffff_ffff)
-    ∷ optional (codes "isFlowKey") empty_faults
-    ∷ then_check (λ up d. field_check (element_in d) (is_key_in immediate d) (length_in d) up)
-    ∷ []
-
 abbrev pub field_use : Bool → Data → FieldUse
 field_use immediate d = record { element = element_in d; is_flow_key = is_key_in immediate d }
 
@@ -89,6 +77,10 @@ cache_field_rows immediate earlier =
     ∷ optional (codes "isFlowKey") empty_faults
     ∷ then_check (λ up d. field_check (element_in d) (is_key_in immediate d) (length_in d) up)
     ∷ []
+
+-- what a field holds, and whether it is a flow key
+abbrev pub use_rows : Bool → List Row
+use_rows immediate = drop 1 (cache_field_rows immediate [])
 
 abbrev pub cache_field_faults : Bool → List (List ℕ) → List ℕ → Data → List FoundFault
 cache_field_faults immediate earlier = object_faults (cache_field_rows immediate earlier)

@@ -1,5 +1,5 @@
 -- Caches (RFC 6728, sections 4.3 and 4.3.2).
-use Rattle.std.specs.Prelude.{ℕ, List, [], ◌∷◌, codes, map, Bool, true, false, Option, Some, None, option_map}
+use Rattle.std.specs.Prelude.{ℕ, List, [], ◌∷◌, codes, map, Bool, true, false, Option, Some, None, option_map, take, drop}
 use Rattle.std.specs.Option.{unwrap_or}
 use Rattle.serde_json.specs.Data.{Data}
 use Rattle.serde_json.specs.Find.{get}
@@ -57,18 +57,9 @@ kind_in d = kind_given
     (option_map (settings_of false) (get (codes "naturalCache") d))
     (option_map (settings_of false) (get (codes "permanentCache") d))
 
--- exactly one kind is given
-abbrev pub kind_rows : List Row
-kind_rows =
-    one_of (codes "immediateCache" ∷ codes "timeoutCache" ∷ codes "naturalCache" ∷ codes "permanentCache" ∷ [])
-    ∷ optional (codes "immediateCache") (settings_faults true)
-    ∷ optional (codes "timeoutCache") (settings_faults false)
-    ∷ optional (codes "naturalCache") (settings_faults false)
-    ∷ optional (codes "permanentCache") (settings_faults false)
-    ∷ []
-
 -- ---- caches
 
+-- exactly one kind is given
 abbrev pub cache_rows : List (List ℕ) → List Row
 cache_rows earlier =
     required_row (codes "name") (name_once earlier)
@@ -79,6 +70,9 @@ cache_rows earlier =
     ∷ optional (codes "permanentCache") (settings_faults false)
     ∷ entries 0 entry_limit (codes "exportingProcess") name_once text_of
     ∷ []
+
+abbrev pub kind_rows : List Row
+kind_rows = take 5 (drop 1 (cache_rows []))
 
 abbrev pub cache_faults : List (List ℕ) → List ℕ → Data → List FoundFault
 cache_faults earlier = object_faults (cache_rows earlier)

@@ -1,5 +1,5 @@
 -- Destinations of exporting processes (RFC 6728, section 4.4).
-use Rattle.std.specs.Prelude.{ℕ, List, [], ◌∷◌, codes, is_some, if◌then◌else◌}
+use Rattle.std.specs.Prelude.{ℕ, List, [], ◌∷◌, codes, is_some, if◌then◌else◌, drop}
 use Rattle.serde_json.specs.Data.{Data}
 use Rattle.serde_json.specs.Find.{get}
 use Rattle.fx_walk.specs.Walk.{FoundFault, Row, object_faults, required_row, unread, member_of}
@@ -15,13 +15,6 @@ abbrev pub exporters : List (List ℕ)
 exporters = codes "tcpExporter" ∷ codes "sctpExporter" ∷ codes "udpExporter" ∷ []
 
 -- one exporter, which is left unread; files are none
-abbrev pub transport_rows : List Row
-transport_rows =
-    none_of ((codes "fileWriter", file_transport) ∷ [])
-    ∷ one_of exporters
-    ∷ unread exporters
-    ∷ []
-
 abbrev pub destination_rows : List (List ℕ) → List Row
 destination_rows earlier =
     required_row (codes "name") (name_once earlier)
@@ -29,6 +22,9 @@ destination_rows earlier =
     ∷ one_of exporters
     ∷ unread exporters
     ∷ []
+
+abbrev pub transport_rows : List Row
+transport_rows = drop 1 (destination_rows [])
 
 abbrev pub destination_faults : List (List ℕ) → List ℕ → Data → List FoundFault
 destination_faults earlier = object_faults (destination_rows earlier)

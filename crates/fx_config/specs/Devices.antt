@@ -1,5 +1,5 @@
 -- A device's configuration document (RFC 6728, section 6, in the JSON of RFC 7951).
-use Rattle.std.specs.Prelude.{ℕ, List, [], ◌∷◌, codes, map}
+use Rattle.std.specs.Prelude.{ℕ, List, [], ◌∷◌, codes, map, take, drop}
 use Rattle.serde_json.specs.Data.{Data}
 use Rattle.fx_walk.specs.Walk.{FoundFault, Row, object_faults, open_object_faults, required_row, then_check, member_of}
 use Rattle.fx_walk.specs.Lists.{entries, items_of}
@@ -39,22 +39,12 @@ ipfix_rows =
     ∷ then_check (λ up d. reference_faults up (lists_of d))
     ∷ []
 
--- the lists to whose entries others refer, and all lists
-abbrev pub referred_rows : List Row
-referred_rows =
-    entries 0 entry_limit (codes "selectionProcess") selection_process_faults (λ d. (selection_process_of d).name)
-    ∷ entries 0 entry_limit (codes "cache") cache_faults (λ d. (cache_of d).name)
-    ∷ entries 0 entry_limit (codes "exportingProcess") exporting_process_faults (λ d. (exporting_process_of d).name)
-    ∷ []
-
+-- all lists, and those to whose entries others refer
 abbrev pub list_rows : List Row
-list_rows =
-    entries 0 entry_limit (codes "observationPoint") observation_point_faults (λ d. (observation_point_of d).name)
-    ∷ entries 0 entry_limit (codes "selectionProcess") selection_process_faults (λ d. (selection_process_of d).name)
-    ∷ entries 0 entry_limit (codes "cache") cache_faults (λ d. (cache_of d).name)
-    ∷ entries 0 entry_limit (codes "exportingProcess") exporting_process_faults (λ d. (exporting_process_of d).name)
-    ∷ entries 0 entry_limit (codes "collectingProcess") collecting_process_faults (λ d. (collecting_process_of d).name)
-    ∷ []
+list_rows = take 5 ipfix_rows
+
+abbrev pub referred_rows : List Row
+referred_rows = take 3 (drop 1 list_rows)
 
 abbrev pub referred_of : Data → Referred
 referred_of d = record {

@@ -1,5 +1,5 @@
 -- Observation points (RFC 6728, section 4.1).
-use Rattle.std.specs.Prelude.{ℕ, List, [], ◌∷◌, codes, map, Option, Some, None, if◌then◌else◌}
+use Rattle.std.specs.Prelude.{ℕ, List, [], ◌∷◌, codes, map, Option, Some, None, if◌then◌else◌, take, drop}
 use Rattle.std.specs.Str.{bytes_eq}
 use Rattle.serde_json.specs.Data.{Data}
 use Rattle.serde_json.specs.Find.{get}
@@ -22,14 +22,6 @@ direction_named name =
 
 -- ---- observation points
 
--- what a point sees
-abbrev pub scope_rows : List Row
-scope_rows =
-    required_row (codes "observationDomainId") (whole_faults 0 0xffff_ffff)
-    ∷ entries 1 entry_limit (codes "ifName") name_once text_of
-    ∷ optional (codes "direction") (word_faults direction_named)
-    ∷ []
-
 abbrev pub scope_of : Data → Scope
 scope_of d = record {
   observation_domain_id = number_of (member_of (codes "observationDomainId") d);
@@ -45,6 +37,10 @@ observation_point_rows earlier =
     ∷ optional (codes "direction") (word_faults direction_named)
     ∷ entries 0 entry_limit (codes "selectionProcess") name_once text_of
     ∷ []
+
+-- what a point sees
+abbrev pub scope_rows : List Row
+scope_rows = take 3 (drop 1 (observation_point_rows []))
 
 abbrev pub observation_point_faults : List (List ℕ) → List ℕ → Data → List FoundFault
 observation_point_faults earlier = object_faults (observation_point_rows earlier)

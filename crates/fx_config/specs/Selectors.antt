@@ -1,5 +1,5 @@
 -- Selectors (RFC 6728, section 4.2.1).
-use Rattle.std.specs.Prelude.{ℕ, List, [], ◌∷◌, codes, Bool, true, false, not, Option, Some, None, option_map}
+use Rattle.std.specs.Prelude.{ℕ, List, [], ◌∷◌, codes, Bool, true, false, not, Option, Some, None, option_map, drop}
 use Rattle.serde_json.specs.Data.{Data, object, Members, no_members, member}
 use Rattle.serde_json.specs.Find.{get}
 use Rattle.fx_walk.specs.Walk.{FoundFault, Row, object_faults, required_row, optional, member_of, fault_if}
@@ -36,14 +36,6 @@ inexact =
     ∷ []
 
 -- exactly one method is given, and none of those
-abbrev pub method_rows : List Row
-method_rows =
-    none_of inexact
-    ∷ one_of (codes "selectAll" ∷ codes "filterMatch" ∷ [])
-    ∷ optional (codes "selectAll") all_faults
-    ∷ optional (codes "filterMatch") property_match_faults
-    ∷ []
-
 abbrev pub selector_rows : List (List ℕ) → List Row
 selector_rows earlier =
     required_row (codes "name") (name_once earlier)
@@ -52,6 +44,9 @@ selector_rows earlier =
     ∷ optional (codes "selectAll") all_faults
     ∷ optional (codes "filterMatch") property_match_faults
     ∷ []
+
+abbrev pub method_rows : List Row
+method_rows = drop 1 (selector_rows [])
 
 abbrev pub selector_faults : List (List ℕ) → List ℕ → Data → List FoundFault
 selector_faults earlier = object_faults (selector_rows earlier)

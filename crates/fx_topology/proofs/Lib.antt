@@ -1,3 +1,2 @@
 pub mod LinkByLink
 pub mod StartsFindLinks
-pub mod Chains

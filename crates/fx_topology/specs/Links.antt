@@ -1,5 +1,5 @@
 -- The links of a network document: which destination of which exporting process leads to which collecting process.
-use Rattle.std.specs.Prelude.{ℕ, ◌+◌, List, [], ◌∷◌, ◌++◌, Bool, ◌&&◌, not, false, codes, map, Option, Some, None, if◌then◌else◌}
+use Rattle.std.specs.Prelude.{ℕ, ◌+◌, List, [], ◌∷◌, ◌++◌, Bool, ◌&&◌, not, false, codes, map, Option, Some, None, if◌then◌else◌, take}
 use Rattle.std.specs.List.{list_any}
 use Rattle.std.specs.Str.{bytes_eq}
 use Rattle.serde_json.specs.Data.{Data}
@@ -58,16 +58,6 @@ starts_there earlier link = list_any (same_start link) earlier
 
 -- ---- faults
 
--- the names of a link
-abbrev pub name_rows : List Row
-name_rows =
-    required_row (codes "device") name_faults
-    ∷ required_row (codes "exportingProcess") name_faults
-    ∷ required_row (codes "destination") name_faults
-    ∷ required_row (codes "toDevice") name_faults
-    ∷ required_row (codes "toProcess") name_faults
-    ∷ []
-
 -- a link behind others: its members, its ends (201), a second link of one destination (202)
 abbrev pub link_rows : List NetworkDevice → List NamedLink → List Row
 link_rows devices earlier =
@@ -79,6 +69,10 @@ link_rows devices earlier =
     ∷ then_check (λ up d. fault_if (not (has_ends devices (link_of d))) unknown_link_end up)
     ∷ then_check (λ up d. fault_if (starts_there earlier (link_of d)) linked_twice up)
     ∷ []
+
+-- the names of a link
+abbrev pub name_rows : List Row
+name_rows = take 5 (link_rows [] [])
 
 abbrev pub link_faults : List NetworkDevice → List NamedLink → List ℕ → Data → List FoundFault
 link_faults devices earlier = object_faults (link_rows devices earlier)

@@ -1,5 +1,5 @@
 -- The report: the collecting process whose totals are asked for, and their key.
-use Rattle.std.specs.Prelude.{ℕ, List, [], ◌∷◌, Bool, not, codes, map, Option, Some, is_some, option_and_then}
+use Rattle.std.specs.Prelude.{ℕ, List, [], ◌∷◌, Bool, not, codes, map, Option, Some, is_some, option_and_then, take}
 use Rattle.serde_json.specs.Data.{Data}
 use Rattle.fx_layout.specs.Keys.{Layout}
 use Rattle.fx_walk.specs.Walk.{FoundFault, Row, object_faults, required_row, then_check, fault_if, member_of}
@@ -38,14 +38,6 @@ report_of d = record {
 abbrev pub has_place : List NetworkDevice → Report → Bool
 has_place devices report = has_collecting_process report.collecting_process (device_named devices report.device)
 
--- its members
-abbrev pub member_rows : List Row
-member_rows =
-    required_row (codes "device") name_faults
-    ∷ required_row (codes "collectingProcess") name_faults
-    ∷ required_items key_field_limit (codes "key") key_field_faults
-    ∷ []
-
 abbrev pub report_rows : List NetworkDevice → List Row
 report_rows devices =
     required_row (codes "device") name_faults
@@ -54,6 +46,10 @@ report_rows devices =
     ∷ then_check (λ up d. fault_if (not (has_place devices (report_of d))) unknown_report_process up)
     ∷ then_check (λ up d. fault_if (not (is_some (key_layout (report_of d).key))) report_key up)
     ∷ []
+
+-- its members
+abbrev pub member_rows : List Row
+member_rows = take 3 (report_rows [])
 
 abbrev pub report_faults : List NetworkDevice → List ℕ → Data → List FoundFault
 report_faults devices = object_faults (report_rows devices)

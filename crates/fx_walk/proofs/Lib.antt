@@ -7,3 +7,4 @@ pub mod Lists
 pub mod MemberLists
 pub mod Lookups
 pub mod Places
+pub mod RowFaults

@@ -1,5 +1,5 @@
 use Rattle.std.proofs.Common.{refl}
-use Rattle.fx_config.proofs.Chains.{none_more, skip}
+use Rattle.fx_walk.proofs.RowFaults.{none_more, skip}
 use Rattle.fx_walk.proofs.Faults.{exit, refuses_more}
 use Rattle.fx_config.proofs.cache.read_kind.Goals as goal
 

@@ -4,7 +4,7 @@ use Rattle.fx_walk.specs.Pointer.{pointer}
 use Rattle.fx_walk.proofs.Faults.{exit, refuses_more, is_some-option_map}
 use Rattle.fx_config.specs.CacheFields.{use_rows}
 use Rattle.fx_config.specs.GivenElements.{element_rows}
-use Rattle.fx_config.proofs.Chains.{from_rows, no_rows, none_more, rows_before, skip}
+use Rattle.fx_walk.proofs.RowFaults.{from_rows, no_rows, none_more, rows_before, skip}
 use Rattle.fx_config.proofs.cache_field.read_use.Goals as goal
 
 pub returns-in_err-given : goal.returns-in_err-given

@@ -3,7 +3,7 @@ use Rattle.serde_json.specs.View.{view}
 use Rattle.fx_walk.specs.Pointer.{pointer}
 use Rattle.fx_walk.proofs.Faults.{exit, refuses_more}
 use Rattle.fx_config.specs.Devices.{ipfix_rows, list_rows}
-use Rattle.fx_config.proofs.Chains.{from_rows, none_more, no_rows, rows_before, skip}
+use Rattle.fx_walk.proofs.RowFaults.{from_rows, none_more, no_rows, rows_before, skip}
 use Rattle.fx_config.proofs.ipfix.device_at.Goals as goal
 
 pub returns-in_err-device : goal.returns-in_err-device

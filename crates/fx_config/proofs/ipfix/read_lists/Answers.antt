@@ -3,7 +3,7 @@ use Rattle.serde_json.specs.View.{view}
 use Rattle.fx_walk.specs.Pointer.{pointer}
 use Rattle.fx_walk.proofs.Faults.{exit, refuses_more}
 use Rattle.fx_config.specs.Devices.{list_rows, referred_rows}
-use Rattle.fx_config.proofs.Chains.{from_rows, none_more, no_rows, rows_before, skip}
+use Rattle.fx_walk.proofs.RowFaults.{from_rows, none_more, no_rows, rows_before, skip}
 use Rattle.fx_config.proofs.ipfix.read_lists.Goals as goal
 
 pub returns-in_err-points : goal.returns-in_err-points

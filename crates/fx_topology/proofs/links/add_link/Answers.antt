@@ -3,7 +3,7 @@ use Rattle.serde_json.specs.View.{view}
 use Rattle.fx_walk.specs.Pointer.{pointer}
 use Rattle.fx_walk.proofs.Faults.{exit, refuses_more}
 use Rattle.fx_topology.specs.Links.{link_rows, name_rows}
-use Rattle.fx_topology.proofs.Chains.{from_rows, reads_behind, reads_last, reads_rows, rows_before, skip}
+use Rattle.fx_walk.proofs.RowFaults.{from_rows, reads_behind, reads_last, reads_rows, rows_before, skip}
 use Rattle.fx_topology.proofs.links.add_link.Goals as goal
 
 pub returns-in_err-object_of-clause-reads : goal.returns-in_err-object_of-clause-reads

@@ -3,7 +3,7 @@ use Rattle.serde_json.specs.View.{view}
 use Rattle.fx_walk.specs.Pointer.{pointer}
 use Rattle.fx_walk.proofs.Faults.{exit, refuses_more}
 use Rattle.fx_topology.specs.Reports.{member_rows, report_rows}
-use Rattle.fx_topology.proofs.Chains.{from_rows, none_more, no_rows, rows_before, skip}
+use Rattle.fx_walk.proofs.RowFaults.{from_rows, none_more, no_rows, rows_before, skip}
 use Rattle.fx_topology.proofs.report.report_at.Goals as goal
 
 pub returns-in_err-object_of : goal.returns-in_err-object_of

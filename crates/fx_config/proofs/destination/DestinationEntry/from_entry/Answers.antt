@@ -1,7 +1,7 @@
 use Rattle.std.proofs.Common.{refl}
 use Rattle.fx_walk.proofs.Faults.{exit}
 use Rattle.fx_config.specs.Destinations.{transport_rows}
-use Rattle.fx_config.proofs.Chains.{from_rows, no_rows}
+use Rattle.fx_walk.proofs.RowFaults.{from_rows, no_rows}
 use Rattle.fx_config.proofs.destination.DestinationEntry.from_entry.Goals as goal
 
 pub returns-in_err-name-clause-reads : goal.returns-in_err-name-clause-reads

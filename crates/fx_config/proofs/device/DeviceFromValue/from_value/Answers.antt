@@ -1,6 +1,6 @@
 use Rattle.std.proofs.Common.{refl}
 use Rattle.fx_config.specs.Devices.{device_rows, device_faults, device_of}
-use Rattle.fx_config.proofs.Chains.{from_rows, no_rows, none_more}
+use Rattle.fx_walk.proofs.RowFaults.{from_rows, no_rows, none_more}
 use Rattle.fx_walk.proofs.Faults.{exit, refuses_more}
 use Rattle.fx_config.proofs.device.DeviceFromValue.from_value.Goals as goal
 

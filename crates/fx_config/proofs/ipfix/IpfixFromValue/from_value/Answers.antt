@@ -1,7 +1,7 @@
 use Rattle.std.proofs.Common.{refl}
 use Rattle.fx_walk.proofs.Faults.{exit}
 use Rattle.fx_config.specs.Devices.{ipfix_rows}
-use Rattle.fx_config.proofs.Chains.{from_rows, no_rows}
+use Rattle.fx_walk.proofs.RowFaults.{from_rows, no_rows}
 use Rattle.fx_config.proofs.ipfix.IpfixFromValue.from_value.Goals as goal
 
 pub returns-in_err-object_of : goal.returns-in_err-object_of

@@ -3,7 +3,7 @@ use Rattle.serde_json.specs.View.{view}
 use Rattle.fx_walk.specs.Pointer.{pointer}
 use Rattle.fx_config.specs.GivenElements.{element_rows}
 use Rattle.fx_config.specs.KeyFields.{key_field_rows}
-use Rattle.fx_config.proofs.Chains.{from_rows, no_rows, none_more, rows_before, skip}
+use Rattle.fx_walk.proofs.RowFaults.{from_rows, no_rows, none_more, rows_before, skip}
 use Rattle.fx_walk.proofs.Faults.{exit, refuses_more}
 use Rattle.fx_config.proofs.key_field.KeyFieldFromValue.from_value.Goals as goal
 

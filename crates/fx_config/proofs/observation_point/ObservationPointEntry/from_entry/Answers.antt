@@ -3,7 +3,7 @@ use Rattle.serde_json.specs.View.{view}
 use Rattle.fx_walk.specs.Pointer.{pointer}
 use Rattle.fx_walk.proofs.Faults.{exit, refuses_more}
 use Rattle.fx_config.specs.ObservationPoints.{observation_point_rows, scope_rows}
-use Rattle.fx_config.proofs.Chains.{from_rows, no_rows, none_more, rows_before, skip}
+use Rattle.fx_walk.proofs.RowFaults.{from_rows, no_rows, none_more, rows_before, skip}
 use Rattle.fx_config.proofs.observation_point.ObservationPointEntry.from_entry.Goals as goal
 
 pub returns-in_err-name-clause-reads : goal.returns-in_err-name-clause-reads

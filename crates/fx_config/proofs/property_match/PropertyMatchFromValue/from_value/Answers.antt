@@ -3,7 +3,7 @@ use Rattle.serde_json.specs.View.{view}
 use Rattle.fx_walk.specs.Pointer.{pointer}
 use Rattle.fx_config.specs.GivenElements.{element_rows}
 use Rattle.fx_config.specs.PropertyMatches.{property_match_rows}
-use Rattle.fx_config.proofs.Chains.{from_rows, reads_behind, reads_last, reads_rows, rows_before, skip}
+use Rattle.fx_walk.proofs.RowFaults.{from_rows, reads_behind, reads_last, reads_rows, rows_before, skip}
 use Rattle.fx_walk.proofs.Faults.{exit, refuses_more}
 use Rattle.fx_config.proofs.property_match.PropertyMatchFromValue.from_value.Goals as goal
 

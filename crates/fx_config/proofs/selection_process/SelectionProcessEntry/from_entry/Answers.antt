@@ -1,6 +1,6 @@
 use Rattle.std.proofs.Common.{drop, refl}
 use Rattle.fx_config.specs.SelectionProcesses.{selection_process_rows}
-use Rattle.fx_config.proofs.Chains.{from_rows, no_rows, none_more, skip}
+use Rattle.fx_walk.proofs.RowFaults.{from_rows, no_rows, none_more, skip}
 use Rattle.fx_walk.proofs.Faults.{exit, refuses_more}
 use Rattle.fx_config.proofs.selection_process.SelectionProcessEntry.from_entry.Goals as goal
 

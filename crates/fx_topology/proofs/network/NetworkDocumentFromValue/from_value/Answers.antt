@@ -1,7 +1,7 @@
 use Rattle.std.proofs.Common.{refl}
 use Rattle.serde_json.specs.View.{view}
 use Rattle.fx_topology.specs.Networks.{network_rows, devices_of}
-use Rattle.fx_topology.proofs.Chains.{from_rows, no_rows, none_more, skip}
+use Rattle.fx_walk.proofs.RowFaults.{from_rows, no_rows, none_more, skip}
 use Rattle.fx_walk.proofs.Faults.{exit, refuses_more}
 use Rattle.fx_topology.proofs.network.NetworkDocumentFromValue.from_value.Goals as goal
 

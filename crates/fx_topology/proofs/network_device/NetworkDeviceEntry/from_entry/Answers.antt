@@ -1,6 +1,6 @@
 use Rattle.std.proofs.Common.{refl}
 use Rattle.fx_topology.specs.NetworkDevices.{network_device_rows}
-use Rattle.fx_topology.proofs.Chains.{from_rows, no_rows, none_more, skip}
+use Rattle.fx_walk.proofs.RowFaults.{from_rows, no_rows, none_more, skip}
 use Rattle.fx_walk.proofs.Faults.{exit, refuses_more}
 use Rattle.fx_topology.proofs.network_device.NetworkDeviceEntry.from_entry.Goals as goal
 
