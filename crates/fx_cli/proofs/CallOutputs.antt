@@ -14,12 +14,12 @@ use Rattle.fx_audit.specs.Documents.{BothMayHaveLeft}
 use Rattle.fx_audit.specs.Outputs.{AnswersWith, Prints}
 use Rattle.fx_audit.specs.declared.answer.Answer.{Answer}
 use Rattle.fx_cli.specs.Running.{EndsAs, EndsInWords, HasFailedInWords, HasFailedToWrite, IsCallText, IsTextWithin}
-use Rattle.fx_cli.specs.Words.{Names, NamesAudit, NamesFiles, NamesWith, IsLimit, IsLimitSet, file_names}
-use Rattle.fx_cli.specs.declared.words.Call.{Call}
-use Rattle.fx_cli.specs.declared.words.Call.TheVariants.{Audit, Check, Collect, Confirm, Draw, Explain, Lint, Replay, Run, Sum}
-use Rattle.fx_cli.proofs.CommandTable.{Kind, audit, check, collect, confirm, draw, explain, limit_name, lint, name_of, nameless, replay, run, sum}
-use Rattle.fx_cli.proofs.AcceptedWords.{behind, second}
-use Rattle.fx_cli.proofs.OptionNames.{option_alone}
+use Rattle.fx_command_line.specs.Words.{Names, NamesAudit, NamesFiles, NamesWith, IsLimit, IsLimitSet, file_names}
+use Rattle.fx_command_line.specs.declared.words.Call.{Call}
+use Rattle.fx_command_line.specs.declared.words.Call.TheVariants.{Audit, Check, Collect, Confirm, Draw, Explain, Lint, Replay, Run, Sum}
+use Rattle.fx_command_line.proofs.CommandTable.{Kind, audit, check, collect, confirm, draw, explain, limit_name, lint, name_of, nameless, replay, run, sum}
+use Rattle.fx_command_line.proofs.AcceptedWords.{behind, second}
+use Rattle.fx_command_line.proofs.OptionNames.{option_alone}
 
 -- the command of a call
 abbrev kind_of : Call → Kind

@@ -1,9 +1,9 @@
-pub mod CommandLine
+pub use Rattle.fx_command_line.specs.CommandLine
+pub use Rattle.fx_command_line.specs.Matches
+pub use Rattle.fx_command_line.specs.Words
 pub mod Drawing
 pub mod Ending
 pub mod Explaining
-pub mod Matches
 pub mod Running
 pub mod WordFlag
-pub mod Words
 pub mod WordsEnding

@@ -11,8 +11,8 @@ use Rattle.fx_audit.specs.Texts.{IsCheckText, IsCollectText, IsConfirmText, IsLi
 use Rattle.fx_cli.specs.Drawing.{IsDrawingText}
 use Rattle.fx_cli.specs.Explaining.{IsExplainText}
 use Rattle.fx_cli.specs.Ending.{refusal_line, refusal_status, status}
-use Rattle.fx_cli.specs.declared.words.Call.{Call}
-use Rattle.fx_cli.specs.declared.words.Call.TheVariants.{Audit, Check, Collect, Confirm, Draw, Explain, Lint, Replay, Run, Sum}
+use Rattle.fx_command_line.specs.declared.words.Call.{Call}
+use Rattle.fx_command_line.specs.declared.words.Call.TheVariants.{Audit, Check, Collect, Confirm, Draw, Explain, Lint, Replay, Run, Sum}
 
 -- an audit of what the two files may have held, with at most so many split and leaf lines, answers this and prints this text
 abbrev pub IsTextWithin : ℕ → Answer → List ℕ → Type 0

@@ -8,7 +8,7 @@ use Rattle.fx_base.specs.Fault.{fault_at}
 use Rattle.fx_base.specs.declared.fault.Place.TheVariants as places
 use Rattle.fx_base.specs.Refusals.{failed_read, want_of_memory}
 use Rattle.clap.specs.Words.{IsAmong, Text, fault_of}
-use Rattle.fx_cli.specs.CommandLine.{once_app}
+use Rattle.fx_command_line.specs.CommandLine.{once_app}
 use Rattle.fx_cli.specs.Ending.{refusal_line}
 
 -- 0 where help was asked for, 4 where memory ran out

@@ -2,7 +2,7 @@
 
 use crate::bundles::question_of_bundle;
 use crate::notes::Notes;
-use crate::words::Call;
+use fx_command_line::Call;
 
 /// Where the lines of a text are.
 #[derive(Clone, Copy, Drop)]

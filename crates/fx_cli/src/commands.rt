@@ -15,12 +15,12 @@ use crate::link_files::LinkFiles;
 use crate::notes::Notes;
 use crate::progress::{ToldSearch, ToldSource};
 use crate::seeds::seed_at_random;
-use crate::words::Call;
 use fx_audit::{
     Answer, audit_bytes, check_bytes, collect_bytes, confirm_bytes, lint_both_bytes, lint_bytes,
     replay_bytes, run_bytes, sum_bytes,
 };
 use fx_base::{Fault, LineReader, Outside, Sink, Source};
+use fx_command_line::Call;
 use fx_layout::Seed;
 use fx_link::Nowhere;
 use std::random::RandomSource;

@@ -3,8 +3,8 @@
 use crate::asked::{LinesAt, documents_of};
 use crate::notes::Notes;
 use crate::telling::Words;
-use crate::words::Call;
 use fx_base::{Fault, Place, put_text, refusals};
+use fx_command_line::Call;
 use std::fs;
 use std::rt::Files;
 

@@ -1,4 +1,4 @@
-//! The program's words, files and statuses.
+//! The program's files, answers and statuses.
 #![tactic(auto)]
 
 mod advice;
@@ -10,7 +10,6 @@ mod ending;
 mod explaining;
 mod file_words;
 mod files;
-mod help_text;
 mod kept;
 mod link_files;
 mod notes;
@@ -21,10 +20,9 @@ mod seeds;
 mod telling;
 mod text_again;
 mod word_flag;
-mod words;
 mod words_ending;
 
 pub use ending::finish;
+pub use fx_command_line::{Call, read_words};
 pub use running::run;
-pub use words::{Call, read_words};
 pub use words_ending::{finish_unread, finish_words};

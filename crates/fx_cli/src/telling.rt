@@ -5,9 +5,9 @@ use crate::bundles::put_bundle_words;
 use crate::file_words::{put_bundled_name, put_file_words, put_text_name};
 use crate::notes::Notes;
 use crate::reading_again::{file_again, lines_again, put_lines_not_again, put_not_again};
-use crate::words::Call;
 use fx_audit::{Answer, audit_bytes, check_bytes, confirm_bytes};
 use fx_base::{Fault, LineReader, Octets, Outside, Place, Source, put_text, refusals};
+use fx_command_line::Call;
 use fx_search::Unwatched;
 use fx_stories::{
     put_capture_words, put_certificate_words, put_collection_words, put_document_words,

@@ -10,8 +10,8 @@ use Rattle.clap.proofs.WalkLemmas.{bundle_ends}
 use Rattle.clap.proofs.FaultLemmas.{fault_ends}
 use Rattle.std.proofs.lemmas.Bool.{eqb-true}
 use Rattle.clap.specs.Lexer.{name_and_value, long_of, short_of}
-use Rattle.fx_cli.specs.Words.{is_double_hyphen, is_flag}
-use Rattle.fx_cli.specs.CommandLine.{once_app}
+use Rattle.fx_command_line.specs.Words.{is_double_hyphen, is_flag}
+use Rattle.fx_command_line.specs.CommandLine.{once_app}
 
 -- ---- lists of kinds
 

@@ -6,14 +6,14 @@ use Rattle.std.proofs.Math.Nat.{min-eq_left}
 use Rattle.clap.specs.Faults.{turn_fault, walk_fault}
 use Rattle.clap.specs.Lexer.{usize_max}
 use Rattle.clap.specs.Walk.{Row, Rule, Text, Walk, idle, is_pending, pushed, settled, to_positional, walked}
-use Rattle.fx_cli.specs.Words.{NamesWith, file_names, is_double_hyphen, is_flag}
-use Rattle.fx_cli.proofs.WordSteps.{more_named, names_at, next_fault, turn_of, value_walked, walk_at}
-use Rattle.fx_cli.proofs.SingleWords.{Fails, IsValueWord, bool_cases, held, plain_word, trailing_word}
-use Rattle.fx_cli.proofs.OptionNames.{file_named, named_double, named_file, nothing_named}
-use Rattle.fx_cli.proofs.OptionCommand.{IsCount, IsTaking, Taking, arguments, file_argument, file_by_index, place, stray_index, taking}
-use Rattle.fx_cli.proofs.OptionRows.{HoldsFirst, and_false, or_false}
-use Rattle.fx_cli.proofs.OptionSaid.{HoldsAtEnd, IsFine, Said, as_many, enough, file_said, final_rows, first_there, option_there, too_few, walk_of}
-use Rattle.fx_cli.proofs.OptionWalk.{fails_at, file_fault, kept_behind, outcome, outcome_behind, rows_kept, value_fault}
+use Rattle.fx_command_line.specs.Words.{NamesWith, file_names, is_double_hyphen, is_flag}
+use Rattle.fx_command_line.proofs.WordSteps.{more_named, names_at, next_fault, turn_of, value_walked, walk_at}
+use Rattle.fx_command_line.proofs.SingleWords.{Fails, IsValueWord, bool_cases, held, plain_word, trailing_word}
+use Rattle.fx_command_line.proofs.OptionNames.{file_named, named_double, named_file, nothing_named}
+use Rattle.fx_command_line.proofs.OptionCommand.{IsCount, IsTaking, Taking, arguments, file_argument, file_by_index, place, stray_index, taking}
+use Rattle.fx_command_line.proofs.OptionRows.{HoldsFirst, and_false, or_false}
+use Rattle.fx_command_line.proofs.OptionSaid.{HoldsAtEnd, IsFine, Said, as_many, enough, file_said, final_rows, first_there, option_there, too_few, walk_of}
+use Rattle.fx_command_line.proofs.OptionWalk.{fails_at, file_fault, kept_behind, outcome, outcome_behind, rows_kept, value_fault}
 
 -- ---- what the words behind it name
 

@@ -5,7 +5,7 @@ use Rattle.clap.specs.ValueTests.{accepts}
 use Rattle.clap.specs.Words.{Text}
 use Rattle.clap.specs.declared.builder.value_parser.ValueParser.TheVariants as parsers
 use Rattle.clap.proofs.ValueTestLemmas.{Accepts-accepts, accepts-Accepts}
-use Rattle.fx_cli.specs.Words.{IsLimit}
+use Rattle.fx_command_line.specs.Words.{IsLimit}
 
 abbrev pub is_limit : Text → Bool
 is_limit text = accepts false (parsers.Unsigned 1 1000000) text

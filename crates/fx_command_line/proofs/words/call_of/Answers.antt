@@ -1,8 +1,8 @@
 use Rattle.std.proofs.Common.{arith, refl}
 use Rattle.clap.specs.Words.{found_of}
-use Rattle.fx_cli.proofs.CommandTable.{audit, check, collect, confirm, draw, explain, lint, replay, run, sum}
-use Rattle.fx_cli.proofs.ParsedWords.{all_found, drawn_found, if_some, limit_found, names_call, network_found, ok_as, taken_replay, words_of}
-use Rattle.fx_cli.proofs.words.call_of.Goals as goal
+use Rattle.fx_command_line.proofs.CommandTable.{audit, check, collect, confirm, draw, explain, lint, replay, run, sum}
+use Rattle.fx_command_line.proofs.ParsedWords.{all_found, drawn_found, if_some, limit_found, names_call, network_found, ok_as, taken_replay, words_of}
+use Rattle.fx_command_line.proofs.words.call_of.Goals as goal
 
 -- ---- where the command is `collect`
 

@@ -6,9 +6,9 @@ use Rattle.std.specs.List.{position_or_len}
 use Rattle.std.proofs.lemmas.Bool.{eqb-true}
 use Rattle.clap.specs.Lexer.{has_byte, long_of, long_of_rest, name_and_value}
 use Rattle.clap.specs.Words.{Text}
-use Rattle.fx_cli.specs.Words.{NamesWith, NamesWithOption, SetsOption, file_names, is_double_hyphen, is_flag}
-use Rattle.fx_cli.proofs.WordSteps.{more_named}
-use Rattle.fx_cli.proofs.SingleWords.{bool_cases, first_char}
+use Rattle.fx_command_line.specs.Words.{NamesWith, NamesWithOption, SetsOption, file_names, is_double_hyphen, is_flag}
+use Rattle.fx_command_line.proofs.WordSteps.{more_named}
+use Rattle.fx_command_line.proofs.SingleWords.{bool_cases, first_char}
 
 -- ---- how a flag is written
 

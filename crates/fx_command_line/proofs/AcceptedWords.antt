@@ -10,15 +10,15 @@ use Rattle.clap.specs.Faults.{check_fault, entered_fault, defaults_fault, other_
 use Rattle.clap.proofs.WalkLemmas.{walk_stopped}
 use Rattle.clap.proofs.FaultLemmas.{stopped_fault}
 use Rattle.std.proofs.lemmas.Slice.Eq.{bytes_eq-Decides}
-use Rattle.fx_cli.specs.Words.{NamesWith, is_double_hyphen, is_flag}
-use Rattle.fx_cli.specs.CommandLine.{once_app}
-use Rattle.fx_cli.proofs.SingleWords.{Fails, fails_first, or_none, top, top_knows, bool_cases, plain_word, flag_word}
-use Rattle.fx_cli.proofs.CommandTable.{Kind, NoneOf, audit, check, collect, confirm, draw, explain, is_taking, kind_named, kinds, lint, name_of, named_kind, nameless, none_named, one_kind, replay, run, sum, taking_of}
-use Rattle.fx_cli.proofs.OptionCommand.{IsCount, Taking, arguments, taking}
-use Rattle.fx_cli.proofs.OptionRows.{HoldsFirst}
-use Rattle.fx_cli.proofs.OptionSaid.{HoldsAtEnd, IsFine}
-use Rattle.fx_cli.proofs.OptionWords.{OptionFails, decide_option}
-use Rattle.fx_cli.proofs.WordSteps.{command_fault}
+use Rattle.fx_command_line.specs.Words.{NamesWith, is_double_hyphen, is_flag}
+use Rattle.fx_command_line.specs.CommandLine.{once_app}
+use Rattle.fx_command_line.proofs.SingleWords.{Fails, fails_first, or_none, top, top_knows, bool_cases, plain_word, flag_word}
+use Rattle.fx_command_line.proofs.CommandTable.{Kind, NoneOf, audit, check, collect, confirm, draw, explain, is_taking, kind_named, kinds, lint, name_of, named_kind, nameless, none_named, one_kind, replay, run, sum, taking_of}
+use Rattle.fx_command_line.proofs.OptionCommand.{IsCount, Taking, arguments, taking}
+use Rattle.fx_command_line.proofs.OptionRows.{HoldsFirst}
+use Rattle.fx_command_line.proofs.OptionSaid.{HoldsAtEnd, IsFine}
+use Rattle.fx_command_line.proofs.OptionWords.{OptionFails, decide_option}
+use Rattle.fx_command_line.proofs.WordSteps.{command_fault}
 
 -- ---- the program's words
 

@@ -7,8 +7,8 @@ use Rattle.clap.specs.declared.builder.value_parser.Reading.{Reading}
 use Rattle.clap.specs.declared.builder.value_parser.Reading.TheVariants.{AsWritten}
 use Rattle.clap.specs.declared.parser.matches.ValueSource.{ValueSource}
 use Rattle.clap.specs.declared.parser.matches.ValueSource.TheVariants.{CommandLine}
-use Rattle.fx_cli.proofs.SingleWords.{bool_cases}
-use Rattle.fx_cli.proofs.OptionCommand.{Differs, same_text}
+use Rattle.fx_command_line.proofs.SingleWords.{bool_cases}
+use Rattle.fx_command_line.proofs.OptionCommand.{Differs, same_text}
 
 -- a row of texts that are read as they stand
 abbrev pub text_row : Text → ValueSource → List Text → Row

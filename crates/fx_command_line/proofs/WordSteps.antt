@@ -5,8 +5,8 @@ use Rattle.clap.specs.Simple.{Shape}
 use Rattle.clap.specs.Walk.{Held, Row, Step, Text, Walk, after_step, idle, nothing_held, value, walked, finished, settled}
 use Rattle.clap.specs.Kinds.{Kinds, or_else}
 use Rattle.clap.specs.Faults.{check_fault, defaults_fault, level_fault, settle_fault, turn_fault, step_fault}
-use Rattle.fx_cli.specs.Words.{file_names, is_double_hyphen}
-use Rattle.fx_cli.proofs.SingleWords.{held, IsValueWord}
+use Rattle.fx_command_line.specs.Words.{file_names, is_double_hyphen}
+use Rattle.fx_command_line.proofs.SingleWords.{held, IsValueWord}
 
 -- a walk that holds these, with no word awaited
 abbrev pub walk_at : List Row → Option (Text × List Text) → ℕ → Bool → Walk

@@ -10,15 +10,15 @@ use Rattle.clap.specs.Lexer.{long_of}
 use Rattle.clap.specs.ValueTests.{accepts}
 use Rattle.clap.specs.Values.{reading_of}
 use Rattle.clap.specs.Walk.{Held, Row, Rule, Step, Text, Walk, after_flag, after_step, arg_by_long, arg_by_short, idle, long_met, rows_after, used, walked, word_met}
-use Rattle.fx_cli.specs.Words.{NamesWith, file_names, is_double_hyphen, is_flag}
-use Rattle.fx_cli.proofs.WordSteps.{command_fault, double_fault, double_walk, walk_at}
-use Rattle.fx_cli.proofs.SingleWords.{Fails, bool_cases, fails_first, first_char, flag_form, held, long_fails, long_refused, short_fails, short_refused}
-use Rattle.fx_cli.proofs.OptionNames.{OptionFirst, long_written, named_flag, option_named}
-use Rattle.fx_cli.proofs.OptionCommand.{HasOption, IsCount, IsTaking, Taking, arguments, no_long, no_short, option_argument, option_by_id, option_by_long, others, place, taking}
-use Rattle.fx_cli.proofs.OptionRows.{Has, HoldsFirst, Lacks, finds_row, held_row, lacks_row, used_row}
-use Rattle.fx_cli.proofs.OptionSaid.{HoldsAtEnd, IsFine, Said, none_of, nothing_said, option_said, option_set, walk_of}
-use Rattle.fx_cli.proofs.OptionWalk.{Unsettled, awaited_double, awaited_end, awaited_flag, awaited_turn, awaited_walk, awaiting, doomed, fails_at, fails_behind, outcome, twice}
-use Rattle.fx_cli.proofs.OptionFiles.{AllJudged, Behind, Judged, JudgedBy, Named, behind, file_word, with_double, without_double, words_end}
+use Rattle.fx_command_line.specs.Words.{NamesWith, file_names, is_double_hyphen, is_flag}
+use Rattle.fx_command_line.proofs.WordSteps.{command_fault, double_fault, double_walk, walk_at}
+use Rattle.fx_command_line.proofs.SingleWords.{Fails, bool_cases, fails_first, first_char, flag_form, held, long_fails, long_refused, short_fails, short_refused}
+use Rattle.fx_command_line.proofs.OptionNames.{OptionFirst, long_written, named_flag, option_named}
+use Rattle.fx_command_line.proofs.OptionCommand.{HasOption, IsCount, IsTaking, Taking, arguments, no_long, no_short, option_argument, option_by_id, option_by_long, others, place, taking}
+use Rattle.fx_command_line.proofs.OptionRows.{Has, HoldsFirst, Lacks, finds_row, held_row, lacks_row, used_row}
+use Rattle.fx_command_line.proofs.OptionSaid.{HoldsAtEnd, IsFine, Said, none_of, nothing_said, option_said, option_set, walk_of}
+use Rattle.fx_command_line.proofs.OptionWalk.{Unsettled, awaited_double, awaited_end, awaited_flag, awaited_turn, awaited_walk, awaiting, doomed, fails_at, fails_behind, outcome, twice}
+use Rattle.fx_command_line.proofs.OptionFiles.{AllJudged, Behind, Judged, JudgedBy, Named, behind, file_word, with_double, without_double, words_end}
 
 -- ---- flags
 

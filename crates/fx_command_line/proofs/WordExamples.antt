@@ -4,9 +4,9 @@ use Rattle.std.specs.Str.{chars}
 use Rattle.clap.specs.Faults.{fault_of}
 use Rattle.clap.specs.declared.error.kind.ErrorKind.TheVariants.{ArgumentConflict, DisplayHelp, DisplayVersion, InvalidValue, ValueValidation, MissingRequiredArgument, MissingSubcommand, InvalidSubcommand, UnknownArgument}
 use Rattle.clap.proofs.OnLiterals.{clap_on_literals}
-use Rattle.fx_cli.specs.CommandLine.{once_app}
-use Rattle.fx_cli.specs.Words.{IsLimitSet, NamesWith, file_names}
-use Rattle.fx_cli.proofs.LimitWords.{limit_read}
+use Rattle.fx_command_line.specs.CommandLine.{once_app}
+use Rattle.fx_command_line.specs.Words.{IsLimitSet, NamesWith, file_names}
+use Rattle.fx_command_line.proofs.LimitWords.{limit_read}
 
 three_files_are_named : file_names (codes "net.json" ∷ codes "-" ∷ codes "run" ∷ []) ≡ Some (codes "net.json" ∷ codes "-" ∷ codes "run" ∷ [])
 unfolding chars

@@ -4,9 +4,9 @@ ghost use Rattle.clap.specs.Simple.{on_top};
 ghost use Rattle.clap.specs.Words.{app_of, fault_of, found_of, HasKind, kind_of, new_app, new_rule, rule_of, Text, with_rule};
 ghost use Rattle.clap.specs.declared.builder.command.Command.{Command};
 ghost use Rattle.clap.specs.declared.builder.command.Command.TheViews.{out-Command};
-ghost use Rattle.fx_cli.specs.CommandLine.{AreMatchesOf, file_rule, limit_rule, links_rule, once_app, network_alone, number_alone, over_capture, over_documents, over_network, wants_command};
-ghost use Rattle.fx_cli.specs.Matches.{HoldsFile, HoldsLimit, HoldsOption, IsAuditOf, IsCheckOf, IsCollectOf, IsConfirmOf, IsDrawOf, HasFile, IsExplainOf, IsLintOf, IsReplayOf, IsRunCall, IsSumOf};
-ghost use Rattle.fx_cli.specs.Words.{Names, NamesNoCall};
+ghost use Rattle.fx_command_line.specs.CommandLine.{AreMatchesOf, file_rule, limit_rule, links_rule, once_app, network_alone, number_alone, over_capture, over_documents, over_network, wants_command};
+ghost use Rattle.fx_command_line.specs.Matches.{HoldsFile, HoldsLimit, HoldsOption, IsAuditOf, IsCheckOf, IsCollectOf, IsConfirmOf, IsDrawOf, HasFile, IsExplainOf, IsLintOf, IsReplayOf, IsRunCall, IsSumOf};
+ghost use Rattle.fx_command_line.specs.Words.{Names, NamesNoCall};
 
 use crate::help_text;
 use clap::error::ErrorKind;

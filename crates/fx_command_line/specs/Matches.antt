@@ -2,9 +2,9 @@
 use Rattle.std.specs.Prelude.{◌≡◌, ℕ, IsSome, Option, Some, codes, option_map, string_bytes}
 use Rattle.clap.specs.Words.{Text, first_value, one_text}
 use Rattle.clap.specs.declared.parser.matches.Found.{Found}
-use Rattle.fx_cli.specs.Words.{IsLimit}
-use Rattle.fx_cli.specs.declared.words.Call.{Call}
-use Rattle.fx_cli.specs.declared.words.Call.TheVariants.{Audit, Check, Collect, Confirm, Draw, Explain, Lint, Replay, Run, Sum}
+use Rattle.fx_command_line.specs.Words.{IsLimit}
+use Rattle.fx_command_line.specs.declared.words.Call.{Call}
+use Rattle.fx_command_line.specs.declared.words.Call.TheVariants.{Audit, Check, Collect, Confirm, Draw, Explain, Lint, Replay, Run, Sum}
 
 -- there is a value under this name
 abbrev pub HasFile : Found → Text → Type 0

@@ -18,19 +18,19 @@ use Rattle.clap.specs.declared.error.Error.{Error}
 use Rattle.clap.specs.declared.error.kind.ErrorKind.TheVariants.{OutOfMemory}
 use Rattle.std.specs.Prelude.{Box, IfErr, IfOk, IfSome, IsSome, Result, Ok, Err, MatchResult, IsErrAnd, string_bytes}
 use Rattle.std.specs.Box.{box_value}
-use Rattle.fx_cli.specs.declared.words.Call.{Call}
-use Rattle.fx_cli.specs.declared.words.Call.TheVariants.{Audit, Check, Collect, Confirm, Draw, Explain, Lint, Replay, Run, Sum}
+use Rattle.fx_command_line.specs.declared.words.Call.{Call}
+use Rattle.fx_command_line.specs.declared.words.Call.TheVariants.{Audit, Check, Collect, Confirm, Draw, Explain, Lint, Replay, Run, Sum}
 use Rattle.clap.proofs.WalkLemmas.{first_value-rows, one_text-rows}
-use Rattle.fx_cli.specs.Words.{IsLimitSet, Names, NamesDrawing, NamesFiles, file_given, NamesNoCall, NamesWith}
-use Rattle.fx_cli.specs.CommandLine.{AreMatchesOf, file_rule, limit_rule, links_rule, number_alone, once_app, over_capture, over_documents, over_network, wants_command}
-use Rattle.fx_cli.specs.Matches.{HoldsFile, HoldsLimit, HasFile, IsAuditOf, IsCheckOf, IsCollectOf, IsConfirmOf, IsDrawOf, IsExplainOf, IsLintOf, IsReplayOf, IsRunCall, IsSumOf}
-use Rattle.fx_cli.proofs.SingleWords.{Fails}
-use Rattle.fx_cli.proofs.AcceptedWords.{NamesBy, Refuses, Takes, decide_words}
-use Rattle.fx_cli.proofs.CommandTable.{Kind, audit, check, collect, confirm, draw, explain, lint, name_of, one_kind, replay, run, sum, taking_of}
-use Rattle.fx_cli.proofs.LimitWords.{limit_read, limit_taken}
-use Rattle.fx_cli.proofs.OptionCommand.{IsCount, Taking, files_alone, some_files}
-use Rattle.fx_cli.proofs.OptionRows.{HasAll, HoldsFirst, Lacks, all_first, first_held, one_held}
-use Rattle.fx_cli.proofs.OptionSaid.{HoldsAtEnd, IsFine}
+use Rattle.fx_command_line.specs.Words.{IsLimitSet, Names, NamesDrawing, NamesFiles, file_given, NamesNoCall, NamesWith}
+use Rattle.fx_command_line.specs.CommandLine.{AreMatchesOf, file_rule, limit_rule, links_rule, number_alone, once_app, over_capture, over_documents, over_network, wants_command}
+use Rattle.fx_command_line.specs.Matches.{HoldsFile, HoldsLimit, HasFile, IsAuditOf, IsCheckOf, IsCollectOf, IsConfirmOf, IsDrawOf, IsExplainOf, IsLintOf, IsReplayOf, IsRunCall, IsSumOf}
+use Rattle.fx_command_line.proofs.SingleWords.{Fails}
+use Rattle.fx_command_line.proofs.AcceptedWords.{NamesBy, Refuses, Takes, decide_words}
+use Rattle.fx_command_line.proofs.CommandTable.{Kind, audit, check, collect, confirm, draw, explain, lint, name_of, one_kind, replay, run, sum, taking_of}
+use Rattle.fx_command_line.proofs.LimitWords.{limit_read, limit_taken}
+use Rattle.fx_command_line.proofs.OptionCommand.{IsCount, Taking, files_alone, some_files}
+use Rattle.fx_command_line.proofs.OptionRows.{HasAll, HoldsFirst, Lacks, all_first, first_held, one_held}
+use Rattle.fx_command_line.proofs.OptionSaid.{HoldsAtEnd, IsFine}
 
 -- ---- what a parse gives
 

@@ -12,8 +12,8 @@ use Rattle.clap.specs.Walk.{Rule, Text, arg_by_id, arg_by_index, arg_by_long, ar
 use Rattle.clap.specs.declared.builder.value_parser.Reading.TheVariants.{AsWritten}
 use Rattle.clap.specs.declared.builder.value_parser.ValueParser.{ValueParser}
 use Rattle.clap.specs.declared.builder.value_parser.ValueParser.TheVariants as parsers
-use Rattle.fx_cli.proofs.SingleWords.{bool_cases, help}
-use Rattle.fx_cli.proofs.OptionNames.{IsName}
+use Rattle.fx_command_line.proofs.SingleWords.{bool_cases, help}
+use Rattle.fx_command_line.proofs.OptionNames.{IsName}
 
 -- ---- the command
 

@@ -8,11 +8,11 @@ use Rattle.clap.specs.Faults.{check_fault, defaults_fault, long_fault, option_fa
 use Rattle.clap.specs.Walk.{after_step, Held, Row, Rule, Step, Text, Waiting, Walk, arg_by_long, arg_by_short, attached_value, finished, idle, is_pending, next, option, option_word, plain, plain_word as plain_step, reacted, settled, takes_values, value, walked, word_met}
 use Rattle.clap.proofs.FaultLemmas.{fault_ends}
 use Rattle.clap.proofs.WalkLemmas.{bundle_ends}
-use Rattle.fx_cli.specs.Words.{is_double_hyphen, is_flag}
-use Rattle.fx_cli.proofs.WordSteps.{at_end, double_fault, double_walk, turn_of, walk_at}
-use Rattle.fx_cli.proofs.SingleWords.{Fails, IsNoFlag, bool_cases, fails_first, flag_form, held, long_refused, plain_form, plain_word, short_refused}
-use Rattle.fx_cli.proofs.OptionCommand.{HasOption, Taking, arguments, file_argument, option_argument, option_by_id, same_text as same_name, file_or_none, taking}
-use Rattle.fx_cli.proofs.OptionRows.{and_false}
+use Rattle.fx_command_line.specs.Words.{is_double_hyphen, is_flag}
+use Rattle.fx_command_line.proofs.WordSteps.{at_end, double_fault, double_walk, turn_of, walk_at}
+use Rattle.fx_command_line.proofs.SingleWords.{Fails, IsNoFlag, bool_cases, fails_first, flag_form, held, long_refused, plain_form, plain_word, short_refused}
+use Rattle.fx_command_line.proofs.OptionCommand.{HasOption, Taking, arguments, file_argument, option_argument, option_by_id, same_text as same_name, file_or_none, taking}
+use Rattle.fx_command_line.proofs.OptionRows.{and_false}
 
 -- ---- the whole of the command, from where a walk stands
 

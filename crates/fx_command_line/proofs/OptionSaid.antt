@@ -16,10 +16,10 @@ use Rattle.clap.specs.declared.builder.value_parser.Reading.{Reading}
 use Rattle.clap.specs.declared.builder.value_parser.Reading.TheVariants.{AsWritten}
 use Rattle.clap.specs.declared.builder.value_parser.ValueParser.TheVariants as parsers
 use Rattle.clap.specs.declared.parser.matches.ValueSource.TheVariants.{DefaultValue}
-use Rattle.fx_cli.proofs.WordSteps.{at_end, walk_at}
-use Rattle.fx_cli.proofs.SingleWords.{Fails, bool_cases, help, held}
-use Rattle.fx_cli.proofs.OptionCommand.{Differs, IsTaking, Taking, apart_behind, apart_files, arguments, file_argument, file_arguments, file_by_id, from_option, differ_back, option_argument, option_by_id, others, place, taking}
-use Rattle.fx_cli.proofs.OptionRows.{Has, HasAll, HasText, HoldsFirst, Lacks, LacksAll, all_still, and_false, cond_same, finds_row, first_of_all, found_before, found_behind, has_new, held_row, lacks_row, lacks_still, new_row, none_still, one_more, or_true, row_at, text_row, text_still, used_row}
+use Rattle.fx_command_line.proofs.WordSteps.{at_end, walk_at}
+use Rattle.fx_command_line.proofs.SingleWords.{Fails, bool_cases, help, held}
+use Rattle.fx_command_line.proofs.OptionCommand.{Differs, IsTaking, Taking, apart_behind, apart_files, arguments, file_argument, file_arguments, file_by_id, from_option, differ_back, option_argument, option_by_id, others, place, taking}
+use Rattle.fx_command_line.proofs.OptionRows.{Has, HasAll, HasText, HoldsFirst, Lacks, LacksAll, all_still, and_false, cond_same, finds_row, first_of_all, found_before, found_behind, has_new, held_row, lacks_row, lacks_still, new_row, none_still, one_more, or_true, row_at, text_row, text_still, used_row}
 
 -- ---- what words have said
 

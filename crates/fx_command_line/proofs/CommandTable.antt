@@ -5,9 +5,9 @@ use Rattle.std.specs.Str.{bytes_eq}
 use Rattle.std.proofs.lemmas.Slice.Eq.{bytes_eq-Decides}
 use Rattle.clap.specs.Words.{Text}
 use Rattle.clap.specs.declared.builder.value_parser.ValueParser.TheVariants as parsers
-use Rattle.fx_cli.proofs.SingleWords.{bool_cases}
-use Rattle.fx_cli.proofs.OptionNames.{IsName}
-use Rattle.fx_cli.proofs.OptionCommand.{IsTaking, Taking, files_alone, some_files, takes_files_alone, takes_some_files}
+use Rattle.fx_command_line.proofs.SingleWords.{bool_cases}
+use Rattle.fx_command_line.proofs.OptionNames.{IsName}
+use Rattle.fx_command_line.proofs.OptionCommand.{IsTaking, Taking, files_alone, some_files, takes_files_alone, takes_some_files}
 
 pub data Kind : Type 0 where
   replay : Kind

@@ -1,6 +1,6 @@
 use Rattle.std.proofs.Common.{map, string_bytes}
-use Rattle.fx_cli.proofs.ParsedWords.{are_matches, its_kind, passed_kinds, passed_on, refused}
-use Rattle.fx_cli.proofs.words.read_words.Goals as goal
+use Rattle.fx_command_line.proofs.ParsedWords.{are_matches, its_kind, passed_kinds, passed_on, refused}
+use Rattle.fx_command_line.proofs.words.read_words.Goals as goal
 
 pub returns-in_err-matches-clause-call : goal.returns-in_err-matches-clause-call
 returns-in_err-matches-clause-call c =
