@@ -20,11 +20,26 @@ part_next text d n fits =
     let room : n ≤ length text - d = omega (arith, fits, length-take (length text - d) (drop d text)) in
     rw (take-take n (length text - d) (drop d text) room) (sym (take-add d n text))
 
--- a text is written, and then another
-pub puts_both : {E : Type 0} (a b c : Option (List ℕ)) (xs ys : List ℕ) (result : Result Unit E) → Writes a b xs → OnOk result (Writes b c ys) → OnOk result (Writes a c (xs ++ ys))
-puts_both a b c xs ys (Ok _) h k = writes_both a b c xs ys (xs ++ ys) h k refl
-puts_both a b c xs ys (Err _) h k = tt
+-- ---- writes, one after another
 
-pub goes_on : {E : Type 0} (f g h : Bool) (result : Result Unit E) → KeepsGoing f g → OnOk result (KeepsGoing g h) → OnOk result (KeepsGoing f h)
-goes_on f g h (Ok _) first next = λ going. next (first going)
-goes_on f g h (Err _) first next = tt
+pub writes_2 : {A E : Type 0} (r : Result A E) (t u v : Option (List ℕ)) (a b all : List ℕ) → Writes t u a → OnOk r (Writes u v b) → all ≡ a ++ b → OnOk r (Writes t v all)
+writes_2 (Ok x) t u v a b all h k e = writes_both t u v a b all h k (sym e)
+writes_2 (Err x) t u v a b all h k e = tt
+
+pub writes_3 : {A E : Type 0} (r : Result A E) (t u v w : Option (List ℕ)) (a b c all : List ℕ) → Writes t u a → Writes u v b → OnOk r (Writes v w c) → all ≡ a ++ (b ++ c) → OnOk r (Writes t w all)
+writes_3 r t u v w a b c all h k l e = writes_2 r t u w a (b ++ c) all h (writes_2 r u v w b c (b ++ c) k l refl) e
+
+pub writes_4 : {A E : Type 0} (r : Result A E) (t u v w x : Option (List ℕ)) (a b c d all : List ℕ) → Writes t u a → Writes u v b → Writes v w c → OnOk r (Writes w x d) → all ≡ a ++ (b ++ (c ++ d)) → OnOk r (Writes t x all)
+writes_4 r t u v w x a b c d all h k l m e =
+    writes_2 r t u x a (b ++ (c ++ d)) all h (writes_2 r u v x b (c ++ d) (b ++ (c ++ d)) k (writes_2 r v w x c d (c ++ d) l m refl) refl) e
+
+pub writes_5 : {A E : Type 0} (r : Result A E) (t u v w x y : Option (List ℕ)) (a b c d f all : List ℕ) → Writes t u a → Writes u v b → Writes v w c → Writes w x d → OnOk r (Writes x y f) → all ≡ a ++ (b ++ (c ++ (d ++ f))) → OnOk r (Writes t y all)
+writes_5 r t u v w x y a b c d f all h k l m n e =
+    writes_2 r t u y a (b ++ (c ++ (d ++ f))) all h (writes_4 r u v w x y b c d f (b ++ (c ++ (d ++ f))) k l m n refl) e
+
+pub writes_then : {A E : Type 0} (r : Result A E) (t u v : Option (List ℕ)) (a b : List ℕ) → Writes t u a → OnOk r (Writes u v b) → OnOk r (Writes t v (a ++ b))
+writes_then r t u v a b h k = writes_2 r t u v a b (a ++ b) h k refl
+
+pub going_then : {A E : Type 0} (r : Result A E) (f g h : Bool) → KeepsGoing f g → OnOk r (KeepsGoing g h) → OnOk r (KeepsGoing f h)
+going_then (Ok _) f g h first next = λ going. next (first going)
+going_then (Err _) f g h first next = tt

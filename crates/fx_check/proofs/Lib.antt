@@ -8,3 +8,4 @@ pub mod AcceptedCertificates
 pub mod PlanAndTraffic
 pub mod Numbers
 pub mod JoinedCertificates
+pub mod BetweenTrees

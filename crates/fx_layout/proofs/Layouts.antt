@@ -1,7 +1,6 @@
 -- What a layout keeps, and how a part more leaves it so.
 use Rattle.std.proofs.Common.{◌≡◌, ◌≢◌, ℕ, suc, ◌+◌, ◌-◌, ◌*◌, ◌/◌, ◌^◌, ◌<◌, ◌≤◌, Bool, true, false, cond, ◌||◌, not, ◌==◌, nat_le, nat_lt, List, [], ◌∷◌, length, map, take, Option, Some, None, refl, sym, ap, ◌∙◌, subst, arith, leb-true, le-leb, ltb-true, eqb-true, inl, inr, ◌⊎◌, pow-add}
-use Rattle.std.specs.List.{list_all, position, position_or_len, insert}
-use Rattle.std.proofs.lemmas.List.Sums.{prefix_len-le-length}
+use Rattle.std.specs.List.{list_all, position_or_len, insert}
 use Rattle.std.proofs.lemmas.Nat.{pow_pos}
 use Rattle.std.proofs.lemmas.List.{length-map, length-take-le, take_all}
 use Rattle.std.proofs.Math.Nat.{div-lt_iff_lt-mul, pow-le-pow_right}
@@ -185,13 +184,3 @@ stays_layout layout new h s none = record {
   stands = with_part_stands layout new h.stands s;
   ascends = with_part_ascends 0 layout new (omega arith) h.ascends none;
 }
-
--- ---- where no part is later
-
-pub none_passes : {X : Type 0} (p : X → Bool) (xs : List X) → position p xs ≡ None → length xs ≡ position_or_len p xs
-none_passes p xs h =
-    let most = prefix_len-le-length (λ x. not (p x)) xs in
-    elim (nat_lt (position_or_len p xs) (length xs)) as (λ t. nat_lt (position_or_len p xs) (length xs) ≡ t → cond t (Some (position_or_len p xs)) None ≡ None → length xs ≡ position_or_len p xs) [
-      | true ↦ λ e k. absurd (cc)
-      | false ↦ λ e k. let least : length xs ≤ position_or_len p xs = grind (arith, e) in omega arith
-    ] refl h

@@ -1,3 +1,4 @@
+pub mod PartByPart
 pub mod Projections
 pub mod Words
 pub mod Layouts

@@ -1,6 +1,6 @@
 //! Which leading bits of which axes make a key.
 ghost use Rattle.std.specs.Prelude.{◌≡◌, ℕ, ◌-◌, ◌/◌, ◌^◌, ◌<◌, ◌≤◌, ◌&&◌, not, Bool, true, false, List, [], IsSome, IfSome, is_some, length, nat_lt};
-ghost use Rattle.std.specs.List.{position, position_or_len};
+ghost use Rattle.std.specs.List.{position_or_len};
 ghost use Rattle.fx_layout.specs.Keys as keys;
 ghost use Rattle.fx_elements.specs.Axes as axes;
 
@@ -58,26 +58,18 @@ fn parts_read(parts: &[Part], axis: Axis, bits: u32) -> bool
     }
 }
 
-/// The place of the first part of a later axis.
-fn later_part(parts: &[Part], axis: Axis) -> Option<usize>
-    ensures { result ≡ position (λ part. nat_lt (axes.axis_index axis) (axes.axis_index part.axis))
-        parts.now }
-{
-    parts
-        .iter()
-        .position(|part| axis.index() < part.axis.index())
-}
-
 /// The place of the first part of a later axis, or behind all parts.
 fn place_for(parts: &[Part], axis: Axis) -> usize
     ensures bound { result ≤ length parts.now }
     ensures place { result ≡ position_or_len
         (λ part. nat_lt (axes.axis_index axis) (axes.axis_index part.axis)) parts.now }
 {
-    match later_part(parts, axis) {
-        Some(place) => place,
-        None => parts.len(),
+    for (place, part) in parts.iter().enumerate() {
+        if axis.index() < part.axis.index() {
+            return place;
+        }
     }
+    parts.len()
 }
 
 /// These parts take the place of the others.
@@ -137,11 +129,12 @@ impl Layout {
         ensures { result ≡ keys.refines self.now other.now }
     {
         let parts = self.parts.as_slice();
-        other
-            .parts
-            .as_slice()
-            .iter()
-            .all(|part| parts_read(parts, part.axis, part.bits))
+        for part in other.parts.as_slice() {
+            if !parts_read(parts, part.axis, part.bits) {
+                return false;
+            }
+        }
+        true
     }
 
     /// Whether the two layouts are the same.
@@ -156,9 +149,7 @@ impl Layout {
         ensures { result ≡ self.now }
     {
         let mut parts: ArrayVec<Part, AXES> = ArrayVec::new();
-        for part in self.parts.as_slice() {
-            parts.push(*part);
-        }
+        copy_parts(&mut parts, self.parts.as_slice());
         Layout { parts }
     }
 

@@ -13,7 +13,12 @@ fn any_leads(linked: &LinkedProcesses<'_>, process: usize, places: &[usize]) -> 
     ensures { result ≡ list_any (λ place. feeding.leads_at linked.now process
         (slice_get linked.now.exporters place)) places.now }
 {
-    places.iter().any(|place| linked.leads_at(process, *place))
+    for place in places {
+        if linked.leads_at(process, *place) {
+            return true;
+        }
+    }
+    false
 }
 
 /// Whether one of the exporting processes at these places has a destination that is linked to the process.
@@ -51,7 +56,12 @@ fn any_aggregation_leads(
         (machine.exporters_of linked.now (slice_get linked.now.holders a.holder)))
         aggregations.now }
 {
-    aggregations.iter().any(|aggregation| aggregation_leads(linked, process, aggregation))
+    for aggregation in aggregations {
+        if aggregation_leads(linked, process, aggregation) {
+            return true;
+        }
+    }
+    false
 }
 
 /// Whether what a process sends, or one of its aggregations, can be carried to another.

@@ -1,14 +1,12 @@
 -- The text of a refutation is read as that refutation, and no other text is.
-use Rattle.std.proofs.Common.{◌≡◌, inl, inr, ℕ, suc, ◌+◌, ◌≤◌, ◌<◌, ◌&&◌, Bool, true, false, eqb, not, List, [], ◌∷◌, ◌++◌, map, take, slice_get, zero, length, length-append, Some, None, Option, Result, Ok, Err, OnOk, refl, ap, ap₂, sym, ◌∙◌, subst, arith, le-ltb, lt-ltb, append_assoc}
+use Rattle.std.proofs.Common.{◌≡◌, inl, inr, ℕ, suc, ◌+◌, ◌≤◌, ◌<◌, ◌&&◌, Bool, true, false, eqb, not, List, [], ◌∷◌, ◌++◌, map, take, slice_get, zero, length, length-append, Some, None, Option, Result, Ok, Err, refl, ap, ap₂, sym, ◌∙◌, subst, arith, le-ltb, lt-ltb, append_assoc}
 use Rattle.std.specs.Prelude.{codes, nat_lt}
 use Rattle.std.specs.List.{AllByRecursion, join_with_byte}
 use Rattle.std.specs.Str.{bytes_eq}
 use Rattle.std.proofs.lemmas.Bool.{cases_lt, eqb-false}
 use Rattle.std.proofs.lemmas.List.{append-nil}
 use Rattle.std.proofs.lemmas.Slice.Eq.{bytes_eq-Decides}
-use Rattle.fx_base.specs.Device.{Writes}
 use Rattle.fx_base.specs.Lines.{next_number, text_lines}
-use Rattle.fx_base.proofs.Writing.{writes_both}
 use Rattle.fx_elements.proofs.Cuts.{chosen}
 use Rattle.fx_elements.proofs.Numbers.{both}
 use Rattle.fx_tables.specs.declared.packet.Packet.{Packet}
@@ -25,16 +23,6 @@ use Rattle.fx_run_text.specs.RunText.{AreShort, IsStep, last_words, lines_text, 
 use Rattle.fx_refute.specs.RefutationReading.{end_of_lines, line_or_fault, from_packet, from_step, line_said, only, packet_behind, refutation_in, steps_behind, with_step}
 use Rattle.fx_refute.specs.RefutationText.{IsRefutation, first_words, refutation_lines, refutation_text, steps_text}
 use Rattle.fx_refute.specs.Refutations.{Refutation}
-
--- ---- writes, one after another
-
-writes_2 : {A E : Type 0} (r : Result A E) (t u v : Option (List ℕ)) (a b all : List ℕ) → Writes t u a → OnOk r (Writes u v b) → all ≡ a ++ b → OnOk r (Writes t v all)
-writes_2 (Ok x) t u v a b all h k e = writes_both t u v a b all h k (sym e)
-writes_2 (Err x) t u v a b all h k e = tt
-
-pub writes_4 : {A E : Type 0} (r : Result A E) (t u v w x : Option (List ℕ)) (a b c d all : List ℕ) → Writes t u a → Writes u v b → Writes v w c → OnOk r (Writes w x d) → all ≡ a ++ (b ++ (c ++ d)) → OnOk r (Writes t x all)
-writes_4 r t u v w x a b c d all h k l m e =
-    writes_2 r t u x a (b ++ (c ++ d)) all h (writes_2 r u v x b (c ++ d) (b ++ (c ++ d)) k (writes_2 r v w x c d (c ++ d) l m refl) refl) e
 
 -- ---- the texts of steps
 

@@ -118,6 +118,43 @@ fn agree(ran: &Totals, plain: &Totals, key: &Key) -> bool
     ran.unassigned() == 0 && ran.len() == plain.len() && ran.get(key) == plain.get(key)
 }
 
+/// Whether the run of a refutation's packet alone, in the state that opens it, refutes. The state is lent, so that no
+/// way out of here lets it go.
+fn confirm_run(
+    alloc: Global,
+    state: &mut State<'_>,
+    net: &Net,
+    classes: &Classes,
+    refutation: &Refutation,
+) -> Result<(Totals, Totals), Fault>
+    requires opening { state.old ≡ record {
+      net = net.now;
+      classes = classes.now;
+      packets = refutation.now.packet ∷ [];
+      state = states.opening net.now classes.now (refutation.now.packet ∷ []);
+    } }
+    requires of_class { traffic.IsOf refutation.now.packet
+        (network.entry_numbered classes.now refutation.now.packet.class) }
+    ensures refutes { OnOk result (refutations.Refutes net.now classes.now refutation.now) }
+    ensures totals { IfOk result (λ t.
+        refutations.AreTotals net.now classes.now refutation.now t.0 t.1) }
+    ensures err { IfErr result (λ e. IsMemory e
+        ⊎ refutations.IsNoRefutation net.now classes.now refutation.now e) }
+{
+    make_steps(state, refutation.steps())?;
+    if !state.complete() {
+        return Err(Fault::bare(refusals::RUN_NOT_COMPLETE));
+    }
+    let layout = net.report_layout();
+    let packet = refutation.packet();
+    let ran = Totals::of(alloc, of_one_key(), state)?;
+    let plain = plain_sums(alloc, net, classes, packet)?;
+    if agree(&ran, &plain, &layout.key_of(&packet.fields)) {
+        return Err(Fault::bare(refusals::TOTALS_AGREE));
+    }
+    Ok((ran, plain))
+}
+
 /// Whether a run of one packet refutes, over the tables of a network.
 fn confirm_over(
     alloc: Global,
@@ -131,19 +168,8 @@ fn confirm_over(
     ensures err { IfErr result (λ e. IsMemory e
         ⊎ refutations.IsNoRefutation net.now classes.now refutation.now e) }
 {
-    let layout = net.report_layout();
-    let packet = refutation.packet();
-    let mut state = open(alloc, net, classes, packet)?;
-    make_steps(&mut state, refutation.steps())?;
-    if !state.complete() {
-        return Err(Fault::bare(refusals::RUN_NOT_COMPLETE));
-    }
-    let ran = Totals::of(alloc, of_one_key(), &state)?;
-    let plain = plain_sums(alloc, net, classes, packet)?;
-    if agree(&ran, &plain, &layout.key_of(&packet.fields)) {
-        return Err(Fault::bare(refusals::TOTALS_AGREE));
-    }
-    Ok((ran, plain))
+    let mut state = open(alloc, net, classes, refutation.packet())?;
+    confirm_run(alloc, &mut state, net, classes, refutation)
 }
 
 /// Whether a run of one packet refutes that each packet is counted exactly once: its totals, and the plain sums over

@@ -1,11 +1,9 @@
 -- The words of a line, each but the first behind a space.
-use Rattle.std.proofs.Common.{Bool, ◌≡◌, ℕ, zero, suc, ◌+◌, ◌^◌, ◌<◌, List, [], ◌∷◌, ◌++◌, map, take, slice_get, Option, Some, Result, Ok, Err, OnOk, refl, ap, sym, ◌∙◌, arith, append_assoc}
+use Rattle.std.proofs.Common.{◌≡◌, ℕ, zero, suc, ◌+◌, ◌^◌, ◌<◌, List, [], ◌∷◌, ◌++◌, map, take, slice_get, Option, Some, refl, ap, sym, ◌∙◌, arith, append_assoc}
 use Rattle.std.specs.Prelude.{codes}
 use Rattle.std.specs.Fmt.{decimal}
 use Rattle.std.specs.List.{join_with_byte}
 use Rattle.std.proofs.lemmas.List.{append-nil}
-use Rattle.fx_base.specs.Device.{Writes, KeepsGoing}
-use Rattle.fx_base.proofs.Writing.{writes_both}
 use Rattle.fx_elements.specs.declared.axis.Axis.{Axis}
 use Rattle.fx_elements.specs.declared.axis.Axis.TheVariants as axis
 use Rattle.fx_elements.specs.Axes.{Fields, axis_index, axis_width, field}
@@ -103,27 +101,3 @@ expire_put holder position choices =
     ∙ ap (λ (x : List ℕ). codes "expire" ++ x) (
     spaced_both (holder_words holder) (decimal position ∷ map choice_word choices)
     ∙ ap (λ (x : List ℕ). spaced_words (holder_words holder) ++ x) (spaced_both (decimal position ∷ []) (map choice_word choices)))
-
--- ---- writes, one after another
-
-pub writes_2 : {A E : Type 0} (r : Result A E) (t u v : Option (List ℕ)) (a b all : List ℕ) → Writes t u a → OnOk r (Writes u v b) → all ≡ a ++ b → OnOk r (Writes t v all)
-writes_2 (Ok x) t u v a b all h k e = writes_both t u v a b all h k (sym e)
-writes_2 (Err x) t u v a b all h k e = tt
-
-pub writes_3 : {A E : Type 0} (r : Result A E) (t u v w : Option (List ℕ)) (a b c all : List ℕ) → Writes t u a → Writes u v b → OnOk r (Writes v w c) → all ≡ a ++ (b ++ c) → OnOk r (Writes t w all)
-writes_3 r t u v w a b c all h k l e = writes_2 r t u w a (b ++ c) all h (writes_2 r u v w b c (b ++ c) k l refl) e
-
-pub writes_4 : {A E : Type 0} (r : Result A E) (t u v w x : Option (List ℕ)) (a b c d all : List ℕ) → Writes t u a → Writes u v b → Writes v w c → OnOk r (Writes w x d) → all ≡ a ++ (b ++ (c ++ d)) → OnOk r (Writes t x all)
-writes_4 r t u v w x a b c d all h k l m e =
-    writes_2 r t u x a (b ++ (c ++ d)) all h (writes_2 r u v x b (c ++ d) (b ++ (c ++ d)) k (writes_2 r v w x c d (c ++ d) l m refl) refl) e
-
-pub writes_5 : {A E : Type 0} (r : Result A E) (t u v w x y : Option (List ℕ)) (a b c d f all : List ℕ) → Writes t u a → Writes u v b → Writes v w c → Writes w x d → OnOk r (Writes x y f) → all ≡ a ++ (b ++ (c ++ (d ++ f))) → OnOk r (Writes t y all)
-writes_5 r t u v w x y a b c d f all h k l m n e =
-    writes_2 r t u y a (b ++ (c ++ (d ++ f))) all h (writes_4 r u v w x y b c d f (b ++ (c ++ (d ++ f))) k l m n refl) e
-
-pub writes_then : {A E : Type 0} (r : Result A E) (t u v : Option (List ℕ)) (a b : List ℕ) → Writes t u a → OnOk r (Writes u v b) → OnOk r (Writes t v (a ++ b))
-writes_then r t u v a b h k = writes_2 r t u v a b (a ++ b) h k refl
-
-pub going_then : {A E : Type 0} (r : Result A E) (f g h : Bool) → KeepsGoing f g → OnOk r (KeepsGoing g h) → OnOk r (KeepsGoing f h)
-going_then (Ok _) f g h first next = λ going. next (first going)
-going_then (Err _) f g h first next = tt

@@ -1,4 +1,3 @@
-pub mod Puts
 pub mod ValuesRead
 pub mod Lines
 pub mod Tallying

@@ -1,5 +1,6 @@
 -- Lists of occurrences and of aggregations, one more at a time.
-use Rattle.std.proofs.Common.{◌≡◌, ℕ, zero, suc, ◌+◌, ◌<◌, cond, List, [], ◌∷◌, ◌++◌, length, take, sym, ap, ◌∙◌, subst, arith, get_or, add-one, le_of_suc-le-suc, append_assoc, append-nil}
+use Rattle.std.proofs.Common.{◌≡◌, ℕ, zero, suc, ◌+◌, ◌<◌, cond, List, [], ◌∷◌, ◌++◌, length, map, take, sym, ap, ◌∙◌, subst, arith, get_or, add-one, le_of_suc-le-suc, append_assoc, append-nil}
+use Rattle.std.proofs.lemmas.List.{map_push, take_more}
 use Rattle.fx_elements.specs.Axes.{Fields}
 use Rattle.fx_layout.specs.Keys.{Key}
 use Rattle.fx_tables.specs.declared.holding.Holding.{Holding}
@@ -7,6 +8,7 @@ use Rattle.fx_tables.specs.declared.observation.Selection.{Selection}
 use Rattle.fx_tables.specs.declared.observation.Occurrence.{Occurrence}
 use Rattle.fx_tables.specs.declared.traffic.Crossing.{Crossing}
 use Rattle.fx_tables.specs.Network.{Holder, AggregationEntry, Point}
+use Rattle.fx_tables.specs.Holdings.{holding_of, met_holdings}
 use Rattle.fx_tables.specs.Occurrences.{selects, occurrence, met_by, watches, met_at}
 use Rattle.fx_tables.specs.Takers.{intake_of, intakes}
 
@@ -56,3 +58,12 @@ pub met_at_first : (k : ℕ) (ps : List Point) (x : Crossing) (f : Fields) (p : 
 met_at_first k ps x f p lt at =
     let e : 1 + k ≡ k + 1 = omega arith in
     met_at_more 1 k ps x f p lt at ∙ ap (λ n. met_at 1 (take k ps) x f ++ cond (watches p x) (met_by n 1 p.selections f) []) e
+
+pub holdings_more : (hs : List Holder) (f : Fields) (k : ℕ) (os : List Occurrence) (d : Occurrence) (old new : List Holding) (x : Holding) → k < length os → old ≡ met_holdings hs f (take k os) → x ≡ holding_of hs f (get_or os k d) → new ≡ old ++ x ∷ [] → new ≡ met_holdings hs f (take (k + 1) os)
+holdings_more hs f k os d old new x lt so_far here pushed =
+    let all = met_holdings hs f (take k os) in
+    pushed
+    ∙ ap (λ (xs : List Holding). xs ++ x ∷ []) so_far
+    ∙ ap (λ (y : Holding). all ++ y ∷ []) here
+    ∙ sym (map_push (holding_of hs f) (take k os) (get_or os k d))
+    ∙ ap (map (holding_of hs f)) (sym (take_more os k d lt))

@@ -12,14 +12,14 @@ use crate::observation::Point;
 use crate::packet::Packet;
 use crate::process::Process;
 use crate::traffic::{Class, Classes, Crossing};
-use fx_base::entry_numbered;
+use fx_base::{entry_at, entry_numbered};
 use fx_layout::Layout;
 
 /// The layout of the records of the holder at this place, and the empty one where there is none.
 pub(crate) fn layout_at(holders: &[Holder], place: usize) -> Layout
     ensures { result ≡ network.layout_of (slice_get holders.now place) }
 {
-    match holders.get(place) {
+    match entry_at(holders, place) {
         None => Layout::new(),
         Some(holder) => holder.layout.copy(),
     }
@@ -29,7 +29,7 @@ pub(crate) fn layout_at(holders: &[Holder], place: usize) -> Layout
 fn named_by(holders: &[Holder], place: usize) -> &[usize]
     ensures { result.now ≡ network.named_by (slice_get holders.now place) }
 {
-    match holders.get(place) {
+    match entry_at(holders, place) {
         None => &[],
         Some(holder) => holder.exporters.as_slice(),
     }
@@ -71,7 +71,7 @@ fn aggregations_at(processes: &[Process], place: Option<usize>) -> &[Aggregation
 {
     match place {
         None => &[],
-        Some(place) => match processes.get(place) {
+        Some(place) => match entry_at(processes, place) {
             None => &[],
             Some(process) => process.aggregations.as_slice(),
         },

@@ -12,7 +12,7 @@ use crate::lookup::points_of;
 use crate::net::Net;
 use crate::observation::{Occurrence, Point, Selection};
 use crate::traffic::Crossing;
-use fx_base::Name;
+use fx_base::{Name, entry_at};
 use fx_boxes::{Fields, Region};
 use fx_layout::{Key, Layout};
 use std::alloc::{AllocError, Global};
@@ -31,7 +31,12 @@ fn selects(region: &Option<Region>, fields: &Fields) -> bool
 fn has_name(names: &[Name], name: &str) -> bool
     ensures { result ≡ list_any (λ own. bytes_eq own name.now) names.now }
 {
-    names.iter().any(|own| own.as_str() == name)
+    for own in names {
+        if own.as_str() == name {
+            return true;
+        }
+    }
+    false
 }
 
 impl Point {
@@ -126,7 +131,7 @@ fn push_met_of(
 fn key_at(holders: &[Holder], place: usize, fields: &Fields) -> Key
     ensures { result ≡ keys.key_of (network.layout_of (slice_get holders.now place)) fields.now }
 {
-    match holders.get(place) {
+    match entry_at(holders, place) {
         None => Layout::new().key_of(fields),
         Some(holder) => holder.layout.key_of(fields),
     }

@@ -13,13 +13,25 @@ use crate::process::Process;
 use fx_layout::Key;
 use std::alloc::{AllocError, Global};
 
+/// Whether the key has the leading bits of this entry, with its value.
+fn matches_entry(key: &Key, entry: &MatchEntry) -> bool
+    ensures { result ≡ (keys.reads key.now.layout entry.now.axis entry.now.bits
+        && keys.bits_on key.now entry.now.axis entry.now.bits == entry.now.value) }
+{
+    key.layout().reads(entry.axis, entry.bits) && key.bits_on(entry.axis, entry.bits) == entry.value
+}
+
 /// Whether the key has the leading bits of all these entries, with their values.
 fn matches(key: &Key, entries: &[MatchEntry]) -> bool
     ensures { result ≡ list_all (λ e. keys.reads key.now.layout e.axis e.bits
         && keys.bits_on key.now e.axis e.bits == e.value) entries.now }
 {
-    entries.iter().all(|entry| key.layout().reads(entry.axis, entry.bits)
-        && key.bits_on(entry.axis, entry.bits) == entry.value)
+    for entry in entries {
+        if !matches_entry(key, entry) {
+            return false;
+        }
+    }
+    true
 }
 
 /// The aggregation comes last with the projected key, if it takes the key.

@@ -3,7 +3,6 @@ use Rattle.std.proofs.Common.{◌≡◌, ℕ, zero, suc, ◌+◌, ◌≤◌, ◌
 use Rattle.fx_wire.specs.Sets.{set_parts}
 use Rattle.fx_wire.specs.Writing.{sets_octets, set_octets, sets_length, set_length}
 use Rattle.fx_wire.specs.declared.set.Set.{Set}
-use Rattle.std.specs.Prelude.{Result, Ok, Err, OnOk}
 use Rattle.std.proofs.lemmas.List.{append-nil}
 
 -- one set more
@@ -19,7 +18,3 @@ pub set_length-among : (sets : List Set) (i : ℕ) (d : Set) → i < length sets
 set_length-among [] i d h = absurd (omega arith)
 set_length-among (s ∷ ss) zero d h = omega arith
 set_length-among (s ∷ ss) (suc i) d h = omega (arith, set_length-among ss i d (omega arith))
-
-pub on_ok : {A E P Q : Type 0} (r : Result A E) → OnOk r P → (P → Q) → OnOk r Q
-on_ok (Ok x) p f = f p
-on_ok (Err e) p f = p

@@ -1,6 +1,6 @@
 use Rattle.std.proofs.Common.{codes, refl, rules}
 use Rattle.fx_collect.specs.Report.{totals_text}
-use Rattle.fx_refute.proofs.RefutationTexts.{writes_4}
+use Rattle.fx_base.proofs.Writing.{writes_4}
 use Rattle.fx_audit.proofs.confirm_command.put_refuted.Goals as goal
 
 pub returns : goal.returns

@@ -1,7 +1,7 @@
 use Rattle.std.proofs.Common.{◌++◌, codes, refl, rules}
 use Rattle.std.specs.Fmt.{decimal}
 use Rattle.fx_collect.specs.Report.{number_line}
-use Rattle.fx_run_text.proofs.RunPutting.{writes_2}
+use Rattle.fx_base.proofs.Writing.{writes_2}
 use Rattle.fx_audit.specs.Metering.{skipped_line}
 use Rattle.fx_audit.proofs.run_command.put_skipped.Goals as goal
 

@@ -1,5 +1,5 @@
 use Rattle.std.proofs.lemmas.Result.{err_from_is_err_and}
-use Rattle.fx_base.proofs.Writing.{writes_nothing, puts_both, goes_on}
+use Rattle.fx_base.proofs.Writing.{writes_nothing, writes_then, going_then}
 use Rattle.fx_base.proofs.put.put_place.Goals as goal
 
 pub returns-in-None : goal.returns-in-None
@@ -15,8 +15,8 @@ returns-in_ok-put_text-in-Line g c =
     let taken = g.S.Sink.taken in
     let failed = g.S.Sink.failed in
     rw c.in-Line.is (record {
-      ok = puts_both (taken c.args.sink.now) (taken c.put_text.new.sink) (taken c.put_number.new.sink) _ _ c.put_number.result c.in_ok-put_text-in-Line.ensures.ok c.put_number.ensures.ok;
-      going = goes_on (failed c.args.sink.now) (failed c.put_text.new.sink) (failed c.put_number.new.sink) c.put_number.result c.in_ok-put_text-in-Line.ensures.going c.put_number.ensures.going;
+      ok = writes_then c.put_number.result (taken c.args.sink.now) (taken c.put_text.new.sink) (taken c.put_number.new.sink) _ _ c.in_ok-put_text-in-Line.ensures.ok c.put_number.ensures.ok;
+      going = going_then c.put_number.result (failed c.args.sink.now) (failed c.put_text.new.sink) (failed c.put_number.new.sink) c.in_ok-put_text-in-Line.ensures.going c.put_number.ensures.going;
       err = c.put_number.ensures.err;
     })
 
@@ -30,7 +30,7 @@ returns-in_ok-put_text-in-Octet g c =
     let taken = g.S.Sink.taken in
     let failed = g.S.Sink.failed in
     rw c.in-Octet.is (record {
-      ok = puts_both (taken c.args.sink.now) (taken c.put_text-in-Octet.new.sink) (taken c.put_number-in-Octet.new.sink) _ _ c.put_number-in-Octet.result c.in_ok-put_text-in-Octet.ensures.ok c.put_number-in-Octet.ensures.ok;
-      going = goes_on (failed c.args.sink.now) (failed c.put_text-in-Octet.new.sink) (failed c.put_number-in-Octet.new.sink) c.put_number-in-Octet.result c.in_ok-put_text-in-Octet.ensures.going c.put_number-in-Octet.ensures.going;
+      ok = writes_then c.put_number-in-Octet.result (taken c.args.sink.now) (taken c.put_text-in-Octet.new.sink) (taken c.put_number-in-Octet.new.sink) _ _ c.in_ok-put_text-in-Octet.ensures.ok c.put_number-in-Octet.ensures.ok;
+      going = going_then c.put_number-in-Octet.result (failed c.args.sink.now) (failed c.put_text-in-Octet.new.sink) (failed c.put_number-in-Octet.new.sink) c.in_ok-put_text-in-Octet.ensures.going c.put_number-in-Octet.ensures.going;
       err = c.put_number-in-Octet.ensures.err;
     })

@@ -1,6 +1,6 @@
 use Rattle.std.proofs.lemmas.Result.{err_from_is_err_and}
 use Rattle.fx_elements.specs.Groups.{groups}
-use Rattle.fx_elements.proofs.Puts.{writes_then, going_then}
+use Rattle.fx_base.proofs.Writing.{writes_then, going_then}
 use Rattle.fx_elements.proofs.put.put_groups.Goals as goal
 
 pub returns-in_err-put_half : goal.returns-in_err-put_half

@@ -1,9 +1,8 @@
 use Rattle.std.proofs.lemmas.Result.{err_from_is_err_and}
 use Rattle.std.proofs.Common.{ℕ, ◌/◌, ◌%◌, ◌^◌, List, [], ◌∷◌, Option, Result, Ok, Err, OnOk, refl}
 use Rattle.fx_base.specs.Device.{Writes}
-use Rattle.fx_base.proofs.Writing.{writes_both}
+use Rattle.fx_base.proofs.Writing.{writes_both, going_then}
 use Rattle.fx_elements.specs.Groups.{group, half}
-use Rattle.fx_elements.proofs.Puts.{going_then}
 use Rattle.fx_elements.proofs.put.put_half.Goals as goal
 
 -- four groups with colons between them, where the last is written

@@ -1,5 +1,5 @@
 use Rattle.std.proofs.lemmas.Result.{err_from_is_err_and}
-use Rattle.fx_elements.proofs.Puts.{writes_then, going_then}
+use Rattle.fx_base.proofs.Writing.{writes_then, going_then}
 use Rattle.fx_elements.proofs.put.put_value.Goals as goal
 
 pub returns-in_err-put_whole : goal.returns-in_err-put_whole

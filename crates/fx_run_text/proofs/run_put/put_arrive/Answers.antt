@@ -2,7 +2,8 @@ use Rattle.std.proofs.lemmas.Result.{err_from_is_err_and}
 use Rattle.std.proofs.Common.{[], ◌∷◌, codes, decimal, map}
 use Rattle.fx_run_text.specs.RunLineText.{spaced_words}
 use Rattle.fx_run_text.specs.RunText.{choice_word}
-use Rattle.fx_run_text.proofs.RunPutting.{going_then, arrive_put, writes_4}
+use Rattle.fx_base.proofs.Writing.{going_then, writes_4}
+use Rattle.fx_run_text.proofs.RunPutting.{arrive_put}
 use Rattle.fx_run_text.proofs.run_put.put_arrive.Goals as goal
 
 pub returns-in_err-put_text : goal.returns-in_err-put_text

@@ -1,7 +1,8 @@
 use Rattle.std.proofs.lemmas.Result.{err_from_is_err_and}
 use Rattle.std.proofs.Common.{[], ◌∷◌, codes, decimal}
 use Rattle.fx_run_text.specs.RunLineText.{spaced_words}
-use Rattle.fx_run_text.proofs.RunPutting.{going_then, cache_put, writes_3}
+use Rattle.fx_base.proofs.Writing.{going_then, writes_3}
+use Rattle.fx_run_text.proofs.RunPutting.{cache_put}
 use Rattle.fx_run_text.proofs.run_put.put_cache.Goals as goal
 
 pub returns-in_err-put_text : goal.returns-in_err-put_text

@@ -2,7 +2,8 @@ use Rattle.std.proofs.lemmas.Result.{err_from_is_err_and}
 use Rattle.std.proofs.Common.{codes}
 use Rattle.fx_elements.specs.Axes.{field}
 use Rattle.fx_elements.specs.Values.{leading_text}
-use Rattle.fx_run_text.proofs.RunPutting.{going_then, field_put, writes_2}
+use Rattle.fx_base.proofs.Writing.{going_then, writes_2}
+use Rattle.fx_run_text.proofs.RunPutting.{field_put}
 use Rattle.fx_run_text.proofs.run_put.put_field.Goals as goal
 
 pub returns-in_err-put_text : goal.returns-in_err-put_text

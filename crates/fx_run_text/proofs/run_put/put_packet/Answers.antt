@@ -3,7 +3,8 @@ use Rattle.std.proofs.Common.{[], ◌∷◌, codes, decimal}
 use Rattle.fx_run_text.specs.RunLineText.{spaced_words}
 use Rattle.fx_run_text.specs.declared.text_version.TextVersion.TheVariants.{Two}
 use Rattle.fx_run_text.specs.RunText.{field_words}
-use Rattle.fx_run_text.proofs.RunPutting.{going_then, packet_put, writes_5}
+use Rattle.fx_base.proofs.Writing.{going_then, writes_5}
+use Rattle.fx_run_text.proofs.RunPutting.{packet_put}
 use Rattle.fx_run_text.proofs.run_put.put_packet.Goals as goal
 
 pub returns-in_err-put_text : goal.returns-in_err-put_text

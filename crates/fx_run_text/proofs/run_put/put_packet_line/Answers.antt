@@ -3,7 +3,7 @@ use Rattle.std.proofs.Common.{[], ◌∷◌, refl}
 use Rattle.fx_run_text.specs.declared.run_line.RunLine.TheVariants as line
 use Rattle.fx_run_text.specs.declared.text_version.TextVersion.TheVariants.{Two}
 use Rattle.fx_run_text.specs.RunLineText.{run_line_text}
-use Rattle.fx_run_text.proofs.RunPutting.{going_then, writes_2}
+use Rattle.fx_base.proofs.Writing.{going_then, writes_2}
 use Rattle.fx_run_text.proofs.run_put.put_packet_line.Goals as goal
 
 pub returns-in_err-put_packet : goal.returns-in_err-put_packet

@@ -1,7 +1,7 @@
 use Rattle.std.proofs.Common.{List, ℕ, ◌∷◌, ap, decimal}
 use Rattle.std.proofs.lemmas.List.{append-nil}
 use Rattle.std.proofs.lemmas.Result.{err_from_is_err_and}
-use Rattle.fx_run_text.proofs.RunPutting.{going_then, writes_2}
+use Rattle.fx_base.proofs.Writing.{going_then, writes_2}
 use Rattle.fx_run_text.proofs.run_put.put_spaced.Goals as goal
 
 pub returns-in_err-put_text : goal.returns-in_err-put_text

@@ -1,5 +1,5 @@
 use Rattle.std.proofs.lemmas.Result.{err_from_is_err_and}
-use Rattle.fx_run_text.proofs.RunPutting.{going_then, writes_then}
+use Rattle.fx_base.proofs.Writing.{going_then, writes_then}
 use Rattle.fx_run_text.proofs.run_put.put_step_line.Goals as goal
 
 pub returns-in_err-put_step : goal.returns-in_err-put_step

@@ -2,7 +2,7 @@ use Rattle.std.proofs.Common.{codes, refl, rules, Some}
 use Rattle.std.specs.Fmt.{decimal}
 use Rattle.fx_collect.specs.Report.{number_line}
 use Rattle.fx_sums.specs.SumText.{frames_text}
-use Rattle.fx_sums.proofs.Puts.{writes_3}
+use Rattle.fx_base.proofs.Writing.{writes_3}
 use Rattle.fx_sums.proofs.notes_put.put_skipped_frames.Goals as goal
 
 pub returns : goal.returns

@@ -1,7 +1,7 @@
 use Rattle.std.proofs.Common.{◌≡◌, ◌+◌, [], map, drop, ◌∙◌, refl, ap, sym, arith}
 use Rattle.std.proofs.lemmas.List.{drop_all, append-nil}
 use Rattle.fx_walk.specs.Pointer.{pointer}
-use Rattle.fx_walk.proofs.Faults.{pointer-Item}
+use Rattle.fx_walk.proofs.Faults.{exit, pointer-Item, refuses_more}
 use Rattle.fx_traffic.specs.Classes.{class_faults, class_name, class_of}
 use Rattle.fx_walk.proofs.NextItems.{item_here, next_entry, next_value}
 use Rattle.fx_traffic.proofs.class.classes_of.Goals as goal
@@ -17,6 +17,14 @@ loop-item-preserved g c =
       faults = i.faults ∙ next_entry (class_faults (map g.T.Named.name c.args.devices.now)) class_name c.loop-item.names (pointer c.args.path.now) c.loop-item.place c.args.items.now v here ∙ rw (ok.0, c.in_ok-read_class.ensures.names) refl;
       classes = rw (c.in_ok-push.ensures.items, ok.1) (sym (next_value (class_of (map g.T.Named.name c.args.devices.now)) c.loop-item.classes.items c.loop-item.place c.args.items.now v here) ∙ i.classes);
     }
+
+pub returns-in_err-read_class : goal.returns-in_err-read_class
+returns-in_err-read_class g c =
+    let i = c.loop-item.invariant in
+    let v = c.item-item.result in
+    let here = item_here c.args.items.now c.loop-item.place c.loop-item.item-index v i.place (omega arith) c.item-item.is in
+    let next = next_entry (class_faults (map g.T.Named.name c.args.devices.now)) class_name c.loop-item.names (pointer c.args.path.now) c.loop-item.place c.args.items.now v here in
+    exit _ _ _ _ c.from_residual.ensures (rw (i.faults ∙ next) (refuses_more _ _ _ (rw pointer-Item at c.in_err-read_class.ensures.reads)))
 
 pub returns : goal.returns
 returns g c =

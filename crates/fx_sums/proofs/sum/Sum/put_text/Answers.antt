@@ -3,7 +3,7 @@ use Rattle.fx_base.specs.Device.{Writes}
 use Rattle.fx_collect.specs.Report.{totals_text}
 use Rattle.fx_sums.specs.Sums.{Sum}
 use Rattle.fx_sums.specs.SumText.{notes_text, noted_text}
-use Rattle.fx_sums.proofs.Puts.{writes_2}
+use Rattle.fx_base.proofs.Writing.{writes_2}
 use Rattle.fx_sums.proofs.sum.Sum.put_text.Goals as goal
 
 pub returns-clause-ok : goal.returns-clause-ok
