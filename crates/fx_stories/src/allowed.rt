@@ -247,10 +247,10 @@ const SOURCE_6: &str = "\"sourceIPv6Address\": \"2001:db8::/32\"";
 /// How a destination of IPv6 is written in a region.
 const DESTINATION_6: &str = "\"destinationIPv6Address\": \"2001:db8::/32\"";
 
-/// How source ports is written in a region.
+/// How source ports are written in a region.
 const SOURCE_PORT: &str = "\"sourceTransportPort\": \"1024-65535\"";
 
-/// How destination ports is written in a region.
+/// How destination ports are written in a region.
 const DESTINATION_PORT: &str = "\"destinationTransportPort\": \"443\"";
 
 /// How a protocol is written in a region.

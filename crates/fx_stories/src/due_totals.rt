@@ -40,28 +40,26 @@ impl Due {
     }
 
     /// The forms of lines that may stand there, but that of a key's.
-    pub(crate) fn forms(self) -> [&'static str; 5] {
+    pub(crate) fn forms(self) -> &'static [&'static str] {
         match self {
-            Due::First => ["keys COUNT", "", "", "", ""],
-            Due::Key => ["", "", "", "", ""],
-            Due::Unassigned => ["unassigned COUNT", "", "", "", ""],
-            Due::BehindTotals => [
+            Due::First => &["keys COUNT"],
+            Due::Key => &[],
+            Due::Unassigned => &["unassigned COUNT"],
+            Due::BehindTotals => &[
                 "complete yes",
                 "complete no",
                 "skipped other OTHER malformed MALFORMED",
                 "gaps GAPS",
                 "keys COUNT",
             ],
-            Due::BehindComplete => [
+            Due::BehindComplete => &[
                 "skipped other OTHER malformed MALFORMED",
                 "gaps GAPS",
                 "keys COUNT",
-                "",
-                "",
             ],
-            Due::BehindFrames => ["gaps GAPS", "keys COUNT", "", "", ""],
-            Due::BehindGaps => ["skipped SKIPPED", "", "", "", ""],
-            Due::BehindSkipped => ["keys COUNT", "", "", "", ""],
+            Due::BehindFrames => &["gaps GAPS", "keys COUNT"],
+            Due::BehindGaps => &["skipped SKIPPED"],
+            Due::BehindSkipped => &["keys COUNT"],
         }
     }
 

@@ -1,6 +1,7 @@
 //! Why octets are no JSON text.
 use crate::json_faults::tell_fault;
 use crate::other_files::tell_other_file;
+use crate::places::{number16, number32, octet_at};
 use crate::story::Story;
 use serde_json::{Error, Value};
 use std::alloc::{AllocError, Global};
@@ -19,23 +20,47 @@ fn beginning_words(octets: &[u8]) -> Option<&'static str> {
     wide_words(octets)
 }
 
+/// Whether a text begins with a byte order mark of UTF-32, or with a document's bracket in four octets.
+fn is_utf_32(octets: &[u8]) -> bool {
+    octets.len() >= 4
+        && matches!(
+            number32(octets, 0),
+            0xfffe_0000 | 0x7b00_0000 | 0x5b00_0000 | 0x7b | 0x5b
+        )
+}
+
+/// Whether two octets are a character of ASCII in UTF-16, the higher octet first: one that a text may have.
+fn is_ascii(high: u8, low: u8) -> bool {
+    high == 0 && (b'\t'..=b'~').contains(&low)
+}
+
+/// Whether a text begins with two characters of ASCII in UTF-16, the lower octet first.
+fn begins_low_first(octets: &[u8]) -> bool {
+    octets.len() >= 4
+        && is_ascii(octet_at(octets, 1), octet_at(octets, 0))
+        && is_ascii(octet_at(octets, 3), octet_at(octets, 2))
+}
+
+/// Whether a text begins with three characters of ASCII in UTF-16, the higher octet first, or has just two. A stream of
+/// IPFIX begins with 0 and 10, as a line feed does.
+fn begins_high_first(octets: &[u8]) -> bool {
+    is_ascii(octet_at(octets, 0), octet_at(octets, 1))
+        && is_ascii(octet_at(octets, 2), octet_at(octets, 3))
+        && (octets.len() == 4 || is_ascii(octet_at(octets, 4), octet_at(octets, 5)))
+}
+
 /// In which encoding a text is whose characters take several octets each, in words, with what to do about it.
 fn wide_words(octets: &[u8]) -> Option<&'static str> {
-    match octets {
-        [0xff, 0xfe, 0, 0, ..] | [b'{' | b'[', 0, 0, 0, ..] | [0, 0, 0, b'{' | b'[', ..] => Some(
-            "the text is in UTF-32: write it in UTF-8 (iconv -f UTF-32 -t UTF-8 OLD > NEW)",
-        ),
-        [0xff, 0xfe, ..] | [0xfe, 0xff, ..] => {
-            Some("the text is in UTF-16: write it in UTF-8 (iconv -f UTF-16 -t UTF-8 OLD > NEW)")
-        }
-        [1..=127, 0, 1..=127, 0, ..] => {
-            Some("the text is in UTF-16: write it in UTF-8 (iconv -f UTF-16LE -t UTF-8 OLD > NEW)")
-        }
-        // A stream of IPFIX begins with 0 and 10, as a line feed does.
-        [0, b'\t'..=b'~', 0, b'\t'..=b'~', 0, 1..=127, ..] | [0, b'\t'..=b'~', 0, b'\t'..=b'~'] => {
-            Some("the text is in UTF-16: write it in UTF-8 (iconv -f UTF-16BE -t UTF-8 OLD > NEW)")
-        }
-        _ => None,
+    if is_utf_32(octets) {
+        Some("the text is in UTF-32: write it in UTF-8 (iconv -f UTF-32 -t UTF-8 OLD > NEW)")
+    } else if matches!(number16(octets, 0), 0xfffe | 0xfeff) {
+        Some("the text is in UTF-16: write it in UTF-8 (iconv -f UTF-16 -t UTF-8 OLD > NEW)")
+    } else if begins_low_first(octets) {
+        Some("the text is in UTF-16: write it in UTF-8 (iconv -f UTF-16LE -t UTF-8 OLD > NEW)")
+    } else if begins_high_first(octets) {
+        Some("the text is in UTF-16: write it in UTF-8 (iconv -f UTF-16BE -t UTF-8 OLD > NEW)")
+    } else {
+        None
     }
 }
 

@@ -31,57 +31,96 @@ fn mark_of(object: &Value) -> &'static str {
     ""
 }
 
-/// What an object is that has this member, or a list of such objects.
-fn name_of(mark: &str, is_list: bool) -> &'static str {
-    match mark {
-        "devices" | "links" | "report" if is_list => "a list of networks",
-        "devices" | "links" | "report" => "a network",
-        "classes" if is_list => "a list of traffic declarations",
-        "classes" => "a traffic declaration",
-        "ietf-ipfix-psamp:ipfix" => "the configuration of a device",
-        "config" if is_list => "a list of devices",
-        "config" => "a device",
-        "paths" if is_list => "a list of classes",
-        "paths" => "a class",
-        "toDevice" if is_list => "a list of links",
-        "toDevice" => "a link",
-        "key" => "a report",
-        "interface" => "crossings",
-        _ => "a part of a device's configuration",
+/// What an object is that has a member, and what a list of such objects is.
+const NAMES: [(&str, &str, &str); 10] = [
+    ("devices", "a network", "a list of networks"),
+    ("links", "a network", "a list of networks"),
+    ("report", "a network", "a list of networks"),
+    (
+        "classes",
+        "a traffic declaration",
+        "a list of traffic declarations",
+    ),
+    (
+        "ietf-ipfix-psamp:ipfix",
+        "the configuration of a device",
+        "the configuration of a device",
+    ),
+    ("config", "a device", "a list of devices"),
+    ("paths", "a class", "a list of classes"),
+    ("toDevice", "a link", "a list of links"),
+    ("key", "a report", "a report"),
+    ("interface", "crossings", "crossings"),
+];
+
+/// Where an object stands that has a member, and where a list of such objects stands.
+const PLACES: [(&str, &str, &str); 10] = [
+    ("devices", ALONE, ALONE),
+    ("links", ALONE, ALONE),
+    ("report", ALONE, ALONE),
+    ("classes", ALONE, ALONE),
+    ("ietf-ipfix-psamp:ipfix", CONFIGURATION, CONFIGURATION),
+    (
+        "config",
+        "it stands in a network: {\"devices\": [HERE, ..], \"links\": [..], \"report\": {..}}",
+        "it stands in a network: {\"devices\": HERE, \"links\": [..], \"report\": {..}}",
+    ),
+    (
+        "toDevice",
+        "it stands in a network: {\"devices\": [..], \"links\": [HERE, ..], \"report\": {..}}",
+        "it stands in a network: {\"devices\": [..], \"links\": HERE, \"report\": {..}}",
+    ),
+    ("key", REPORT, REPORT),
+    (
+        "paths",
+        "it stands in a traffic declaration: {\"classes\": [HERE, ..]}",
+        "it stands in a traffic declaration: {\"classes\": HERE}",
+    ),
+    ("interface", CROSSINGS, CROSSINGS),
+];
+
+/// Where a document stands.
+const ALONE: &str = "a document is one object alone: take away what stands around it";
+
+/// Where the configuration of a device stands.
+const CONFIGURATION: &str =
+    "it stands in a network: {\"devices\": [{\"name\": .., \"config\": HERE}, ..], \"links\": [..], \"report\": {..}}";
+
+/// Where the report stands.
+const REPORT: &str =
+    "it stands in a network: {\"devices\": [..], \"links\": [..], \"report\": HERE}";
+
+/// Where crossings stand.
+const CROSSINGS: &str =
+    "they stand in a traffic declaration: {\"classes\": [{\"name\": .., \"paths\": [[..], ..]}, ..]}";
+
+/// Where a part of a device's configuration stands.
+const PART: &str =
+    "what a device is configured to do stands in a network so: {\"devices\": [{\"name\": .., \"config\": {\"ietf-ipfix-psamp:ipfix\": {\"observationPoint\": [..], ..}}}, ..], \"links\": [..], \"report\": {..}}";
+
+/// What a table has for an object with this member, or for a list of such objects; else this text.
+fn said_of(
+    table: &[(&'static str, &'static str, &'static str)],
+    mark: &str,
+    is_list: bool,
+    other: &'static str,
+) -> &'static str {
+    for (known, one, list) in table {
+        if *known == mark {
+            return if is_list { list } else { one };
+        }
     }
+    other
 }
 
-/// Where such an object, or a list of them, stands in a document.
+/// What an object is that has this member, or a list of such objects.
+fn name_of(mark: &str, is_list: bool) -> &'static str {
+    said_of(&NAMES, mark, is_list, "a part of a device's configuration")
+}
+
+/// Where an object stands that has this member, or a list of such objects.
 fn place_of(mark: &str, is_list: bool) -> &'static str {
-    match mark {
-        "devices" | "links" | "report" | "classes" => {
-            "a document is one object alone: take away what stands around it"
-        }
-        "ietf-ipfix-psamp:ipfix" => {
-            "it stands in a network: {\"devices\": [{\"name\": .., \"config\": HERE}, ..], \"links\": [..], \"report\": {..}}"
-        }
-        "config" if is_list => {
-            "it stands in a network: {\"devices\": HERE, \"links\": [..], \"report\": {..}}"
-        }
-        "config" => {
-            "it stands in a network: {\"devices\": [HERE, ..], \"links\": [..], \"report\": {..}}"
-        }
-        "toDevice" if is_list => {
-            "it stands in a network: {\"devices\": [..], \"links\": HERE, \"report\": {..}}"
-        }
-        "toDevice" => {
-            "it stands in a network: {\"devices\": [..], \"links\": [HERE, ..], \"report\": {..}}"
-        }
-        "key" => "it stands in a network: {\"devices\": [..], \"links\": [..], \"report\": HERE}",
-        "paths" if is_list => "it stands in a traffic declaration: {\"classes\": HERE}",
-        "paths" => "it stands in a traffic declaration: {\"classes\": [HERE, ..]}",
-        "interface" => {
-            "they stand in a traffic declaration: {\"classes\": [{\"name\": .., \"paths\": [[..], ..]}, ..]}"
-        }
-        _ => {
-            "what a device is configured to do stands in a network so: {\"devices\": [{\"name\": .., \"config\": {\"ietf-ipfix-psamp:ipfix\": {\"observationPoint\": [..], ..}}}, ..], \"links\": [..], \"report\": {..}}"
-        }
-    }
+    said_of(&PLACES, mark, is_list, PART)
 }
 
 /// Whether such objects stand in a network.

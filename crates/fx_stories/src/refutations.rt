@@ -179,6 +179,40 @@ fn tell_run(
     Ok(())
 }
 
+/// Tells the run of a refutation, and what it leaves undone where it isn't complete.
+fn tell_run_left(
+    alloc: Global,
+    story: &mut Story,
+    documents: &Documents,
+    refutation: &Refutation,
+    fault: u16,
+) -> Result<(), Fault>
+    ensures { IfErr result IsUntold }
+{
+    tell_run(alloc, story, documents, refutation)?;
+    if fault == refusals::RUN_NOT_COMPLETE {
+        let packets = [*refutation.packet()];
+        tell_undone(alloc, story, documents, &packets, refutation.steps())?;
+    }
+    Ok(())
+}
+
+/// Tells the run of the refutation that lines say, over the documents.
+fn tell_unconfirmed_over<C: Source>(
+    alloc: Global,
+    story: &mut Story,
+    documents: &Documents,
+    lines: &mut LineReader<C>,
+    fault: u16,
+) -> Result<(), Fault>
+    ensures { IfErr result IsUntold }
+{
+    match unless_wrong(read_refutation(alloc, lines))? {
+        Some(refutation) => tell_run_left(alloc, story, documents, &refutation, fault),
+        None => Ok(()),
+    }
+}
+
 /// Tells the run of a refutation that isn't confirmed, though each of its steps can be made: one that isn't complete
 /// (504), or whose totals are the plain sums (505).
 ///
@@ -193,18 +227,10 @@ pub(crate) fn tell_unconfirmed<C: Source>(
 ) -> Result<(), Fault>
     ensures { IfErr result IsUntold }
 {
-    let Some(documents) = documents_again(alloc, network, traffic)? else {
-        return Ok(());
-    };
-    let Some(refutation) = unless_wrong(read_refutation(alloc, lines))? else {
-        return Ok(());
-    };
-    tell_run(alloc, story, &documents, &refutation)?;
-    if fault == refusals::RUN_NOT_COMPLETE {
-        let packets = [*refutation.packet()];
-        tell_undone(alloc, story, &documents, &packets, refutation.steps())?;
+    match documents_again(alloc, network, traffic)? {
+        Some(documents) => tell_unconfirmed_over(alloc, story, &documents, lines, fault),
+        None => Ok(()),
     }
-    Ok(())
 }
 
 /// Tells a refutation over the documents.

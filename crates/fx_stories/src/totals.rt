@@ -17,7 +17,7 @@ use std::alloc::Global;
 fn tell_refused(story: &mut Story, plan: Option<&Plan>, stand: &Stand, line: &Line<'_>) {
     let due = stand.due();
     let forms = due.forms();
-    let fit = nearest(&forms, line.bytes);
+    let fit = nearest(forms, line.bytes);
     if let Some(words) = misplaced_words(due, line.bytes) {
         story.sentence(words);
     } else if !line.ended {
@@ -27,7 +27,7 @@ fn tell_refused(story: &mut Story, plan: Option<&Plan>, stand: &Stand, line: &Li
     } else if due != Due::Key {
         tell_word(story, &fit, line.bytes);
         if fit.words > 0 {
-            tell_forms(story, &forms, line.bytes, fit.words);
+            tell_forms(story, forms, line.bytes, fit.words);
         }
     } else if let Some(plan) = plan {
         tell_key_line(story, plan, line.bytes, stand.last.as_slice());
