@@ -7,9 +7,8 @@ use Rattle.std.proofs.lemmas.List.{get_or_append_left, get_or-append-add, get_or
 use Rattle.std.proofs.lemmas.List.Folds.{list_any_at}
 use Rattle.std.proofs.lemmas.List.Quantifiers.{position-Some}
 use Rattle.std.proofs.lemmas.List.Sums.{position_or_len_is}
-use Rattle.fx_layout.proofs.Layouts.{none_passes}
 use Rattle.fx_plan.specs.Labels.{AreGrouped, AreOfDevice, Group, Label, device_labels, is_label, place}
-use Rattle.fx_plan.proofs.Numberings.{none_any}
+use Rattle.fx_plan.proofs.Numberings.{none_any, none_passes}
 
 -- no label from the first place up to the second is looked for
 abbrev pub NoneIn : List ℕ → List ℕ → List Label → ℕ → ℕ → Type 0

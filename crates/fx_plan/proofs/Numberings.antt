@@ -1,5 +1,5 @@
 -- Layouts by number.
-use Rattle.std.proofs.Common.{◌≡◌, ℕ, zero, suc, ◌+◌, ◌≤◌, Bool, true, false, List, [], ◌∷◌, ◌++◌, length, refl, sym, ap, ◌∙◌, subst, arith, Some, None, Result, Ok, Err, IfErr, position, inl, inr, get_or, slice_get}
+use Rattle.std.proofs.Common.{◌≡◌, ℕ, zero, suc, ◌+◌, ◌≤◌, Bool, true, false, List, [], ◌∷◌, ◌++◌, length, refl, sym, ap, ◌∙◌, subst, arith, cond, not, nat_lt, Some, None, Result, Ok, Err, IfErr, position, inl, inr, get_or, slice_get}
 use Rattle.std.specs.Result.{IsErr, IsErrAnd}
 use Rattle.std.specs.List.{list_any, position_or_len}
 use Rattle.std.proofs.lemmas.Bool.{cases_Bool, cond-true, cond-false, or_from, cond_both}
@@ -7,8 +7,8 @@ use Rattle.std.proofs.lemmas.Option.{slice_get-get_or}
 use Rattle.std.proofs.lemmas.List.{length-append}
 use Rattle.std.proofs.lemmas.List.Folds.{list_any_at}
 use Rattle.std.proofs.lemmas.List.Quantifiers.{position-Some}
+use Rattle.std.proofs.lemmas.List.Sums.{prefix_len-le-length}
 use Rattle.fx_layout.specs.Keys.{Layout, same_layout}
-use Rattle.fx_layout.proofs.Layouts.{none_passes}
 use Rattle.fx_layout.proofs.Projections.{same_layout_is}
 use Rattle.fx_tables.specs.Network.{Holder}
 use Rattle.fx_plan.specs.Layouts.{AreNumbers, is_known, with_layout, with_layouts}
@@ -19,6 +19,15 @@ known_at known layout n e =
     let at = position-Some p known n [] (sym e) in
     let there : is_known known layout ≡ true = list_any_at p known n [] at.0 at.1 in
     (sym (cond-true (is_known known layout) known (known ++ layout ∷ []) there), slice_get-get_or known n [] at.0 ∙ ap (λ (l : Layout). Some l) (same_layout_is (get_or known n []) layout at.1))
+
+-- nothing passes where there is no place of what does
+pub none_passes : {X : Type 0} (p : X → Bool) (xs : List X) → position p xs ≡ None → length xs ≡ position_or_len p xs
+none_passes p xs h =
+    let most = prefix_len-le-length (λ x. not (p x)) xs in
+    elim (nat_lt (position_or_len p xs) (length xs)) as (λ t. nat_lt (position_or_len p xs) (length xs) ≡ t → cond t (Some (position_or_len p xs)) None ≡ None → length xs ≡ position_or_len p xs) [
+      | true ↦ λ e k. absurd (cc)
+      | false ↦ λ e k. let least : length xs ≤ position_or_len p xs = grind (arith, e) in omega arith
+    ] refl h
 
 pub none_any : {X : Type 0} (p : X → Bool) (xs : List X) → length xs ≡ position_or_len p xs → list_any p xs ≡ false
 none_any p [] e = refl
