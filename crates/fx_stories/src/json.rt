@@ -30,23 +30,23 @@ fn is_utf_32(octets: &[u8]) -> bool {
 }
 
 /// Whether two octets are a character of ASCII in UTF-16, the higher octet first: one that a text may have.
-fn is_ascii(high: u8, low: u8) -> bool {
+fn is_ascii_pair(high: u8, low: u8) -> bool {
     high == 0 && (b'\t'..=b'~').contains(&low)
 }
 
 /// Whether a text begins with two characters of ASCII in UTF-16, the lower octet first.
 fn begins_low_first(octets: &[u8]) -> bool {
     octets.len() >= 4
-        && is_ascii(octet_at(octets, 1), octet_at(octets, 0))
-        && is_ascii(octet_at(octets, 3), octet_at(octets, 2))
+        && is_ascii_pair(octet_at(octets, 1), octet_at(octets, 0))
+        && is_ascii_pair(octet_at(octets, 3), octet_at(octets, 2))
 }
 
 /// Whether a text begins with three characters of ASCII in UTF-16, the higher octet first, or has just two. A stream of
 /// IPFIX begins with 0 and 10, as a line feed does.
 fn begins_high_first(octets: &[u8]) -> bool {
-    is_ascii(octet_at(octets, 0), octet_at(octets, 1))
-        && is_ascii(octet_at(octets, 2), octet_at(octets, 3))
-        && (octets.len() == 4 || is_ascii(octet_at(octets, 4), octet_at(octets, 5)))
+    is_ascii_pair(octet_at(octets, 0), octet_at(octets, 1))
+        && is_ascii_pair(octet_at(octets, 2), octet_at(octets, 3))
+        && (octets.len() == 4 || is_ascii_pair(octet_at(octets, 4), octet_at(octets, 5)))
 }
 
 /// In which encoding a text is whose characters take several octets each, in words, with what to do about it.
