@@ -2,7 +2,9 @@
 ghost use Rattle.fx_callers.specs.Sites.{site_faults, site_of};
 
 use fx_base::{Fault, Name};
-use fx_walk::{DocumentPath, FromValue, Sequence, items_member, object_of, required_member};
+use fx_walk::{
+    DocumentPath, FromValue, NameReader, Sequence, items_member, object_of, required_member,
+};
 use serde_json::Value;
 use std::alloc::Global;
 
@@ -15,14 +17,16 @@ pub struct Site {
 
 /// A site: its name, which must be there (103), and at most 64 racks (115); no other member (102).
 impl FromValue for Site {
+    type Read = Site;
+
     ghost faults = { site_faults };
 
     ghost meaning = { site_of };
 
     fn from_value(alloc: Global, path: &DocumentPath<'_>, value: &Value) -> Result<Site, Fault> {
         object_of(alloc, path, value, &["name", "rack"])?;
-        let name = required_member::<Name>(alloc, path, value, "name")?;
-        let racks = items_member::<Name>(alloc, path, value, "rack", 0, 64)?;
+        let name = required_member::<NameReader>(alloc, path, value, "name")?;
+        let racks = items_member::<NameReader>(alloc, path, value, "rack", 0, 64)?;
         Ok(Site { name, racks })
     }
 }

@@ -4,10 +4,12 @@ ghost use Rattle.fx_config.specs.Aggregations.{aggregation_faults, aggregation_o
 use crate::entry_name::entry_name;
 use crate::key::key_member;
 use crate::limits::ENTRIES;
-use crate::property_match::PropertyMatch;
+use crate::property_match::{PropertyMatch, PropertyMatchReader};
 use fx_base::{Fault, Name};
 use fx_layout::Layout;
-use fx_walk::{DocumentPath, Entry, Named, Names, Sequence, entries_member, items_member};
+use fx_walk::{
+    DocumentPath, Entry, NameReader, Named, Names, Sequence, entries_member, items_member,
+};
 use serde_json::Value;
 use std::alloc::Global;
 
@@ -32,10 +34,17 @@ impl Named for Aggregation {
     }
 }
 
-impl Entry for Aggregation {
+/// What reads aggregations.
+pub(crate) struct AggregationReader;
+
+impl Entry for AggregationReader {
+    type Read = Aggregation;
+
     ghost faults = { aggregation_faults };
 
     ghost meaning = { aggregation_of };
+
+    ghost name = { λ aggregation. aggregation.name };
 
     fn from_entry(
         alloc: Global,
@@ -51,8 +60,15 @@ impl Entry for Aggregation {
             earlier,
         )?;
         let key = key_member(alloc, path, value)?;
-        let matches = items_member(alloc, path, value, "match", 0, ENTRIES)?;
-        let processes = entries_member(alloc, path, value, "exportingProcess", 0, ENTRIES)?;
+        let matches = items_member::<PropertyMatchReader>(alloc, path, value, "match", 0, ENTRIES)?;
+        let processes = entries_member::<NameReader>(
+            alloc,
+            path,
+            value,
+            "exportingProcess",
+            0,
+            ENTRIES,
+        )?;
         Ok(Aggregation {
             name,
             key,

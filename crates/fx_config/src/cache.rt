@@ -12,8 +12,8 @@ use crate::limits::ENTRIES;
 use fx_base::{Fault, Name};
 use fx_layout::Layout;
 use fx_walk::{
-    DocumentPath, Entry, Named, Names, Sequence, Whole, entries_member, object_of, one_of,
-    optional_member,
+    DocumentPath, Entry, NameReader, Named, Names, Sequence, Whole, entries_member, object_of,
+    one_of, optional_member,
 };
 use serde_json::Value;
 use std::alloc::Global;
@@ -205,10 +205,17 @@ impl Named for Cache {
     }
 }
 
-impl Entry for Cache {
+/// What reads caches.
+pub(crate) struct CacheReader;
+
+impl Entry for CacheReader {
+    type Read = Cache;
+
     ghost faults = { cache_faults };
 
     ghost meaning = { cache_of };
+
+    ghost name = { λ cache. cache.name };
 
     fn from_entry(
         alloc: Global,
@@ -231,7 +238,14 @@ impl Entry for Cache {
             earlier,
         )?;
         let given = read_kind(alloc, path, value)?;
-        let processes = entries_member(alloc, path, value, "exportingProcess", 0, ENTRIES)?;
+        let processes = entries_member::<NameReader>(
+            alloc,
+            path,
+            value,
+            "exportingProcess",
+            0,
+            ENTRIES,
+        )?;
         Ok(Cache {
             name,
             kind: given.kind,

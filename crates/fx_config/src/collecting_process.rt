@@ -1,11 +1,13 @@
 //! Collecting processes.
 ghost use Rattle.fx_config.specs.CollectingProcesses.{collecting_process_faults, collecting_process_of};
 
-use crate::aggregation::Aggregation;
+use crate::aggregation::{Aggregation, AggregationReader};
 use crate::entry_name::entry_name;
 use crate::limits::ENTRIES;
 use fx_base::{Fault, Name, refusals};
-use fx_walk::{DocumentPath, Entry, Named, Names, Refused, Sequence, entries_member, none_of};
+use fx_walk::{
+    DocumentPath, Entry, NameReader, Named, Names, Refused, Sequence, entries_member, none_of,
+};
 use serde_json::Value;
 use std::alloc::Global;
 
@@ -28,10 +30,17 @@ impl Named for CollectingProcess {
     }
 }
 
-impl Entry for CollectingProcess {
+/// What reads collecting processes.
+pub(crate) struct CollectingProcessReader;
+
+impl Entry for CollectingProcessReader {
+    type Read = CollectingProcess;
+
     ghost faults = { collecting_process_faults };
 
     ghost meaning = { collecting_process_of };
+
+    ghost name = { λ process. process.name };
 
     fn from_entry(
         alloc: Global,
@@ -59,8 +68,15 @@ impl Entry for CollectingProcess {
             number: refusals::FILE_TRANSPORT,
         };
         none_of(alloc, path, value, &[files])?;
-        let processes = entries_member(alloc, path, value, "exportingProcess", 0, ENTRIES)?;
-        let aggregations = entries_member(
+        let processes = entries_member::<NameReader>(
+            alloc,
+            path,
+            value,
+            "exportingProcess",
+            0,
+            ENTRIES,
+        )?;
+        let aggregations = entries_member::<AggregationReader>(
             alloc,
             path,
             value,

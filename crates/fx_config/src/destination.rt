@@ -71,10 +71,17 @@ impl Named for Destination {
     }
 }
 
-impl Entry for Destination {
+/// What reads destinations.
+pub(crate) struct DestinationReader;
+
+impl Entry for DestinationReader {
+    type Read = Destination;
+
     ghost faults = { destination_faults };
 
     ghost meaning = { destination_of };
+
+    ghost name = { λ destination. destination.name };
 
     fn from_entry(
         alloc: Global,

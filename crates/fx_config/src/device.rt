@@ -11,9 +11,14 @@ use fx_walk::{DocumentPath, FromValue, document_of, required_member};
 use serde_json::Value;
 use std::alloc::Global;
 
+/// What reads configuration documents.
+pub struct DeviceReader;
+
 /// A device's configuration document: an object with the container `ipfix`, beside which members of other
 /// modules are left unread.
-impl FromValue for Device {
+impl FromValue for DeviceReader {
+    type Read = Device;
+
     ghost faults = { device_faults };
 
     ghost meaning = { device_of };
@@ -43,5 +48,5 @@ pub fn read_device(alloc: Global, value: &Value) -> Result<Device, Fault>
     ensures answer { Reads (device_faults [] (view value.now)) (device_of (view value.now)) result }
     ensures resolved { IfOk result Resolves }
 {
-    Device::from_value(alloc, &DocumentPath::Root, value)
+    DeviceReader::from_value(alloc, &DocumentPath::Root, value)
 }

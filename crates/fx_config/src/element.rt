@@ -29,6 +29,8 @@ impl Model for NamedElement {
 }
 
 impl FromValue for NamedElement {
+    type Read = NamedElement;
+
     ghost faults = { text_faults };
 
     ghost meaning = { λ d. element_named (text_of d) };
@@ -108,7 +110,7 @@ pub fn read_element(
         (given_element (view value.now)) result }
 {
     one_of(alloc, path, value, &["ieName", "ieId"])?;
-    let named = optional_member(alloc, path, value, "ieName")?;
-    let numbered = optional_member(alloc, path, value, "ieId")?;
+    let named = optional_member::<NamedElement>(alloc, path, value, "ieName")?;
+    let numbered = optional_member::<ElementNumber>(alloc, path, value, "ieId")?;
     Ok(GivenElement { named, numbered })
 }

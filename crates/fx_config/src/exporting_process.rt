@@ -2,7 +2,7 @@
 ghost use Rattle.fx_config.specs.ExportingProcesses.{export_mode_named, exporting_process_faults, exporting_process_of};
 ghost use Rattle.fx_config.specs.declared.exporting_process.ExportMode.TheVariants.{Parallel};
 
-use crate::destination::Destination;
+use crate::destination::{Destination, DestinationReader};
 use crate::entry_name::entry_name;
 use crate::limits::ENTRIES;
 use fx_base::{Fault, Name};
@@ -60,10 +60,17 @@ impl Named for ExportingProcess {
     }
 }
 
-impl Entry for ExportingProcess {
+/// What reads exporting processes.
+pub(crate) struct ExportingProcessReader;
+
+impl Entry for ExportingProcessReader {
+    type Read = ExportingProcess;
+
     ghost faults = { exporting_process_faults };
 
     ghost meaning = { exporting_process_of };
+
+    ghost name = { λ process. process.name };
 
     fn from_entry(
         alloc: Global,
@@ -79,7 +86,14 @@ impl Entry for ExportingProcess {
             earlier,
         )?;
         let mode = word_member(alloc, path, value, "exportMode")?;
-        let destinations = entries_member(alloc, path, value, "destination", 1, ENTRIES)?;
+        let destinations = entries_member::<DestinationReader>(
+            alloc,
+            path,
+            value,
+            "destination",
+            1,
+            ENTRIES,
+        )?;
         Ok(ExportingProcess {
             name,
             mode,

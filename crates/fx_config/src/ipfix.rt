@@ -6,12 +6,12 @@ ghost use Rattle.std.specs.Prelude.{◌≡◌};
 ghost use Rattle.fx_config.specs.References.{references_among};
 ghost use Rattle.fx_config.specs.Devices.{ipfix_faults, ipfix_of, ipfix_rows, list_rows, lists_of, named_lists_of, referred_of, referred_rows, with_others};
 
-use crate::cache::Cache;
-use crate::collecting_process::CollectingProcess;
-use crate::exporting_process::ExportingProcess;
+use crate::cache::{Cache, CacheReader};
+use crate::collecting_process::{CollectingProcess, CollectingProcessReader};
+use crate::exporting_process::{ExportingProcess, ExportingProcessReader};
 use crate::limits::ENTRIES;
-use crate::observation_point::ObservationPoint;
-use crate::selection_process::SelectionProcess;
+use crate::observation_point::{ObservationPoint, ObservationPointReader};
+use crate::selection_process::{SelectionProcess, SelectionProcessReader};
 use fx_base::Fault;
 use fx_walk::{
     DocumentPath, Entries, EntryNames, FromValue, Sequence, entries_member, items_refer,
@@ -79,9 +79,23 @@ fn read_referred(alloc: Global, path: &DocumentPath<'_>, value: &Value) -> Resul
     ensures { Reads (row_faults referred_rows (pointer path.now) (view value.now))
         (referred_of (view value.now)) result }
 {
-    let selecting = named_member(alloc, path, value, "selectionProcess", 0, ENTRIES)?;
-    let caches = named_member(alloc, path, value, "cache", 0, ENTRIES)?;
-    let exporting = named_member(alloc, path, value, "exportingProcess", 0, ENTRIES)?;
+    let selecting = named_member::<SelectionProcessReader>(
+        alloc,
+        path,
+        value,
+        "selectionProcess",
+        0,
+        ENTRIES,
+    )?;
+    let caches = named_member::<CacheReader>(alloc, path, value, "cache", 0, ENTRIES)?;
+    let exporting = named_member::<ExportingProcessReader>(
+        alloc,
+        path,
+        value,
+        "exportingProcess",
+        0,
+        ENTRIES,
+    )?;
     Ok(Referred {
         selecting,
         caches,
@@ -131,9 +145,23 @@ fn read_lists(alloc: Global, path: &DocumentPath<'_>, value: &Value) -> Result<L
     ensures { Reads (row_faults list_rows (pointer path.now) (view value.now))
         (named_lists_of (view value.now)) result }
 {
-    let points = entries_member(alloc, path, value, "observationPoint", 0, ENTRIES)?;
+    let points = entries_member::<ObservationPointReader>(
+        alloc,
+        path,
+        value,
+        "observationPoint",
+        0,
+        ENTRIES,
+    )?;
     let referred = read_referred(alloc, path, value)?;
-    let collecting = entries_member(alloc, path, value, "collectingProcess", 0, ENTRIES)?;
+    let collecting = entries_member::<CollectingProcessReader>(
+        alloc,
+        path,
+        value,
+        "collectingProcess",
+        0,
+        ENTRIES,
+    )?;
     Ok(referred.with(points, collecting))
 }
 
@@ -157,6 +185,8 @@ pub struct Ipfix {
 }
 
 impl FromValue for Ipfix {
+    type Read = Ipfix;
+
     ghost faults = { ipfix_faults };
 
     ghost meaning = { ipfix_of };

@@ -7,7 +7,7 @@ ghost use Rattle.fx_walk.specs.Lists.{items_of};
 ghost use Rattle.fx_config.specs.KeyFields.{key_field_of};
 ghost use Rattle.fx_config.specs.Keys.{add_field, field_check, fields_faults, key_row, with_field, with_fields};
 
-use crate::key_field::{KeyField, part_of};
+use crate::key_field::{KeyField, KeyFieldReader, part_of};
 use crate::limits::FIELDS;
 use fx_base::{Fault, refusals};
 use fx_layout::Layout;
@@ -48,7 +48,7 @@ fn fields_of(alloc: Global, path: &DocumentPath<'_>, items: &[Value]) -> Result<
     let mut place = 0;
     for item in items {
         let path = DocumentPath::Item(&*path, place);
-        let field = KeyField::from_value(alloc, &path, item)?;
+        let field = KeyFieldReader::from_value(alloc, &path, item)?;
         layout = add_field(alloc, &path, &layout, &field)?;
         place += 1;
     }

@@ -75,9 +75,14 @@ fn bits_given(bits: Option<PrefixLength>) -> Option<u32>
     }
 }
 
+/// What reads fields of keys.
+pub struct KeyFieldReader;
+
 /// A field with the faults of its members alone: 102 to 105, where 103 comes for a prefix without its length too, and
 /// 105 for one that is longer than the addresses. What it stands for tells [`part_of`].
-impl FromValue for KeyField {
+impl FromValue for KeyFieldReader {
+    type Read = KeyField;
+
     ghost faults = { key_field_faults };
 
     ghost meaning = { key_field_of };

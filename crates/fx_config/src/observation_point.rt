@@ -9,8 +9,8 @@ use crate::entry_name::entry_name;
 use crate::limits::ENTRIES;
 use fx_base::{Fault, Name};
 use fx_walk::{
-    DocumentPath, Entry, Named, Names, Sequence, Whole, Word, entries_member, required_member,
-    word_member,
+    DocumentPath, Entry, NameReader, Named, Names, Sequence, Whole, Word, entries_member,
+    required_member, word_member,
 };
 use serde_json::Value;
 use std::alloc::Global;
@@ -65,7 +65,7 @@ fn read_scope(alloc: Global, path: &DocumentPath<'_>, value: &Value) -> Result<S
         value,
         "observationDomainId",
     )?;
-    let interfaces = entries_member(alloc, path, value, "ifName", 1, ENTRIES)?;
+    let interfaces = entries_member::<NameReader>(alloc, path, value, "ifName", 1, ENTRIES)?;
     let direction = word_member(alloc, path, value, "direction")?;
     Ok(Scope {
         observation_domain_id: domain.number(),
@@ -97,10 +97,17 @@ impl Named for ObservationPoint {
     }
 }
 
-impl Entry for ObservationPoint {
+/// What reads observation points.
+pub(crate) struct ObservationPointReader;
+
+impl Entry for ObservationPointReader {
+    type Read = ObservationPoint;
+
     ghost faults = { observation_point_faults };
 
     ghost meaning = { observation_point_of };
+
+    ghost name = { λ point. point.name };
 
     fn from_entry(
         alloc: Global,
@@ -122,7 +129,14 @@ impl Entry for ObservationPoint {
             earlier,
         )?;
         let scope = read_scope(alloc, path, value)?;
-        let processes = entries_member(alloc, path, value, "selectionProcess", 0, ENTRIES)?;
+        let processes = entries_member::<NameReader>(
+            alloc,
+            path,
+            value,
+            "selectionProcess",
+            0,
+            ENTRIES,
+        )?;
         Ok(ObservationPoint {
             name,
             observation_domain_id: scope.observation_domain_id,

@@ -57,8 +57,13 @@ fn known_property(
     }
 }
 
+/// What reads filters, and matches of aggregations.
+pub(crate) struct PropertyMatchReader;
+
 /// The element and the value of a filter, or of a match of an aggregation.
-impl FromValue for PropertyMatch {
+impl FromValue for PropertyMatchReader {
+    type Read = PropertyMatch;
+
     ghost faults = { property_match_faults };
 
     ghost meaning = { property_match_of };

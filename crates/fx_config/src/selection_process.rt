@@ -3,9 +3,11 @@ ghost use Rattle.fx_config.specs.SelectionProcesses.{selection_process_faults, s
 
 use crate::entry_name::entry_name;
 use crate::limits::SELECTORS;
-use crate::selector::Selector;
+use crate::selector::{Selector, SelectorReader};
 use fx_base::{Fault, Name};
-use fx_walk::{DocumentPath, Entry, Named, Names, Sequence, entries_member, optional_member};
+use fx_walk::{
+    DocumentPath, Entry, NameReader, Named, Names, Sequence, entries_member, optional_member,
+};
 use serde_json::Value;
 use std::alloc::Global;
 
@@ -28,10 +30,17 @@ impl Named for SelectionProcess {
     }
 }
 
-impl Entry for SelectionProcess {
+/// What reads selection processes.
+pub(crate) struct SelectionProcessReader;
+
+impl Entry for SelectionProcessReader {
+    type Read = SelectionProcess;
+
     ghost faults = { selection_process_faults };
 
     ghost meaning = { selection_process_of };
+
+    ghost name = { λ process. process.name };
 
     fn from_entry(
         alloc: Global,
@@ -40,8 +49,10 @@ impl Entry for SelectionProcess {
         earlier: &mut Names,
     ) -> Result<SelectionProcess, Fault> {
         let name = entry_name(alloc, path, value, &["name", "selector", "cache"], earlier)?;
-        let selectors = entries_member(alloc, path, value, "selector", 1, SELECTORS)?;
-        let cache = optional_member(alloc, path, value, "cache")?;
+        let selectors = entries_member::<SelectorReader>(
+            alloc, path, value, "selector", 1, SELECTORS,
+        )?;
+        let cache = optional_member::<NameReader>(alloc, path, value, "cache")?;
         Ok(SelectionProcess {
             name,
             selectors,

@@ -6,7 +6,7 @@ ghost use Rattle.fx_walk.specs.Walk.{Reads, row_faults};
 ghost use Rattle.fx_config.specs.Selectors.{all_faults, is_all, method_given, method_in, method_rows, selector_faults, selector_of};
 
 use crate::entry_name::entry_name;
-use crate::property_match::PropertyMatch;
+use crate::property_match::{PropertyMatch, PropertyMatchReader};
 use fx_base::{Fault, Name, refusals};
 use fx_walk::{
     DocumentPath, Entry, FromValue, Named, Names, Refused, is_empty_type, none_of, one_of,
@@ -29,6 +29,8 @@ fn is_all(value: &Value) -> bool
 }
 
 impl FromValue for SelectAll {
+    type Read = SelectAll;
+
     ghost faults = { all_faults };
 
     ghost meaning = { λ _. record {} };
@@ -97,7 +99,7 @@ fn read_method(alloc: Global, path: &DocumentPath<'_>, value: &Value) -> Result<
     none_of(alloc, path, value, &INEXACT)?;
     one_of(alloc, path, value, &["selectAll", "filterMatch"])?;
     let _all = optional_member::<SelectAll>(alloc, path, value, "selectAll")?;
-    let filter = optional_member(alloc, path, value, "filterMatch")?;
+    let filter = optional_member::<PropertyMatchReader>(alloc, path, value, "filterMatch")?;
     Ok(method_given(filter))
 }
 
@@ -118,10 +120,17 @@ impl Named for Selector {
     }
 }
 
-impl Entry for Selector {
+/// What reads selectors.
+pub(crate) struct SelectorReader;
+
+impl Entry for SelectorReader {
+    type Read = Selector;
+
     ghost faults = { selector_faults };
 
     ghost meaning = { selector_of };
+
+    ghost name = { λ selector. selector.name };
 
     fn from_entry(
         alloc: Global,

@@ -13,7 +13,7 @@ use crate::link::NamedLink;
 use crate::link_table::LinkTable;
 use crate::network_device::NetworkDevice;
 use fx_base::{Fault, Name, refusals};
-use fx_walk::{DocumentPath, items_in, object_of, refusal, refuse_if, required_member};
+use fx_walk::{DocumentPath, NameReader, items_in, object_of, refusal, refuse_if, required_member};
 use serde_json::Value;
 use std::alloc::Global;
 
@@ -57,11 +57,11 @@ fn read_link(alloc: Global, path: &DocumentPath<'_>, value: &Value) -> Result<Na
     ensures { Reads (row_faults name_rows (pointer path.now) (view value.now))
         (link_of (view value.now)) result }
 {
-    let device = required_member::<Name>(alloc, path, value, "device")?;
-    let exporting = required_member::<Name>(alloc, path, value, "exportingProcess")?;
-    let destination = required_member::<Name>(alloc, path, value, "destination")?;
-    let to_device = required_member::<Name>(alloc, path, value, "toDevice")?;
-    let to_process = required_member::<Name>(alloc, path, value, "toProcess")?;
+    let device = required_member::<NameReader>(alloc, path, value, "device")?;
+    let exporting = required_member::<NameReader>(alloc, path, value, "exportingProcess")?;
+    let destination = required_member::<NameReader>(alloc, path, value, "destination")?;
+    let to_device = required_member::<NameReader>(alloc, path, value, "toDevice")?;
+    let to_process = required_member::<NameReader>(alloc, path, value, "toProcess")?;
     Ok(NamedLink {
         device,
         exporting_process: exporting,

@@ -7,7 +7,7 @@ ghost use Rattle.fx_topology.specs.Networks.{network_faults, network_of};
 use crate::limits::DEVICES;
 use crate::link_table::LinkTable;
 use crate::links::links_member;
-use crate::network_device::NetworkDevice;
+use crate::network_device::{NetworkDevice, NetworkDeviceReader};
 use crate::process_count::processes_are_few;
 use crate::report::{Report, report_member};
 use fx_base::Fault;
@@ -27,7 +27,12 @@ pub struct NetworkDocument {
     pub report: Report,
 }
 
-impl FromValue for NetworkDocument {
+/// What reads network documents.
+pub(crate) struct NetworkDocumentReader;
+
+impl FromValue for NetworkDocumentReader {
+    type Read = NetworkDocument;
+
     ghost faults = { network_faults };
 
     ghost meaning = { network_of };
@@ -38,7 +43,7 @@ impl FromValue for NetworkDocument {
         value: &Value,
     ) -> Result<NetworkDocument, Fault> {
         object_of(alloc, path, value, &["devices", "links", "report"])?;
-        let devices: Sequence<NetworkDevice> = required_entries(
+        let devices = required_entries::<NetworkDeviceReader>(
             alloc, path, value, "devices", DEVICES,
         )?;
         let known = devices.as_slice();
@@ -65,5 +70,5 @@ impl FromValue for NetworkDocument {
 pub fn read_network(alloc: Global, value: &Value) -> Result<NetworkDocument, Fault>
     ensures { Reads (network_faults [] (view value.now)) (network_of (view value.now)) result }
 {
-    NetworkDocument::from_value(alloc, &DocumentPath::Root, value)
+    NetworkDocumentReader::from_value(alloc, &DocumentPath::Root, value)
 }

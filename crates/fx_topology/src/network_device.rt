@@ -2,7 +2,7 @@
 ghost use Rattle.fx_topology.specs.NetworkDevices.{network_device_faults, network_device_of};
 
 use fx_base::{Fault, Name};
-use fx_config::Device;
+use fx_config::{Device, DeviceReader};
 use fx_walk::{DocumentPath, Entry, Named, Names, name_member, object_of, required_member};
 use serde_json::Value;
 use std::alloc::Global;
@@ -24,10 +24,17 @@ impl Named for NetworkDevice {
     }
 }
 
-impl Entry for NetworkDevice {
+/// What reads devices of a network.
+pub(crate) struct NetworkDeviceReader;
+
+impl Entry for NetworkDeviceReader {
+    type Read = NetworkDevice;
+
     ghost faults = { network_device_faults };
 
     ghost meaning = { network_device_of };
+
+    ghost name = { λ device. device.name };
 
     fn from_entry(
         alloc: Global,
@@ -37,7 +44,7 @@ impl Entry for NetworkDevice {
     ) -> Result<NetworkDevice, Fault> {
         object_of(alloc, path, value, &["name", "config"])?;
         let name = name_member(alloc, path, value, earlier)?;
-        let config = required_member::<Device>(alloc, path, value, "config")?;
+        let config = required_member::<DeviceReader>(alloc, path, value, "config")?;
         Ok(NetworkDevice { name, config })
     }
 }

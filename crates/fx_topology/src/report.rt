@@ -11,10 +11,11 @@ use crate::key_layout::layout_of;
 use crate::limits::KEY_FIELDS;
 use crate::network_device::NetworkDevice;
 use fx_base::{Fault, Name, refusals};
-use fx_config::KeyField;
+use fx_config::{KeyField, KeyFieldReader};
 use fx_layout::Layout;
 use fx_walk::{
-    DocumentPath, Sequence, object_of, refusal, refuse_if, required_items, required_member,
+    DocumentPath, NameReader, Sequence, object_of, refusal, refuse_if, required_items,
+    required_member,
 };
 use serde_json::Value;
 use std::alloc::Global;
@@ -69,9 +70,9 @@ fn read_report(alloc: Global, path: &DocumentPath<'_>, value: &Value) -> Result<
     ensures { Reads (row_faults member_rows (pointer path.now) (view value.now))
         (report_of (view value.now)) result }
 {
-    let device = required_member::<Name>(alloc, path, value, "device")?;
-    let collecting = required_member::<Name>(alloc, path, value, "collectingProcess")?;
-    let key = required_items(alloc, path, value, "key", KEY_FIELDS)?;
+    let device = required_member::<NameReader>(alloc, path, value, "device")?;
+    let collecting = required_member::<NameReader>(alloc, path, value, "collectingProcess")?;
+    let key = required_items::<KeyFieldReader>(alloc, path, value, "key", KEY_FIELDS)?;
     Ok(Report {
         device,
         collecting_process: collecting,

@@ -11,7 +11,7 @@ ghost use Rattle.fx_walk.specs.Scalars.{text_of};
 use crate::list::member_items;
 use crate::names::Names;
 use crate::path::{DocumentPath, refusal};
-use crate::scalar::read_name;
+use crate::scalar::{NameReader, read_name};
 use crate::sequence::Sequence;
 use fx_base::{Fault, Name, refusals};
 use serde_json::Value;
@@ -28,13 +28,20 @@ pub trait Named: Drop {
         ensures { result.now ≡ name self.now };
 }
 
-/// What an entry of a list may be read as, whose name differs from those of the entries before it.
-pub trait Entry: Named {
+/// What reads an entry of a list, whose name differs from those of the entries before it. A public type has a reader
+/// beside it, as with [`crate::FromValue`].
+pub trait Entry {
+    /// What an entry is read as.
+    type Read: Drop;
+
     /// The faults of a value at a pointer, behind entries with these names.
     ghost faults: { List (List ℕ) → List ℕ → Data → List FoundFault };
 
     /// What a value without a fault means.
-    ghost meaning: { Data → Self };
+    ghost meaning: { Data → Self.Read };
+
+    /// The bytes of the name of what is read.
+    ghost name: { Self.Read → List ℕ };
 
     /// Reads the value that stands at the path behind entries with these names, and puts its own behind them, or
     /// answers its first fault.
@@ -43,7 +50,7 @@ pub trait Entry: Named {
         path: &DocumentPath<'_>,
         value: &Value,
         earlier: &mut Names,
-    ) -> Result<Self, Fault>
+    ) -> Result<Self::Read, Fault>
         ensures reads { Reads (faults earlier.old (pointer path.now) (view value.now))
             (meaning (view value.now)) result }
         ensures names { OnOk result (earlier.new
@@ -154,10 +161,14 @@ impl Named for Name {
 }
 
 /// A name that differs from those before it, in a list of names.
-impl Entry for Name {
+impl Entry for NameReader {
+    type Read = Name;
+
     ghost faults = { name_once };
 
     ghost meaning = { text_of };
+
+    ghost name = { λ n. n };
 
     fn from_entry(
         alloc: Global,
@@ -215,7 +226,7 @@ fn entries_of<T: Entry>(
     alloc: Global,
     path: &DocumentPath<'_>,
     items: &[Value],
-) -> Result<Entries<T>, Fault>
+) -> Result<Entries<T::Read>, Fault>
     ensures { Reads (entries_faults T.faults (λ d. T.name (T.meaning d)) [] (pointer path.now) 0
         (map view items.now)) (named_entries T.name (map T.meaning (map view items.now))) result }
 {
@@ -242,14 +253,14 @@ pub fn named_member<T: Entry>(
     name: &str,
     least: usize,
     most: usize,
-) -> Result<Entries<T>, Fault>
+) -> Result<Entries<T::Read>, Fault>
     ensures { Reads ((entries least most name.now T.faults (λ d. T.name (T.meaning d))).faults
         (pointer path.now) (view object.now))
         (named_entries T.name (map T.meaning (items_of (member_of name.now (view object.now)))))
         result }
 {
     let items = member_items(alloc, path, object, name, least, most)?;
-    entries_of(alloc, &DocumentPath::Member(path, name), items)
+    entries_of::<T>(alloc, &DocumentPath::Member(path, name), items)
 }
 
 /// A member that is a list of entries as [`named_member`] reads it, without their names.
@@ -260,10 +271,10 @@ pub fn entries_member<T: Entry>(
     name: &str,
     least: usize,
     most: usize,
-) -> Result<Sequence<T>, Fault>
+) -> Result<Sequence<T::Read>, Fault>
     ensures { Reads ((entries least most name.now T.faults (λ d. T.name (T.meaning d))).faults
         (pointer path.now) (view object.now))
         (map T.meaning (items_of (member_of name.now (view object.now)))) result }
 {
-    Ok(named_member(alloc, path, object, name, least, most)?.items)
+    Ok(named_member::<T>(alloc, path, object, name, least, most)?.items)
 }

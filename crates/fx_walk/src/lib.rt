@@ -33,6 +33,6 @@ pub use path::{DocumentPath, refusal};
 pub use reference::{Refers, is_named, items_refer, place_of};
 pub use refuse::refuse_if;
 pub use required_list::{required_entries, required_items};
-pub use scalar::{Empty, Text, Whole, is_empty_type, read_name};
+pub use scalar::{Empty, NameReader, Text, Whole, is_empty_type, read_name};
 pub use sequence::Sequence;
 pub use word::{Word, word_member};

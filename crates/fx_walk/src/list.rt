@@ -81,7 +81,7 @@ fn values_of<T: FromValue>(
     alloc: Global,
     path: &DocumentPath<'_>,
     items: &[Value],
-) -> Result<Sequence<T>, Fault>
+) -> Result<Sequence<T::Read>, Fault>
     ensures { Reads (items_faults T.faults (pointer path.now) 0 (map view items.now))
         (map T.meaning (map view items.now)) result }
 {
@@ -103,11 +103,11 @@ pub fn items_member<T: FromValue>(
     name: &str,
     least: usize,
     most: usize,
-) -> Result<Sequence<T>, Fault>
+) -> Result<Sequence<T::Read>, Fault>
     ensures { Reads ((items least most name.now T.faults).faults (pointer path.now)
         (view object.now)) (map T.meaning (items_of (member_of name.now (view object.now))))
         result }
 {
     let items = member_items(alloc, path, object, name, least, most)?;
-    values_of(alloc, &DocumentPath::Member(path, name), items)
+    values_of::<T>(alloc, &DocumentPath::Member(path, name), items)
 }

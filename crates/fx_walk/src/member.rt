@@ -11,16 +11,26 @@ use fx_base::{Fault, refusals};
 use serde_json::Value;
 use std::alloc::Global;
 
-/// What a value of a document may be read as.
-pub trait FromValue: Drop {
+/// What reads a value of a document.
+///
+/// A public type has a reader beside it. An impl of the type itself would go with the type to each library that holds
+/// such values, and so would JSON's values and all that they are made of.
+pub trait FromValue {
+    /// What a value is read as.
+    type Read: Drop;
+
     /// The faults of a value at a pointer, in the order of the walk.
     ghost faults: { List ℕ → Data → List FoundFault };
 
     /// What a value without a fault means.
-    ghost meaning: { Data → Self };
+    ghost meaning: { Data → Self.Read };
 
     /// Reads the value that stands at the path, or answers its first fault.
-    fn from_value(alloc: Global, path: &DocumentPath<'_>, value: &Value) -> Result<Self, Fault>
+    fn from_value(
+        alloc: Global,
+        path: &DocumentPath<'_>,
+        value: &Value,
+    ) -> Result<Self::Read, Fault>
         ensures { Reads (faults (pointer path.now) (view value.now)) (meaning (view value.now))
             result };
 }
@@ -31,7 +41,7 @@ pub fn required_member<T: FromValue>(
     path: &DocumentPath<'_>,
     object: &Value,
     name: &str,
-) -> Result<T, Fault>
+) -> Result<T::Read, Fault>
     ensures { Reads ((required_row name.now T.faults).faults (pointer path.now) (view object.now))
         (T.meaning (member_of name.now (view object.now))) result }
 {
@@ -47,7 +57,7 @@ pub fn optional_member<T: FromValue>(
     path: &DocumentPath<'_>,
     object: &Value,
     name: &str,
-) -> Result<Option<T>, Fault>
+) -> Result<Option<T::Read>, Fault>
     ensures { Reads ((optional name.now T.faults).faults (pointer path.now) (view object.now))
         (option_map T.meaning (get name.now (view object.now))) result }
 {

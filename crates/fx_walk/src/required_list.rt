@@ -22,13 +22,13 @@ pub fn required_items<T: FromValue>(
     object: &Value,
     name: &str,
     most: usize,
-) -> Result<Sequence<T>, Fault>
+) -> Result<Sequence<T::Read>, Fault>
     ensures { Reads ((required_items most name.now T.faults).faults (pointer path.now)
         (view object.now)) (map T.meaning (items_of (member_of name.now (view object.now))))
         result }
 {
     match object.get(name) {
-        Some(_) => items_member(alloc, path, object, name, 0, most),
+        Some(_) => items_member::<T>(alloc, path, object, name, 0, most),
         None => Err(refusal(alloc, refusals::MISSING_MEMBER, path)),
     }
 }
@@ -40,13 +40,13 @@ pub fn required_entries<T: Entry>(
     object: &Value,
     name: &str,
     most: usize,
-) -> Result<Sequence<T>, Fault>
+) -> Result<Sequence<T::Read>, Fault>
     ensures { Reads ((required_entries most name.now T.faults (λ d. T.name (T.meaning d))).faults
         (pointer path.now) (view object.now))
         (map T.meaning (items_of (member_of name.now (view object.now)))) result }
 {
     match object.get(name) {
-        Some(_) => entries_member(alloc, path, object, name, 0, most),
+        Some(_) => entries_member::<T>(alloc, path, object, name, 0, most),
         None => Err(refusal(alloc, refusals::MISSING_MEMBER, path)),
     }
 }

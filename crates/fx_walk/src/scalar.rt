@@ -35,8 +35,13 @@ pub fn read_name(
     }
 }
 
+/// What reads names.
+pub struct NameReader;
+
 /// A name (`name-type` of the module): 104 for no text, 105 for a text that is no name.
-impl FromValue for Name {
+impl FromValue for NameReader {
+    type Read = Name;
+
     ghost faults = { name_faults };
 
     ghost meaning = { text_of };
@@ -70,6 +75,8 @@ impl Text {
 }
 
 impl FromValue for Text {
+    type Read = Text;
+
     ghost faults = { text_faults };
 
     ghost meaning = { text_of };
@@ -113,6 +120,8 @@ impl<const LOW: u32, const HIGH: u32> Whole<LOW, HIGH> {
 }
 
 impl<const LOW: u32, const HIGH: u32> FromValue for Whole<LOW, HIGH> {
+    type Read = Whole<LOW, HIGH>;
+
     ghost faults = { whole_faults LOW HIGH };
 
     ghost meaning = { number_of };
@@ -159,6 +168,8 @@ pub fn is_empty_type(value: &Value) -> bool
 }
 
 impl FromValue for Empty {
+    type Read = Empty;
+
     ghost faults = { empty_faults };
 
     ghost meaning = { λ _. record {} };

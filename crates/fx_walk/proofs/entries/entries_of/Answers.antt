@@ -9,7 +9,7 @@ pub loop-item-preserved : goal.loop-item-preserved
 loop-item-preserved g c =
     let faults = g.T.Entry.faults in
     let meaning = g.T.Entry.meaning in
-    let name = g.T.Named.name in
+    let name = g.T.Entry.name in
     let i = c.loop-item.invariant in
     let v = c.item-item.result in
     let here = item_here c.args.items.now c.loop-item.place c.loop-item.item-index v i.place (omega arith) c.item-item.is in
@@ -26,7 +26,7 @@ returns-in_err-from_entry g c =
     let i = c.loop-item.invariant in
     let v = c.item-item.result in
     let here = item_here c.args.items.now c.loop-item.place c.loop-item.item-index v i.place (omega arith) c.item-item.is in
-    let next = next_entry g.T.Entry.faults (λ d. g.T.Named.name (g.T.Entry.meaning d)) c.loop-item.names (pointer c.args.path.now) c.loop-item.place c.args.items.now v here in
+    let next = next_entry g.T.Entry.faults (λ d. g.T.Entry.name (g.T.Entry.meaning d)) c.loop-item.names (pointer c.args.path.now) c.loop-item.place c.args.items.now v here in
     exit _ _ _ _ c.from_residual.ensures (rw (i.faults ∙ next) (refuses_more _ _ _ (rw pointer-Item at c.in_err-from_entry.ensures.reads)))
 
 pub returns : goal.returns

@@ -8,7 +8,7 @@ abbrev pub invariant-loop-item : goal.invariant-loop-item
 invariant-loop-item g l =
     let faults = g.T.Entry.faults in
     let meaning = g.T.Entry.meaning in
-    let name = g.T.Named.name in
+    let name = g.T.Entry.name in
     record {
       place : l.place ≡ l.item-index;
       faults : entries_faults faults (λ d. name (meaning d)) [] (pointer l.path) 0 (map view l.items) ≡ entries_faults faults (λ d. name (meaning d)) l.names (pointer l.path) l.place (map view (drop l.place l.items));
