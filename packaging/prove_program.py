@@ -4,10 +4,11 @@
 usage: prove_program.py [NAME..]
 
 Run at the top of the repository. Each NAME is a crate as crates.txt has it, which is proved with all that it stands on;
-the program where none is given. A crate is proved once all libraries that it names are, side by side as many as there are
-processors and memory, first those with the longest chain of others behind them. The crate with the longest chain gets four
-processes and others up to two, all together one more than there are processors at the most. RT_JOBS=N in the environment sets
-how many are proved at a time, with one process each.
+the program where none is given. A crate is proved once all libraries that it names are, one fewer side by side than there are
+processors and as far as the memory goes, first those with the longest chain of others behind them. The crate with the longest chain gets four processes,
+one whose chain is at least half as long two, and any other one, which runs only while the others leave a processor idle; all
+together two more than there are processors at the most. RT_JOBS=N in the environment sets how many are proved at a time, with
+one process each.
 
 A line a crate says how long its proof took, by the clock and in processor time; the last line says it of all. Where all crates
 were proved by one call, as from a fresh clone, out/proved has that line.
@@ -40,12 +41,13 @@ LEAST_MEMORY, SHARE_OF_MEMORY = 1_700_000_000, 0.27
 # The share of that for each further process, which has most of its memory in common with the first.
 MORE_MEMORY = 0.15
 
-# How many processes prove the crate with the longest chain of others behind it, and how many another.
-MOST_JOBS, OTHER_JOBS = 4, 2
+# How many processes prove the crate with the longest chain of others behind it, and how many one whose chain has at least this
+# share of that length. Any other is proved by one process of this niceness.
+MOST_JOBS, NEAR_JOBS, NEAR, NICENESS = 4, 2, 0.5, 10
 
 # How many more processes there are than processors at the most: those of a proof wait for one another, but on four processors
 # four proofs by two each took 1.35 times the processor time that they took by one each.
-MORE_JOBS = 1
+MORE_JOBS = 2
 
 # How many lines of code cost as much as what every proof of a crate begins and ends with, and how many lines of the libraries
 # below as much as a line of its own. Lines of definitions and proof files cost next to nothing.
@@ -65,7 +67,7 @@ def run(words, **how):
     return process.returncode, used.ru_utime + used.ru_stime
 
 
-def build(rt, crate, jobs, said):
+def build(rt, crate, jobs, niceness, said):
     """Proves a crate and builds its library, or links the program; whether it is proved, and the processor time used."""
     made = made_by(crate)
     words = crate.words(["--jobs", str(jobs)], keeps=False)
@@ -74,16 +76,17 @@ def build(rt, crate, jobs, said):
     else:
         words += ["--statements", "-o", made]
     how = {"cwd": crate.folder, "stdin": subprocess.DEVNULL, "stdout": said, "stderr": subprocess.STDOUT}
-    status, used = run([*rt.rtlib.guarded(), rt.rtlib.RATTLE, "build", *words], **how)
+    nice = ["nice", "-n", str(niceness)] if niceness else []
+    status, used = run([*nice, *rt.rtlib.guarded(), rt.rtlib.RATTLE, "build", *words], **how)
     if status == -signal.SIGKILL and jobs > 1:
         # Most likely for memory.
-        is_proved, more = build(rt, crate, 1, said)
+        is_proved, more = build(rt, crate, 1, niceness, said)
         return is_proved, used + more
     links = status == 0 and crate.is_program
     return status == 0 and (not links or crate.link(made + ".o", os.path.relpath(made, crate.folder)) == 0), used
 
 
-def prove(rt, crate, given, jobs):
+def prove(rt, crate, given, jobs, niceness):
     """Proves a crate whose libraries are proved, unless it is as it was, and says so; the processor time used, or None where it
     isn't proved."""
     if any(given[it.name] is None for it in crate.below()):
@@ -97,7 +100,7 @@ def prove(rt, crate, given, jobs):
         os.remove(noted)
     file, began = os.path.join(folder, "said"), time.monotonic()
     with open(file, "w") as said:
-        is_proved, used = build(rt, crate, jobs, said)
+        is_proved, used = build(rt, crate, jobs, niceness, said)
     if not is_proved:
         print("%s%s: NOT PROVED" % (rt.rtlib.text_of(file), crate.name), flush=True)
         return None
@@ -129,19 +132,20 @@ def work_of(rt, crate):
     return LINES_OF_A_CRATE + lines_of(rt, crate) + below / LINES_BELOW
 
 
-def jobs_of(is_longest, processors, left, room, needs):
-    """How many processes prove a crate that waits for nothing, where so many may yet be started, as far as the memory goes."""
-    wanted = min(MOST_JOBS, processors) if is_longest else min(OTHER_JOBS, processors // 2)
+def jobs_of(share, processors, left, room, needs):
+    """How many processes prove a crate that waits for nothing, and of which niceness, where its chain has this share of the
+    longest, so many may yet be started, and this much memory is left."""
+    wanted = MOST_JOBS if share == 1 else NEAR_JOBS if share >= NEAR else 1
     fitting = 1 + int((room / needs - 1) / MORE_MEMORY)
-    return max(1, min(wanted, left, fitting))
+    return max(1, min(wanted, processors, left, fitting)), 0 if share >= NEAR else NICENESS
 
 
 def side_by_side(tasks, processors, memory):
     """Runs tasks, each once those that it waits for have ended, and answers what each gave. A task is what it waits for, its
-    work, the memory that it needs, and a call that gets what was given and how many processes it may use."""
+    work, the memory that it needs, and a call that gets what was given, how many processes it may use and their niceness."""
     fixed = os.environ.get("RT_JOBS", "")
     fixed = int(fixed) if fixed.isdigit() and int(fixed) else 0
-    lanes = fixed or processors
+    lanes = fixed or min(processors, max(2, processors - 1))
     most_jobs = fixed or (processors + MORE_JOBS if processors > 1 else 1)
     behind, running, given = chains(tasks), {}, {}
     left = sorted(tasks, key=lambda name: -behind[name])
@@ -153,9 +157,9 @@ def side_by_side(tasks, processors, memory):
                 idle = most_jobs - sum(jobs for _, _, jobs in running.values())
                 room = memory - sum(held for _, held, _ in running.values())
                 if idle > 0 and len(running) < lanes and (fixed or not running or needs <= room):
-                    jobs = 1 if fixed else jobs_of(behind[name] == longest, processors, idle, room, needs)
+                    jobs, niceness = (1, 0) if fixed else jobs_of(behind[name] / longest, processors, idle, room, needs)
                     left.remove(name)
-                    running[pool.submit(call, given, jobs)] = name, needs * (1 + MORE_MEMORY * (jobs - 1)), jobs
+                    running[pool.submit(call, given, jobs, niceness)] = name, needs * (1 + MORE_MEMORY * (jobs - 1)), jobs
             for done in wait(running, return_when=FIRST_COMPLETED).done:
                 given[running.pop(done)[0]] = done.result()
     return given
@@ -176,7 +180,7 @@ def main(names):
     for crate in every:
         crate.rlib = made_by(crate)
         if crate.name in wanted:
-            work = lambda given, jobs, crate=crate: prove(rt, crate, given, jobs)
+            work = lambda given, jobs, niceness, crate=crate: prove(rt, crate, given, jobs, niceness)
             waits = [it.name for it in crate.below()]
             needs = LEAST_MEMORY + SHARE_OF_MEMORY * rt.need(crate)
             tasks[crate.name] = waits, work_of(rt, crate), needs, work
