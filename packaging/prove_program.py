@@ -4,11 +4,11 @@
 usage: prove_program.py [NAME..]
 
 Run at the top of the repository. Each NAME is a crate as crates.txt has it, which is proved with all that it stands on;
-the program where none is given. A crate is proved once all libraries that it names are, one fewer side by side than there are
-processors and as far as the memory goes, first those with the longest chain of others behind them. The crate with the longest chain gets four processes,
-one whose chain is at least half as long two, and any other one, which runs only while the others leave a processor idle; all
-together two more than there are processors at the most. RT_JOBS=N in the environment sets how many are proved at a time, with
-one process each.
+the program where none is given. A crate is proved once all libraries that it names are, side by side as many as there are
+processors and memory, first those with the longest chain of others behind them. The crate with the longest chain gets three
+processes and any other one, all together one more than there are processors at the most; one whose chain is less than half as
+long runs while the others leave a processor idle. RT_JOBS=N in the environment sets how many are proved at a time, with one
+process each.
 
 A line a crate says how long its proof took, by the clock and in processor time; the last line says it of all. Where all crates
 were proved by one call, as from a fresh clone, out/proved has that line.
@@ -41,13 +41,13 @@ LEAST_MEMORY, SHARE_OF_MEMORY = 1_700_000_000, 0.27
 # The share of that for each further process, which has most of its memory in common with the first.
 MORE_MEMORY = 0.15
 
-# How many processes prove the crate with the longest chain of others behind it, and how many one whose chain has at least this
-# share of that length. Any other is proved by one process of this niceness.
-MOST_JOBS, NEAR_JOBS, NEAR, NICENESS = 4, 2, 0.5, 10
+# How many processes prove the crate with the longest chain of others behind it. Any other is proved by one, of this niceness where
+# its chain has less than this share of that length.
+MOST_JOBS, NEAR, NICENESS = 3, 0.5, 10
 
-# How many more processes there are than processors at the most: those of a proof wait for one another, but on four processors
-# four proofs by two each took 1.35 times the processor time that they took by one each.
-MORE_JOBS = 2
+# How many more processes there are than processors at the most: those of a proof wait for one another, but the more there are the
+# more processor time each takes. On four processors, beside others, nine crates took 1.2 to 1.5 times as much by two as by one.
+MORE_JOBS = 1
 
 # How many lines of code cost as much as what every proof of a crate begins and ends with, and how many lines of the libraries
 # below as much as a line of its own. Lines of definitions and proof files cost next to nothing.
@@ -135,7 +135,7 @@ def work_of(rt, crate):
 def jobs_of(share, processors, left, room, needs):
     """How many processes prove a crate that waits for nothing, and of which niceness, where its chain has this share of the
     longest, so many may yet be started, and this much memory is left."""
-    wanted = MOST_JOBS if share == 1 else NEAR_JOBS if share >= NEAR else 1
+    wanted = MOST_JOBS if share == 1 else 1
     fitting = 1 + int((room / needs - 1) / MORE_MEMORY)
     return max(1, min(wanted, processors, left, fitting)), 0 if share >= NEAR else NICENESS
 
@@ -145,7 +145,7 @@ def side_by_side(tasks, processors, memory):
     work, the memory that it needs, and a call that gets what was given, how many processes it may use and their niceness."""
     fixed = os.environ.get("RT_JOBS", "")
     fixed = int(fixed) if fixed.isdigit() and int(fixed) else 0
-    lanes = fixed or min(processors, max(2, processors - 1))
+    lanes = fixed or processors
     most_jobs = fixed or (processors + MORE_JOBS if processors > 1 else 1)
     behind, running, given = chains(tasks), {}, {}
     left = sorted(tasks, key=lambda name: -behind[name])

@@ -15,8 +15,11 @@ pub struct Site {
     pub racks: Sequence<Name>,
 }
 
+/// What reads sites.
+pub struct SiteReader;
+
 /// A site: its name, which must be there (103), and at most 64 racks (115); no other member (102).
-impl FromValue for Site {
+impl FromValue for SiteReader {
     type Read = Site;
 
     ghost faults = { site_faults };

@@ -9,7 +9,7 @@ mod streams;
 #[cfg(test)]
 mod tests;
 
-pub use documents::Site;
+pub use documents::{Site, SiteReader};
 pub use flows::{count_packet, room_for};
 pub use leaves::leaf_of;
 pub use searches::counts_once;

@@ -1,5 +1,5 @@
 //! The callers, called over a meter at one interface that exports to a collector.
-use crate::documents::Site;
+use crate::documents::SiteReader;
 use crate::flows::{count_packet, room_for};
 use crate::leaves::leaf_of;
 use crate::searches::counts_once;
@@ -34,7 +34,7 @@ const TRAFFIC: &str =
 /// Whether a site's racks are read.
 fn is_read(alloc: Global) -> Result<bool, Fail> {
     let value = Value::from_str(alloc, r#"{"name":"s1","rack":["r1","r2"]}"#)?;
-    let site = Site::from_value(alloc, &DocumentPath::Root, &value)?;
+    let site = SiteReader::from_value(alloc, &DocumentPath::Root, &value)?;
     Ok(site.racks.as_slice().len() == 2)
 }
 

@@ -1,7 +1,7 @@
 use Rattle.std.proofs.Common.{refl}
 use Rattle.fx_walk.proofs.Faults.{exit, refuses_more}
 use Rattle.fx_callers.specs.Sites.{site_rows}
-use Rattle.fx_callers.proofs.documents.SiteFromValue.from_value.Goals as goal
+use Rattle.fx_callers.proofs.documents.SiteReaderFromValue.from_value.Goals as goal
 
 pub returns-in_err-object_of : goal.returns-in_err-object_of
 returns-in_err-object_of c = exit _ _ _ _ c.from_residual.ensures (c.in_err-object_of.ensures site_rows refl)
