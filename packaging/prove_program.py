@@ -41,8 +41,8 @@ LEAST_MEMORY, SHARE_OF_MEMORY = 1_700_000_000, 0.27
 # The share of that for each further process, which has most of its memory in common with the first.
 MORE_MEMORY = 0.15
 
-# How many processes prove the crate with the longest chain of others behind it. Any other is proved by one, of this niceness where
-# its chain has less than this share of that length.
+# How many processes prove the crate with the longest chain of others behind it. Any other is proved by one, which has this
+# niceness where its chain has less than this share of that length.
 MOST_JOBS, NEAR, NICENESS = 3, 0.5, 10
 
 # How many more processes there are than processors at the most: those of a proof wait for one another, but the more there are the
@@ -135,9 +135,11 @@ def work_of(rt, crate):
 def jobs_of(share, processors, left, room, needs):
     """How many processes prove a crate that waits for nothing, and of which niceness, where its chain has this share of the
     longest, so many may yet be started, and this much memory is left."""
-    wanted = MOST_JOBS if share == 1 else 1
+    niceness = 0 if share >= NEAR else NICENESS
+    if share < 1:
+        return 1, niceness
     fitting = 1 + int((room / needs - 1) / MORE_MEMORY)
-    return max(1, min(wanted, processors, left, fitting)), 0 if share >= NEAR else NICENESS
+    return max(1, min(MOST_JOBS, processors, left, fitting)), niceness
 
 
 def side_by_side(tasks, processors, memory):
