@@ -4,14 +4,14 @@
 usage: prove_program.py [NAME..]
 
 Run at the top of the repository. Each NAME is a crate as crates.txt has it, which is proved with all that it stands on;
-the program where none is given. A crate is proved once all libraries that it names are, side by side as many as there are
-processors and memory, first those with the longest chain of others behind them. The crate with the longest chain gets three
-processes and any other one, all together one more than there are processors at the most; one whose chain is less than half as
-long runs while the others leave a processor idle. RT_JOBS=N in the environment sets how many are proved at a time, with one
-process each.
+the program where none is given. A crate is proved once all libraries that it names are, side by side as many as memory and all
+processors but one allow, first those with the longest chain of others behind them. The crate with the longest chain gets three
+processes, or all processors where no other can run beside it, one whose chain is nearly as long two, and any other one. RT_JOBS=N
+in the environment sets how many are proved at a time, with one process each.
 
-A line a crate says how long its proof took, by the clock and in processor time; the last line says it of all. Where all crates
-were proved by one call, as from a fresh clone, out/proved has that line.
+A line a crate says how long its proof took, by the clock and in processor time; the last line says it of all, and for how long
+the machine's host kept processors for others. Where all crates were proved by one call, as from a fresh clone, out/proved has
+that line.
 
 What is proved lies in the crate's out/program, with what was said of it in the file `said`: its library, or of the program
 `once`. A library keeps the statements that crates above may cite and leaves the proofs out, so that it is read quickly. A
@@ -41,13 +41,9 @@ LEAST_MEMORY, SHARE_OF_MEMORY = 1_700_000_000, 0.27
 # The share of that for each further process, which has most of its memory in common with the first.
 MORE_MEMORY = 0.15
 
-# How many processes prove the crate with the longest chain of others behind it. Any other is proved by one, which has this
-# niceness where its chain has less than this share of that length.
-MOST_JOBS, NEAR, NICENESS = 3, 0.5, 10
-
-# How many more processes there are than processors at the most: those of a proof wait for one another, but the more there are the
-# more processor time each takes. On four processors, beside others, nine crates took 1.2 to 1.5 times as much by two as by one.
-MORE_JOBS = 1
+# How many processes prove the crate with the longest chain of others behind it, and how many one whose chain has at least this
+# share of that length. Any other is proved by one.
+MOST_JOBS, NEAR_JOBS, NEAR = 3, 2, 0.8
 
 # How many lines of code cost as much as what every proof of a crate begins and ends with, and how many lines of the libraries
 # below as much as a line of its own. Lines of definitions and proof files cost next to nothing.
@@ -59,6 +55,13 @@ def made_by(crate):
     return os.path.join(crate.folder, "out", "program", crate.name + ("" if crate.is_program else ".rlib"))
 
 
+def kept_by_host():
+    """For how many seconds since the machine started its host kept a processor for others while there was work for it."""
+    with open("/proc/stat") as file:
+        words = file.readline().split()
+    return int(words[8]) / os.sysconf("SC_CLK_TCK")
+
+
 def run(words, **how):
     """Runs a program; its status, below 0 where a signal ended it, and the processor time that it and its processes used."""
     process = subprocess.Popen(words, **how)
@@ -67,7 +70,7 @@ def run(words, **how):
     return process.returncode, used.ru_utime + used.ru_stime
 
 
-def build(rt, crate, jobs, niceness, said):
+def build(rt, crate, jobs, said):
     """Proves a crate and builds its library, or links the program; whether it is proved, and the processor time used."""
     made = made_by(crate)
     words = crate.words(["--jobs", str(jobs)], keeps=False)
@@ -76,17 +79,16 @@ def build(rt, crate, jobs, niceness, said):
     else:
         words += ["--statements", "-o", made]
     how = {"cwd": crate.folder, "stdin": subprocess.DEVNULL, "stdout": said, "stderr": subprocess.STDOUT}
-    nice = ["nice", "-n", str(niceness)] if niceness else []
-    status, used = run([*nice, *rt.rtlib.guarded(), rt.rtlib.RATTLE, "build", *words], **how)
+    status, used = run([*rt.rtlib.guarded(), rt.rtlib.RATTLE, "build", *words], **how)
     if status == -signal.SIGKILL and jobs > 1:
         # Most likely for memory.
-        is_proved, more = build(rt, crate, 1, niceness, said)
+        is_proved, more = build(rt, crate, 1, said)
         return is_proved, used + more
     links = status == 0 and crate.is_program
     return status == 0 and (not links or crate.link(made + ".o", os.path.relpath(made, crate.folder)) == 0), used
 
 
-def prove(rt, crate, given, jobs, niceness):
+def prove(rt, crate, given, jobs):
     """Proves a crate whose libraries are proved, unless it is as it was, and says so; the processor time used, or None where it
     isn't proved."""
     if any(given[it.name] is None for it in crate.below()):
@@ -100,7 +102,7 @@ def prove(rt, crate, given, jobs, niceness):
         os.remove(noted)
     file, began = os.path.join(folder, "said"), time.monotonic()
     with open(file, "w") as said:
-        is_proved, used = build(rt, crate, jobs, niceness, said)
+        is_proved, used = build(rt, crate, jobs, said)
     if not is_proved:
         print("%s%s: NOT PROVED" % (rt.rtlib.text_of(file), crate.name), flush=True)
         return None
@@ -132,36 +134,34 @@ def work_of(rt, crate):
     return LINES_OF_A_CRATE + lines_of(rt, crate) + below / LINES_BELOW
 
 
-def jobs_of(share, processors, left, room, needs):
-    """How many processes prove a crate that waits for nothing, and of which niceness, where its chain has this share of the
-    longest, so many may yet be started, and this much memory is left."""
-    niceness = 0 if share >= NEAR else NICENESS
-    if share < 1:
-        return 1, niceness
+def jobs_of(share, others, processors, room, needs):
+    """How many processes prove a crate that waits for nothing, where its chain has this share of the longest, there are others
+    that may run beside it, and this much memory is left."""
+    wanted = processors if not others else MOST_JOBS if share == 1 else NEAR_JOBS if share >= NEAR else 1
     fitting = 1 + int((room / needs - 1) / MORE_MEMORY)
-    return max(1, min(MOST_JOBS, processors, left, fitting)), niceness
+    return max(1, min(wanted, processors, fitting))
 
 
 def side_by_side(tasks, processors, memory):
     """Runs tasks, each once those that it waits for have ended, and answers what each gave. A task is what it waits for, its
-    work, the memory that it needs, and a call that gets what was given, how many processes it may use and their niceness."""
+    work, the memory that it needs, and a call that gets what was given and how many processes it may use."""
     fixed = os.environ.get("RT_JOBS", "")
     fixed = int(fixed) if fixed.isdigit() and int(fixed) else 0
-    lanes = fixed or processors
-    most_jobs = fixed or (processors + MORE_JOBS if processors > 1 else 1)
+    lanes = fixed or max(processors - 1, min(processors, 2))
     behind, running, given = chains(tasks), {}, {}
     left = sorted(tasks, key=lambda name: -behind[name])
     with ThreadPoolExecutor(lanes) as pool:
         while left or running:
-            longest = max(behind[name] for name in [*left, *(name for name, _, _ in running.values())])
-            for name in [name for name in left if all(below in given for below in tasks[name][0])]:
+            longest = max(behind[name] for name in [*left, *(name for name, _ in running.values())])
+            ready = [name for name in left if all(below in given for below in tasks[name][0])]
+            for name in ready:
                 needs, call = tasks[name][2:]
-                idle = most_jobs - sum(jobs for _, _, jobs in running.values())
-                room = memory - sum(held for _, held, _ in running.values())
-                if idle > 0 and len(running) < lanes and (fixed or not running or needs <= room):
-                    jobs, niceness = (1, 0) if fixed else jobs_of(behind[name] / longest, processors, idle, room, needs)
+                room = memory - sum(held for _, held in running.values())
+                if len(running) < lanes and (fixed or not running or needs <= room):
+                    others = len(ready) > 1 or running
+                    jobs = 1 if fixed else jobs_of(behind[name] / longest, others, processors, room, needs)
                     left.remove(name)
-                    running[pool.submit(call, given, jobs, niceness)] = name, needs * (1 + MORE_MEMORY * (jobs - 1)), jobs
+                    running[pool.submit(call, given, jobs)] = name, needs * (1 + MORE_MEMORY * (jobs - 1))
             for done in wait(running, return_when=FIRST_COMPLETED).done:
                 given[running.pop(done)[0]] = done.result()
     return given
@@ -182,17 +182,17 @@ def main(names):
     for crate in every:
         crate.rlib = made_by(crate)
         if crate.name in wanted:
-            work = lambda given, jobs, niceness, crate=crate: prove(rt, crate, given, jobs, niceness)
+            work = lambda given, jobs, crate=crate: prove(rt, crate, given, jobs)
             waits = [it.name for it in crate.below()]
             needs = LEAST_MEMORY + SHARE_OF_MEMORY * rt.need(crate)
             tasks[crate.name] = waits, work_of(rt, crate), needs, work
-    began = time.monotonic()
+    began, kept = time.monotonic(), kept_by_host()
     given = side_by_side(tasks, rt.processors(), 0.85 * rt.free()).values()
     if None in given:
         return 1
     if sum(given):
-        took = sum(used > 0 for used in given), time.monotonic() - began, sum(given), rt.processors()
-        line = "%d crates proved in %.0f s, %.0f s of processor time, on %d processors" % took
+        took = sum(used > 0 for used in given), time.monotonic() - began, sum(given), rt.processors(), kept_by_host() - kept
+        line = "%d crates proved in %.0f s, %.0f s of processor time, on %d processors, of which the host kept %.0f s" % took
         print(line)
         if all(given) and not names:
             os.makedirs(os.path.dirname(TOOK), exist_ok=True)
