@@ -6,8 +6,8 @@ usage: prove_program.py [NAME..]
 Run at the top of the repository. Each NAME is a crate as crates.txt has it, which is proved with all that it stands on;
 the program where none is given. A crate is proved once all libraries that it names are, side by side as many as memory and all
 processors but one allow, first those with the longest chain of others behind them. The crate with the longest chain gets three
-processes, or all processors where no other can run beside it, one whose chain is nearly as long two, and any other one. RT_JOBS=N
-in the environment sets how many are proved at a time, with one process each.
+processes, or more where no other can run beside it, one whose chain is nearly as long two, and any other one. RT_JOBS=N in the
+environment sets how many are proved at a time, with one process each.
 
 A line a crate says how long its proof took, by the clock and in processor time; the last line says it of all, and for how long
 the machine's host kept processors for others. Where all crates were proved by one call, as from a fresh clone, out/proved has
@@ -43,7 +43,10 @@ MORE_MEMORY = 0.15
 
 # How many processes prove the crate with the longest chain of others behind it, and how many one whose chain has at least this
 # share of that length. Any other is proved by one.
-MOST_JOBS, NEAR_JOBS, NEAR = 3, 2, 0.8
+LONGEST_JOBS, NEAR_JOBS, NEAR = 3, 2, 0.8
+
+# How many processes at the most prove a crate that runs alone: more seldom help.
+ALONE_JOBS = 8
 
 # How many lines of code cost as much as what every proof of a crate begins and ends with, and how many lines of the libraries
 # below as much as a line of its own. Lines of definitions and proof files cost next to nothing.
@@ -134,10 +137,15 @@ def work_of(rt, crate):
     return LINES_OF_A_CRATE + lines_of(rt, crate) + below / LINES_BELOW
 
 
-def jobs_of(share, others, processors, room, needs):
-    """How many processes prove a crate that waits for nothing, where its chain has this share of the longest, there are others
-    that may run beside it, and this much memory is left."""
-    wanted = processors if not others else MOST_JOBS if share == 1 else NEAR_JOBS if share >= NEAR else 1
+def jobs_of(share, is_alone, processors, room, needs):
+    """How many processes prove a crate that waits for nothing, where its chain has this share of the longest, no other can run
+    beside it or some can, and this much memory is left."""
+    if is_alone:
+        wanted = ALONE_JOBS
+    elif share == 1:
+        wanted = LONGEST_JOBS
+    else:
+        wanted = NEAR_JOBS if share >= NEAR else 1
     fitting = 1 + int((room / needs - 1) / MORE_MEMORY)
     return max(1, min(wanted, processors, fitting))
 
@@ -154,12 +162,12 @@ def side_by_side(tasks, processors, memory):
         while left or running:
             longest = max(behind[name] for name in [*left, *(name for name, _ in running.values())])
             ready = [name for name in left if all(below in given for below in tasks[name][0])]
+            is_alone = len(ready) == 1 and not running
             for name in ready:
                 needs, call = tasks[name][2:]
                 room = memory - sum(held for _, held in running.values())
                 if len(running) < lanes and (fixed or not running or needs <= room):
-                    others = len(ready) > 1 or running
-                    jobs = 1 if fixed else jobs_of(behind[name] / longest, others, processors, room, needs)
+                    jobs = 1 if fixed else jobs_of(behind[name] / longest, is_alone, processors, room, needs)
                     left.remove(name)
                     running[pool.submit(call, given, jobs)] = name, needs * (1 + MORE_MEMORY * (jobs - 1))
             for done in wait(running, return_when=FIRST_COMPLETED).done:
@@ -192,7 +200,7 @@ def main(names):
         return 1
     if sum(given):
         took = sum(used > 0 for used in given), time.monotonic() - began, sum(given), rt.processors(), kept_by_host() - kept
-        line = "%d crates proved in %.0f s, %.0f s of processor time, on %d processors, of which the host kept %.0f s" % took
+        line = "%d crates proved in %.0f s, %.0f s of processor time, on %d processors, of whose time the host kept %.0f s" % took
         print(line)
         if all(given) and not names:
             os.makedirs(os.path.dirname(TOOK), exist_ok=True)
