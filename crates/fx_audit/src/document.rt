@@ -37,12 +37,21 @@ fn value_of(alloc: Global, octets: &[u8]) -> Result<Value, Fault>
 }
 
 /// What the two documents say.
-#[derive(Drop)]
 pub struct Documents {
     /// The network.
     pub plan: Plan,
     /// The traffic that crosses it.
     pub traffic: Traffic,
+}
+
+impl Drop for Documents {
+    /// Lets its parts go: proved once, and one call wherever one is let go.
+    fn drop(self) {
+        let Self {
+            plan: _,
+            traffic: _,
+        } = self;
+    }
 }
 
 /// The network that a source's octets are the document of.

@@ -68,7 +68,6 @@ impl FailedFile {
 }
 
 /// What was noted. Nothing is, unless words behind the answer are asked for; and what there is no memory for is left out.
-#[derive(Drop)]
 pub struct Notes {
     alloc: Global,
     keeps: bool,
@@ -81,6 +80,21 @@ pub struct Notes {
     pub traffic: OctetCopy,
     /// The octets of a bundle.
     pub bundle: OctetCopy,
+}
+
+impl Drop for Notes {
+    /// Lets its parts go: proved once, and one call wherever one is let go.
+    fn drop(self) {
+        let Self {
+            alloc: _,
+            keeps: _,
+            progress: _,
+            failed_file: _,
+            network: _,
+            traffic: _,
+            bundle: _,
+        } = self;
+    }
 }
 
 /// A file's name, and why it couldn't be opened or made.

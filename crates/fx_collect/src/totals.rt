@@ -16,11 +16,21 @@ use std::alloc::Global;
 use std::marker::Model;
 
 /// The counts under each key of one layout, and the number of records that have no key under it.
-#[derive(Drop)]
 pub struct Totals {
     pub(crate) layout: Layout,
     pub(crate) counts: IndexMap<Values, Counts, Seed>,
     pub(crate) unassigned: u64,
+}
+
+impl Drop for Totals {
+    /// Lets its parts go: proved once, and one call wherever one is let go.
+    fn drop(self) {
+        let Self {
+            layout: _,
+            counts: _,
+            unassigned: _,
+        } = self;
+    }
 }
 
 impl Model for Totals {

@@ -14,7 +14,7 @@ use clap::{Arg, ArgMatches, Command, Error, value_parser};
 use std::alloc::{AllocError, Global};
 
 /// A command, with the names of its files.
-#[derive(Debug, Drop)]
+#[derive(Debug)]
 pub enum Call {
     /// Replays a run of a network over declared traffic.
     Replay {
@@ -100,6 +100,59 @@ pub enum Call {
         /// The number in decimal digits, or `all`.
         number: String,
     },
+}
+
+impl Drop for Call {
+    /// Lets its words go: proved once, and one call wherever one is let go.
+    fn drop(self) {
+        match self {
+            Call::Replay {
+                network: _,
+                traffic: _,
+                run: _,
+            } => {}
+            Call::Collect {
+                network: _,
+                stream: _,
+            } => {}
+            Call::Check {
+                network: _,
+                traffic: _,
+                certificate: _,
+            } => {}
+            Call::Confirm {
+                network: _,
+                traffic: _,
+                refutation: _,
+            } => {}
+            Call::Audit {
+                network: _,
+                traffic: _,
+                limit: _,
+            } => {}
+            Call::Run {
+                network: _,
+                traffic: _,
+                capture: _,
+                schedule: _,
+                links: _,
+            } => {}
+            Call::Lint {
+                network: _,
+                traffic: _,
+            } => {}
+            Call::Draw {
+                network: _,
+                traffic: _,
+                answer: _,
+            } => {}
+            Call::Sum {
+                network: _,
+                totals: _,
+            } => {}
+            Call::Explain { number: _ } => {}
+        }
+    }
 }
 
 /// The line of help of a traffic declaration.

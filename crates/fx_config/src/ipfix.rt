@@ -21,7 +21,7 @@ use serde_json::Value;
 use std::alloc::Global;
 
 /// One device's configuration. Each name that stands for a thing of the device is the name of one of its list.
-#[derive(Debug, Drop)]
+#[derive(Debug)]
 pub struct Device {
     /// Where it observes packets, in document order, as all its lists.
     pub observation_points: Sequence<ObservationPoint>,
@@ -33,6 +33,19 @@ pub struct Device {
     pub exporting_processes: Sequence<ExportingProcess>,
     /// Where it receives records.
     pub collecting_processes: Sequence<CollectingProcess>,
+}
+
+impl Drop for Device {
+    /// Lets its parts go: proved once, and one call wherever one is let go.
+    fn drop(self) {
+        let Self {
+            observation_points: _,
+            selection_processes: _,
+            caches: _,
+            exporting_processes: _,
+            collecting_processes: _,
+        } = self;
+    }
 }
 
 /// The names of a device's things to which others refer.

@@ -20,12 +20,23 @@ use std::marker::Model;
 
 /// A link in the middle of what is done: what is being sent, the octets that were put out and weren't carried yet, and
 /// what its receiver has read.
-#[derive(Drop)]
 pub struct Link {
     outlet: Outlet,
     stream: Stream,
     queue: Vec<u8>,
     session: Session,
+}
+
+impl Drop for Link {
+    /// Lets its parts go: proved once, and one call wherever one is let go.
+    fn drop(self) {
+        let Self {
+            outlet: _,
+            stream: _,
+            queue: _,
+            session: _,
+        } = self;
+    }
 }
 
 impl Model for Link {

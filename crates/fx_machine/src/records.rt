@@ -9,9 +9,16 @@ use std::alloc::{AllocError, Global};
 use std::marker::Model;
 
 /// A list of records, in order of coming.
-#[derive(Debug, Drop)]
+#[derive(Debug)]
 pub struct Records {
     pub(crate) items: Vec<Record>,
+}
+
+impl Drop for Records {
+    /// Lets its parts go: proved once, and one call wherever one is let go.
+    fn drop(self) {
+        let Self { items: _ } = self;
+    }
 }
 
 impl Model for Records {

@@ -17,13 +17,26 @@ use std::alloc::Global;
 use std::marker::Model;
 
 /// A network in a run: what it holds, and what it runs on.
-#[derive(Debug, Drop)]
+#[derive(Debug)]
 pub struct State<'a> {
     alloc: Global,
     net: &'a Net,
     classes: &'a Classes,
     packets: Vec<Packet>,
     store: Store,
+}
+
+impl Drop for State<'_> {
+    /// Lets its parts go: proved once, and one call wherever one is let go.
+    fn drop(self) {
+        let Self {
+            alloc: _,
+            net: _,
+            classes: _,
+            packets: _,
+            store: _,
+        } = self;
+    }
 }
 
 impl<'a> Model for State<'a> {

@@ -106,9 +106,16 @@ fn net_of(alloc: Global, network: &NetworkDocument) -> Result<Net, AllocError>
 /// A network document and the network that it means. Contracts see it as what the document says.
 ///
 /// Each link leads to a collecting process of higher rank than each process that feeds it.
-#[derive(Debug, Drop)]
+#[derive(Debug)]
 pub struct Plan {
     parts: Box<Parts>,
+}
+
+impl Drop for Plan {
+    /// Lets its parts go: proved once, and one call wherever one is let go.
+    fn drop(self) {
+        let Self { parts: _ } = self;
+    }
 }
 
 /// What a plan is made of: behind a box, so that a function that holds a plan lets it go by one call.

@@ -10,10 +10,20 @@ use std::marker::Model;
 pub const STEPS: usize = 1_000_000;
 
 /// A packet, and the steps of a run over it alone, of which there are at most 1,000,000.
-#[derive(Debug, Drop)]
+#[derive(Debug)]
 pub struct Refutation {
     packet: Packet,
     steps: Vec<Step>,
+}
+
+impl Drop for Refutation {
+    /// Lets its parts go: proved once, and one call wherever one is let go.
+    fn drop(self) {
+        let Self {
+            packet: _,
+            steps: _,
+        } = self;
+    }
 }
 
 impl Model for Refutation {

@@ -12,9 +12,16 @@ const FEW: usize = 2;
 /// What a step chooses, one after another. A holder that takes in a record chooses none for a new record, or
 /// the position of the held record that it joins; an exporting process that isn't parallel chooses the number
 /// of a destination. Positions and numbers count from 1.
-#[derive(Debug, Drop)]
+#[derive(Debug)]
 pub struct Choices {
     items: SmallVec<Option<u64>, FEW>,
+}
+
+impl Drop for Choices {
+    /// Lets its parts go: proved once, and one call wherever one is let go.
+    fn drop(self) {
+        let Self { items: _ } = self;
+    }
 }
 
 impl Model for Choices {

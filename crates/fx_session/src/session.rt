@@ -57,13 +57,25 @@ fn take_messages(
 /// A session is seen as what it knows (each domain's templates and next sequence number, the records that wait, the
 /// numbers of gaps and of skipped records), the place of the first octet of the unfinished message, that message's
 /// octets, and the number of the fault that it answers from then on.
-#[derive(Drop)]
 pub struct Session {
     alloc: Global,
     known: Known,
     place: u64,
     octets: Vec<u8>,
     fault: Option<StreamFault>,
+}
+
+impl Drop for Session {
+    /// Lets its parts go: proved once, and one call wherever one is let go.
+    fn drop(self) {
+        let Self {
+            alloc: _,
+            known: _,
+            place: _,
+            octets: _,
+            fault: _,
+        } = self;
+    }
 }
 
 impl Model for Session {

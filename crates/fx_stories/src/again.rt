@@ -6,7 +6,6 @@ use serde_json::Value;
 use std::alloc::{AllocError, Global};
 
 /// What two documents say.
-#[derive(Drop)]
 pub(crate) struct Documents {
     /// The network.
     pub(crate) plan: Plan,
@@ -14,6 +13,17 @@ pub(crate) struct Documents {
     pub(crate) traffic: Traffic,
     /// The traffic's document, for the names of its classes.
     pub(crate) classes: Value,
+}
+
+impl Drop for Documents {
+    /// Lets its parts go: proved once, and one call wherever one is let go.
+    fn drop(self) {
+        let Self {
+            plan: _,
+            traffic: _,
+            classes: _,
+        } = self;
+    }
 }
 
 /// The value that octets are the JSON text of, or none where they are no such text.

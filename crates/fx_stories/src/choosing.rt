@@ -13,7 +13,6 @@ use std::alloc::{AllocError, Global};
 
 /// What takes the choices of a step, one after another: exporting processes that aren't parallel, then the caches that meter
 /// a packet, or some of the aggregations of a collecting process.
-#[derive(Drop)]
 pub(crate) struct Choosers<'a> {
     /// The exporting processes that aren't parallel.
     pub(crate) exporters: Vec<&'a ExportingProcess>,
@@ -25,6 +24,19 @@ pub(crate) struct Choosers<'a> {
     device: Option<&'a NetworkDevice>,
     /// The aggregations of a collecting process.
     aggregations: &'a [Aggregation],
+}
+
+impl Drop for Choosers<'_> {
+    /// Lets its parts go: proved once, and one call wherever one is let go.
+    fn drop(self) {
+        let Self {
+            exporters: _,
+            parallel: _,
+            occurrences: _,
+            device: _,
+            aggregations: _,
+        } = self;
+    }
 }
 
 /// The cache at an occurrence.

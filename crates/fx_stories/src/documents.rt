@@ -47,11 +47,20 @@ fn tell_names(story: &mut Story, network: &Value, value: &Value, pointer: &str, 
 }
 
 /// A document that is refused, and the network that it is, or that it is over.
-#[derive(Drop)]
 struct Refused {
     network: Value,
     /// The traffic's document, where that is refused.
     traffic: Option<Value>,
+}
+
+impl Drop for Refused {
+    /// Lets its parts go: proved once, and one call wherever one is let go.
+    fn drop(self) {
+        let Self {
+            network: _,
+            traffic: _,
+        } = self;
+    }
 }
 
 /// Whether a refusal of this number is about a value that is told.

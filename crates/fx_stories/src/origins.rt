@@ -22,7 +22,6 @@ pub(crate) struct At {
 
 /// The records of a packet that is alone in a run: those that are held, and those on each link in order of coming; those
 /// that came to the report; and the first step behind which its record was nowhere.
-#[derive(Drop)]
 pub(crate) struct Origins<'a> {
     net: &'a Net,
     path: &'a [Crossing],
@@ -34,6 +33,22 @@ pub(crate) struct Origins<'a> {
     made: usize,
     /// How many choices exporting processes took last.
     chosen: usize,
+}
+
+impl Drop for Origins<'_> {
+    /// Lets its parts go: proved once, and one call wherever one is let go.
+    fn drop(self) {
+        let Self {
+            net: _,
+            path: _,
+            links: _,
+            held: _,
+            reported: _,
+            lost: _,
+            made: _,
+            chosen: _,
+        } = self;
+    }
 }
 
 impl<'a> Origins<'a> {

@@ -20,7 +20,6 @@ use std::alloc::{AllocError, Global};
 const LONGEST: usize = 65_535;
 
 /// How far a stream was read once more.
-#[derive(Drop)]
 pub(crate) struct Reading {
     alloc: Global,
     /// The templates of the messages before.
@@ -35,6 +34,21 @@ pub(crate) struct Reading {
     fault: u16,
     /// The place of the refused message.
     refused: u64,
+}
+
+impl Drop for Reading {
+    /// Lets its parts go: proved once, and one call wherever one is let go.
+    fn drop(self) {
+        let Self {
+            alloc: _,
+            templates: _,
+            number: _,
+            place: _,
+            octets: _,
+            fault: _,
+            refused: _,
+        } = self;
+    }
 }
 
 /// Does what the set of a message says of templates, or tells what is wrong with it. Answers whether something is. The

@@ -10,7 +10,7 @@ use fx_layout::Layout;
 use std::marker::Model;
 
 /// A network: its devices, and the tables of what they name by place, from 0.
-#[derive(Debug, Drop)]
+#[derive(Debug)]
 pub struct Net {
     pub(crate) devices: Vec<DeviceEntry>,
     pub(crate) exporters: Vec<Exporter>,
@@ -19,6 +19,21 @@ pub struct Net {
     pub(crate) links: Vec<usize>,
     pub(crate) report: usize,
     pub(crate) report_layout: Layout,
+}
+
+impl Drop for Net {
+    /// Lets its parts go: proved once, and one call wherever one is let go.
+    fn drop(self) {
+        let Self {
+            devices: _,
+            exporters: _,
+            holders: _,
+            processes: _,
+            links: _,
+            report: _,
+            report_layout: _,
+        } = self;
+    }
 }
 
 impl Model for Net {

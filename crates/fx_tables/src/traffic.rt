@@ -108,9 +108,16 @@ impl Class {
 }
 
 /// The classes of the packets that cross a network.
-#[derive(Debug, Drop)]
+#[derive(Debug)]
 pub struct Classes {
     pub(crate) items: Vec<Class>,
+}
+
+impl Drop for Classes {
+    /// Lets its parts go: proved once, and one call wherever one is let go.
+    fn drop(self) {
+        let Self { items: _ } = self;
+    }
 }
 
 impl Model for Classes {

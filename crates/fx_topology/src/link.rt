@@ -2,7 +2,7 @@
 use fx_base::Name;
 
 /// A link: what an exporting process sends to a destination comes to a collecting process.
-#[derive(Debug, Drop)]
+#[derive(Debug)]
 pub struct NamedLink {
     /// The device that sends.
     pub device: Name,
@@ -14,4 +14,17 @@ pub struct NamedLink {
     pub to_device: Name,
     /// The collecting process, on that device.
     pub to_process: Name,
+}
+
+impl Drop for NamedLink {
+    /// Lets its parts go: proved once, and one call wherever one is let go.
+    fn drop(self) {
+        let Self {
+            device: _,
+            exporting_process: _,
+            destination: _,
+            to_device: _,
+            to_process: _,
+        } = self;
+    }
 }

@@ -17,7 +17,7 @@ use std::alloc::Global;
 
 /// What a network document says. The ends of each link are there, no two links lead from one destination, the
 /// report's collecting process is there, and its key is made of axes and leading bits of addresses, no axis twice.
-#[derive(Debug, Drop)]
+#[derive(Debug)]
 pub struct NetworkDocument {
     /// The devices, in document order, as all its lists.
     pub devices: Sequence<NetworkDevice>,
@@ -25,6 +25,17 @@ pub struct NetworkDocument {
     pub links: LinkTable,
     /// What is asked for.
     pub report: Report,
+}
+
+impl Drop for NetworkDocument {
+    /// Lets its parts go: proved once, and one call wherever one is let go.
+    fn drop(self) {
+        let Self {
+            devices: _,
+            links: _,
+            report: _,
+        } = self;
+    }
 }
 
 /// What reads network documents.

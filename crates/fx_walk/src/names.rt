@@ -9,12 +9,22 @@ use std::collections::BTreeMap;
 use std::marker::Model;
 
 /// Names that differ from one another, in the order in which they came. Contracts see the list of them.
-#[derive(Drop)]
 pub struct Names {
     // What contracts see; names are looked up in the map alone.
     texts: Vec<String>,
     places: BTreeMap<String, usize>,
     alloc: Global,
+}
+
+impl Drop for Names {
+    /// Lets its parts go: proved once, and one call wherever one is let go.
+    fn drop(self) {
+        let Self {
+            texts: _,
+            places: _,
+            alloc: _,
+        } = self;
+    }
 }
 
 impl Model for Names {
