@@ -1,9 +1,8 @@
 //! Bundles that were read from standard input, for the words behind their answers.
 
 use crate::asked::{Asked, DocumentRead, LinesAt, Question};
-use crate::telling::Words;
+use crate::gathering::Words;
 use fx_audit::AUDIT_LIMIT;
-use fx_base::{Fault, put_number, put_text};
 
 /// The line that ends each text.
 const MARK: &[u8] = b"%%\n";
@@ -131,45 +130,38 @@ fn nearly_marks(octets: &[u8], at_end: bool) -> (u64, u64) {
 }
 
 /// Writes how many lines have `%%` at their ends, or in front, and aren't it, where there are some, and what to do.
-fn put_nearly_marks(octets: &[u8], at_end: bool, sink: &mut Words) -> Result<(), Fault> {
+fn put_nearly_marks(octets: &[u8], at_end: bool, words: &mut Words) {
     let (count, first) = nearly_marks(octets, at_end);
     if count == 0 {
-        return Ok(());
+        return;
     }
-    put_text(
-        sink,
-        if at_end {
-            b"lines that end in %%, behind something else: ".as_slice()
-        } else {
-            b"lines that begin with %% and go on: "
-        },
-    )?;
-    put_number(sink, count)?;
-    put_text(sink, b" (the first is line ")?;
-    put_number(sink, first)?;
-    put_text(
-        sink,
-        if at_end {
-            b"); put a line feed in front of each %%\n".as_slice()
-        } else {
-            b"); take out what stands behind each %%\n"
-        },
-    )
+    words.text(if at_end {
+        b"lines that end in %%, behind something else: ".as_slice()
+    } else {
+        b"lines that begin with %% and go on: "
+    });
+    words.number(count);
+    words.text(b" (the first is line ");
+    words.number(first);
+    words.text(if at_end {
+        b"); put a line feed in front of each %%\n".as_slice()
+    } else {
+        b"); take out what stands behind each %%\n"
+    });
 }
 
 /// Writes how many lines `%%` a bundle has and its command wants, and which lines nearly are such.
-fn put_mark_words(octets: &[u8], count: u64, wanted: u64, sink: &mut Words) -> Result<(), Fault> {
-    put_text(sink, b"the bundle has ")?;
-    put_number(sink, count)?;
-    put_text(sink, b" lines %%; its command wants ")?;
-    put_number(sink, wanted)?;
-    put_text(sink, b", one behind each text\n")?;
-    put_nearly_marks(octets, true, sink)?;
-    put_nearly_marks(octets, false, sink)?;
+fn put_mark_words(octets: &[u8], count: u64, wanted: u64, words: &mut Words) {
+    words.text(b"the bundle has ");
+    words.number(count);
+    words.text(b" lines %%; its command wants ");
+    words.number(wanted);
+    words.text(b", one behind each text\n");
+    put_nearly_marks(octets, true, words);
+    put_nearly_marks(octets, false, words);
     if octets.ends_with(b"\n%%") {
-        put_text(sink, b"no line feed stands behind the last %%\n")?;
+        words.text(b"no line feed stands behind the last %%\n");
     }
-    Ok(())
 }
 
 /// How many texts stand behind a bundle's first line; 0 where that is no command.
@@ -188,58 +180,48 @@ const SHOWN: usize = 40;
 const ORDER_MARK: &[u8] = b"\xef\xbb\xbf";
 
 /// Writes that a line names no command, and shows it.
-fn put_first_line(line: &[u8], sink: &mut Words) -> Result<(), Fault> {
-    put_text(
-        sink,
-        b"the first line of standard input is none of audit, check, confirm and replay: \"",
-    )?;
+fn put_first_line(line: &[u8], words: &mut Words) {
+    words.text(b"the first line of standard input is none of audit, check, confirm and replay: \"");
     for octet in line.get(..SHOWN).unwrap_or(line) {
-        put_text(
-            sink,
-            &[if octet.is_ascii_graphic() {
-                *octet
-            } else {
-                b' '
-            }],
-        )?;
-    }
-    put_text(
-        sink,
-        if line.starts_with(ORDER_MARK) {
-            b"\"; a byte order mark stands in front of it\n".as_slice()
-        } else if line.ends_with(b" ") {
-            b"\"; a blank stands at its end\n"
+        words.text(&[if octet.is_ascii_graphic() {
+            *octet
         } else {
-            b"\"\n"
-        },
-    )
+            b' '
+        }]);
+    }
+    words.text(if line.starts_with(ORDER_MARK) {
+        b"\"; a byte order mark stands in front of it\n".as_slice()
+    } else if line.ends_with(b" ") {
+        b"\"; a blank stands at its end\n"
+    } else {
+        b"\"\n"
+    });
 }
 
 /// Writes why octets are no bundle.
-pub(crate) fn put_bundle_words(octets: &[u8], sink: &mut Words) -> Result<(), Fault> {
+pub(crate) fn put_bundle_words(octets: &[u8], words: &mut Words) {
     if octets.is_empty() {
-        return put_text(
-            sink,
+        words.text(
             b"standard input has no octets; without other words a bundle is read from there\n",
         );
+        return;
     }
     let (command, rest) = first_line(octets);
     if command.ends_with(b"\r") {
-        return put_text(
-            sink,
+        words.text(
             b"the first line ends in CR and LF: a bundle's lines end in LF alone, as `tr -d '\\r'` makes them\n",
         );
+        return;
     }
     let wanted = texts_of(command);
     if wanted == 0 {
-        return put_first_line(command, sink);
+        put_first_line(command, words);
+        return;
     }
     let (count, has_more) = texts_in(rest);
     if count != wanted {
-        return put_mark_words(rest, count, wanted, sink);
+        put_mark_words(rest, count, wanted, words);
+    } else if has_more {
+        words.text(b"something stands behind the bundle's last line %%\n");
     }
-    if has_more {
-        return put_text(sink, b"something stands behind the bundle's last line %%\n");
-    }
-    Ok(())
 }

@@ -1,9 +1,9 @@
 //! Which file an answer is about, in words.
 
 use crate::asked::{LinesAt, documents_of};
+use crate::gathering::Words;
 use crate::notes::Notes;
-use crate::telling::Words;
-use fx_base::{Fault, Place, put_text, refusals};
+use fx_base::{Fault, Place, refusals};
 use fx_command_line::Call;
 use std::fs;
 use std::rt::Files;
@@ -36,13 +36,13 @@ fn is_behind_documents(fault: &Fault) -> bool {
 }
 
 /// Writes a file's name in a line of its own.
-fn put_file_name<R: Files>(rt: &R, file: &str, sink: &mut Words) -> Result<(), Fault> {
-    put_text(sink, b"file: ")?;
-    put_text(sink, file.as_bytes())?;
+fn put_file_name<R: Files>(rt: &R, file: &str, words: &mut Words) {
+    words.text(b"file: ");
+    words.text(file.as_bytes());
     if is_directory(rt, file) {
-        put_text(sink, b": it is a directory")?;
+        words.text(b": it is a directory");
     }
-    put_text(sink, b"\n")
+    words.text(b"\n");
 }
 
 /// Writes which file couldn't be opened, read, made or written, or has what is refused, and why it couldn't be opened,
@@ -52,8 +52,8 @@ pub(crate) fn put_file_words<R: Files>(
     call: Option<&Call>,
     notes: &Notes,
     fault: &Fault,
-    sink: &mut Words,
-) -> Result<(), Fault> {
+    words: &mut Words,
+) {
     let file = match (fault.number, notes.failed_file.told(), call) {
         (refusals::FAILED_READ | refusals::FAILED_WRITE, Some(file), _) => Some(file),
         (refusals::FAILED_READ, None, Some(call)) => unread_file(call, notes),
@@ -63,9 +63,8 @@ pub(crate) fn put_file_words<R: Files>(
         }
         _ => None,
     };
-    match file {
-        Some(file) => put_file_name(rt, file, sink),
-        None => Ok(()),
+    if let Some(file) = file {
+        put_file_name(rt, file, words);
     }
 }
 
@@ -111,21 +110,16 @@ fn file_of_lines(call: &Call) -> Option<&str> {
 }
 
 /// Writes the name of the file that a text is in.
-pub(crate) fn put_text_name<R: Files>(
-    rt: &R,
-    text: LinesAt<'_>,
-    sink: &mut Words,
-) -> Result<(), Fault> {
+pub(crate) fn put_text_name<R: Files>(rt: &R, text: LinesAt<'_>, words: &mut Words) {
     match text {
-        LinesAt::File(file) => put_file_name(rt, file, sink),
-        LinesAt::Octets(_) => put_text(sink, IN_BUNDLE),
+        LinesAt::File(file) => put_file_name(rt, file, words),
+        LinesAt::Octets(_) => words.text(IN_BUNDLE),
     }
 }
 
 /// Writes that a text is in a bundle, where it is; a file's name was written before.
-pub(crate) fn put_bundled_name(text: LinesAt<'_>, sink: &mut Words) -> Result<(), Fault> {
-    match text {
-        LinesAt::File(_) => Ok(()),
-        LinesAt::Octets(_) => put_text(sink, IN_BUNDLE),
+pub(crate) fn put_bundled_name(text: LinesAt<'_>, words: &mut Words) {
+    if matches!(text, LinesAt::Octets(_)) {
+        words.text(IN_BUNDLE);
     }
 }

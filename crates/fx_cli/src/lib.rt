@@ -10,6 +10,7 @@ mod ending;
 mod explaining;
 mod file_words;
 mod files;
+mod gathering;
 mod kept;
 mod link_files;
 mod notes;

@@ -1,9 +1,9 @@
 //! Files that were read, opened once more for the words behind an answer.
 
 use crate::asked::LinesAt;
-use crate::telling::Words;
+use crate::gathering::Words;
 use crate::text_again::TextAgain;
-use fx_base::{Fault, LineReader, Outside, put_text};
+use fx_base::{LineReader, Outside};
 use std::fs;
 use std::rt::Files;
 
@@ -42,33 +42,54 @@ fn text_again<'a, R: Files>(rt: &R, lines: LinesAt<'a>) -> Option<TextAgain<'a, 
     }
 }
 
-/// The lines of a text that was read, once more. None where it can't be read once more.
-///
-/// Fails with 900 for want of memory.
+/// Writes that a file can't be read once more.
+fn put_not_again(path: &str, words: &mut Words) {
+    words.text(path.as_bytes());
+    words.text(
+        b" can't be read once more, as a file can, so what stands there isn't told. Write it to a file first, and \
+name that.\n",
+    );
+}
+
+/// A file that was read, once more from its beginning. Where it can't be read once more, that is written.
+pub(crate) fn file_or_words<'a, R: Files>(
+    rt: &R,
+    path: &str,
+    words: &mut Words,
+) -> Option<TextAgain<'a, R::File>> {
+    let file = file_again(rt, path);
+    if file.is_none() {
+        put_not_again(path, words);
+    }
+    file
+}
+
+/// The lines of a text that was read, once more. None where it can't be read once more, or for want of memory, which is
+/// noted.
 pub(crate) fn lines_again<'a, R: AllocGlobal + Files>(
     rt: &R,
     lines: LinesAt<'a>,
-) -> Result<Option<LineReader<TextAgain<'a, R::File>>>, Fault> {
-    match text_again(rt, lines) {
-        Some(text) => Ok(Some(LineReader::new(rt.alloc(), text)?)),
-        None => Ok(None),
+    words: &mut Words,
+) -> Option<LineReader<TextAgain<'a, R::File>>> {
+    let text = text_again(rt, lines)?;
+    match LineReader::new(rt.alloc(), text) {
+        Ok(lines) => Some(lines),
+        Err(_) => {
+            words.fail();
+            None
+        }
     }
 }
 
-/// Writes that a file can't be read once more.
-pub(crate) fn put_not_again(path: &str, sink: &mut Words) -> Result<(), Fault> {
-    put_text(sink, path.as_bytes())?;
-    put_text(
-        sink,
-        b" can't be read once more, as a file can, so what stands there isn't told. Write it to a file first, and \
-name that.\n",
-    )
-}
-
-/// Writes that the lines of a text can't be read once more.
-pub(crate) fn put_lines_not_again(lines: LinesAt<'_>, sink: &mut Words) -> Result<(), Fault> {
-    match lines {
-        LinesAt::File(path) => put_not_again(path, sink),
-        LinesAt::Octets(_) => Ok(()),
+/// The lines of a text that was read, once more. Where it can't be read once more, that is written.
+pub(crate) fn lines_or_words<'a, R: AllocGlobal + Files>(
+    rt: &R,
+    lines: LinesAt<'a>,
+    words: &mut Words,
+) -> Option<LineReader<TextAgain<'a, R::File>>> {
+    let again = lines_again(rt, lines, words);
+    if let (None, LinesAt::File(path)) = (&again, lines) {
+        put_not_again(path, words);
     }
+    again
 }

@@ -3,10 +3,12 @@
 use crate::asked::{Asked, LinesAt, Question, question_of};
 use crate::bundles::put_bundle_words;
 use crate::file_words::{put_bundled_name, put_file_words, put_text_name};
+use crate::gathering::Words;
 use crate::notes::Notes;
-use crate::reading_again::{file_again, lines_again, put_lines_not_again, put_not_again};
+use crate::reading_again::{file_again, file_or_words, lines_again, lines_or_words};
+use crate::text_again::TextAgain;
 use fx_audit::{Answer, audit_bytes, check_bytes, confirm_bytes};
-use fx_base::{Fault, LineReader, Octets, Outside, Place, Source, put_text, refusals};
+use fx_base::{Fault, LineReader, Octets, Outside, Place, Source, refusals};
 use fx_command_line::Call;
 use fx_search::Unwatched;
 use fx_stories::{
@@ -54,9 +56,6 @@ const METERED: &[u8] =
     b"keys: how many keys of the report have totals, a line each. unassigned: records without the \
 report's key. skipped: frames that are no packets of IP (other), or that end before their header does (malformed).\n";
 
-/// Words that are gathered before any of them is written.
-pub(crate) type Words = Outside<Vec<u8>>;
-
 /// The words behind an answer or a refusal. Where there is no memory for them, there are none.
 pub(crate) fn words_of<R: AllocGlobal + Files>(
     rt: &R,
@@ -64,11 +63,9 @@ pub(crate) fn words_of<R: AllocGlobal + Files>(
     notes: &Notes,
     outcome: &Result<Answer, Fault>,
 ) -> Vec<u8> {
-    let mut words: Words = Outside::new(Vec::new(rt.alloc()));
-    match put_words(rt, call, notes, outcome, &mut words) {
-        Ok(()) => words.into_inner(),
-        Err(_) => Vec::new(rt.alloc()),
-    }
+    let mut words = Words::new(rt.alloc());
+    put_words(rt, call, notes, outcome, &mut words);
+    words.into_octets(rt.alloc())
 }
 
 /// Writes the words behind an answer or a refusal.
@@ -77,30 +74,33 @@ fn put_words<R: AllocGlobal + Files>(
     call: Option<&Call>,
     notes: &Notes,
     outcome: &Result<Answer, Fault>,
-    sink: &mut Words,
-) -> Result<(), Fault> {
+    words: &mut Words,
+) {
     let question = question_of(call, notes);
-    match outcome {
-        Ok(answer) => match &question {
-            Some(question) => put_answer_words(rt, question, *answer, sink),
-            None => Ok(()),
-        },
-        Err(fault) => {
-            put_file_words(rt, call, notes, fault, sink)?;
+    match (outcome, &question) {
+        (Ok(answer), Some(question)) => put_answer_words(rt, question, *answer, words),
+        (Ok(_), None) => {}
+        (Err(fault), _) => {
+            put_file_words(rt, call, notes, fault, words);
             match &question {
-                Some(question) => put_refused_words(rt, question, fault, sink)?,
-                None => put_no_bundle_words(notes, fault, sink)?,
+                Some(question) => put_refused_words(rt, question, fault, words),
+                None => put_no_bundle_words(notes, fault, words),
             }
-            put_reason(sink, fault.number)
+            put_reason_words(fault.number, words);
         }
     }
 }
 
+/// Writes what a refusal of this number means, and what to do.
+fn put_reason_words(number: u16, words: &mut Words) {
+    let written = put_reason(words.sink(), number);
+    words.note(written);
+}
+
 /// Writes why what standard input has is no bundle.
-fn put_no_bundle_words(notes: &Notes, fault: &Fault, sink: &mut Words) -> Result<(), Fault> {
-    match (fault.number, notes.bundle.octets()) {
-        (refusals::SCHEDULE_OR_BUNDLE, Some(octets)) => put_bundle_words(octets, sink),
-        _ => Ok(()),
+fn put_no_bundle_words(notes: &Notes, fault: &Fault, words: &mut Words) {
+    if let (refusals::SCHEDULE_OR_BUNDLE, Some(octets)) = (fault.number, notes.bundle.octets()) {
+        put_bundle_words(octets, words);
     }
 }
 
@@ -109,60 +109,51 @@ fn put_answer_words<R: AllocGlobal + Files>(
     rt: &R,
     question: &Question<'_>,
     answer: Answer,
-    sink: &mut Words,
-) -> Result<(), Fault> {
+    words: &mut Words,
+) {
     match answer {
-        Answer::Yes => put_yes_words(rt, question, sink),
-        Answer::No => put_no_words(rt, question, sink),
-        Answer::Unknown => put_reason(sink, refusals::SEARCH_TOO_LARGE),
+        Answer::Yes => put_yes_words(rt, question, words),
+        Answer::No => put_no_words(rt, question, words),
+        Answer::Unknown => put_reason_words(refusals::SEARCH_TOO_LARGE, words),
     }
 }
 
 /// Writes what an answer of yes says.
-fn put_yes_words<R: AllocGlobal + Files>(
-    rt: &R,
-    question: &Question<'_>,
-    sink: &mut Words,
-) -> Result<(), Fault> {
+fn put_yes_words<R: AllocGlobal + Files>(rt: &R, question: &Question<'_>, words: &mut Words) {
     match question.asked {
         Asked::Check(_) | Asked::Audit(_) => {
-            put_text(sink, COUNTED_ONCE)?;
-            put_silent_words(rt.alloc(), question, sink)
+            words.text(COUNTED_ONCE);
+            put_silent_words(rt.alloc(), question, words);
         }
-        Asked::Confirm(lines) => put_story(rt, lines, question, sink),
-        Asked::Lint => put_silent_words(rt.alloc(), question, sink),
-        Asked::Replay(run) => put_replayed_words(rt, run, question, sink),
-        Asked::Collect(stream) => put_collected_words(rt, stream, question, sink),
-        Asked::Run { .. } => put_text(sink, METERED),
-        Asked::Sum(_) => put_text(sink, SUMMED),
+        Asked::Confirm(lines) => put_story(rt, lines, question, words),
+        Asked::Lint => put_silent_words(rt.alloc(), question, words),
+        Asked::Replay(run) => put_replayed_words(rt, run, question, words),
+        Asked::Collect(stream) => put_collected_words(rt, stream, question, words),
+        Asked::Run { .. } => words.text(METERED),
+        Asked::Sum(_) => words.text(SUMMED),
         // Behind a graph words would be no part of it.
-        Asked::Draw(_) | Asked::Explain => Ok(()),
+        Asked::Draw(_) | Asked::Explain => {}
     }
 }
 
 /// Writes what is read in silence in the documents.
-fn put_silent_words(alloc: Global, question: &Question<'_>, sink: &mut Words) -> Result<(), Fault> {
-    match question.network_octets() {
-        Some(network) => put_lint_words(alloc, network, question.traffic_octets(), sink),
-        None => Ok(()),
+fn put_silent_words(alloc: Global, question: &Question<'_>, words: &mut Words) {
+    if let Some(network) = question.network_octets() {
+        let written = put_lint_words(alloc, network, question.traffic_octets(), words.sink());
+        words.note(written);
     }
 }
 
 /// Writes what an answer of no says: a refutation's run, or what is wrong with a certificate or a refutation.
-fn put_no_words<R: AllocGlobal + Files>(
-    rt: &R,
-    question: &Question<'_>,
-    sink: &mut Words,
-) -> Result<(), Fault> {
+fn put_no_words<R: AllocGlobal + Files>(rt: &R, question: &Question<'_>, words: &mut Words) {
     match question.asked {
-        Asked::Explain => put_text(
-            sink,
+        Asked::Explain => words.text(
             b"Write the number alone, as in `once explain 407`; `once explain all` lists the numbers.\n",
         ),
-        Asked::Audit(limit) => put_found_story(rt.alloc(), limit, question, sink),
-        Asked::Check(lines) => put_denied_certificate(rt, lines, question, sink),
-        Asked::Confirm(lines) => put_denied_refutation(rt, lines, question, sink),
-        _ => Ok(()),
+        Asked::Audit(limit) => put_found_story(rt.alloc(), limit, question, words),
+        Asked::Check(lines) => put_denied_certificate(rt, lines, question, words),
+        Asked::Confirm(lines) => put_denied_refutation(rt, lines, question, words),
+        _ => {}
     }
 }
 
@@ -172,13 +163,8 @@ fn both_octets<'a>(question: &Question<'a>) -> (Octets<'a>, Octets<'a>) {
     (Octets::new(network), Octets::new(traffic))
 }
 
-/// Writes the story of the refutation that an audit has found, which is searched for once more.
-fn put_found_story(
-    alloc: Global,
-    limit: u64,
-    question: &Question<'_>,
-    sink: &mut Words,
-) -> Result<(), Fault> {
+/// The text of the refutation that an audit has found, which is searched for once more.
+fn refutation_again(alloc: Global, limit: u64, question: &Question<'_>) -> Result<Vec<u8>, Fault> {
     let mut text = Outside::new(Vec::new(alloc));
     let (mut network, mut traffic) = both_octets(question);
     audit_bytes(
@@ -189,14 +175,31 @@ fn put_found_story(
         &mut Unwatched,
         &mut text,
     )?;
-    put_silent_words(alloc, question, sink)?;
-    match question.both() {
-        Some((network, traffic)) => {
-            let found = text.into_inner();
-            let mut lines = LineReader::new(alloc, Octets::new(found.as_slice()))?;
-            put_refutation_story(alloc, network, traffic, &mut lines, sink)
-        }
-        None => Ok(()),
+    Ok(text.into_inner())
+}
+
+/// Writes the story of a refutation with this text.
+fn put_story_of(
+    alloc: Global,
+    network: &[u8],
+    traffic: &[u8],
+    refutation: &[u8],
+    words: &mut Words,
+) -> Result<(), Fault> {
+    let mut lines = LineReader::new(alloc, Octets::new(refutation))?;
+    put_refutation_story(alloc, network, traffic, &mut lines, words.sink())
+}
+
+/// Writes the story of the refutation that an audit has found.
+fn put_found_story(alloc: Global, limit: u64, question: &Question<'_>, words: &mut Words) {
+    let Ok(found) = refutation_again(alloc, limit, question) else {
+        words.fail();
+        return;
+    };
+    put_silent_words(alloc, question, words);
+    if let Some((network, traffic)) = question.both() {
+        let written = put_story_of(alloc, network, traffic, found.as_slice(), words);
+        words.note(written);
     }
 }
 
@@ -224,10 +227,18 @@ fn confirm_again<C: Source>(
     Ok(refusal_said(text.into_inner().as_slice()))
 }
 
-/// Writes that a text can't be read once more, and how to know all the same what its denial means.
-fn put_unread_denial(lines: LinesAt<'_>, sink: &mut Words) -> Result<(), Fault> {
-    put_lines_not_again(lines, sink)?;
-    put_text(sink, TO_LOOK_UP)
+/// The lines of a text that was denied, once more. Where it can't be read once more, that is written, and how to know all
+/// the same what its denial means.
+fn denied_again<'a, R: AllocGlobal + Files>(
+    rt: &R,
+    lines: LinesAt<'a>,
+    words: &mut Words,
+) -> Option<LineReader<TextAgain<'a, R::File>>> {
+    let again = lines_or_words(rt, lines, words);
+    if again.is_none() {
+        words.text(TO_LOOK_UP);
+    }
+    again
 }
 
 /// Writes what is wrong with a certificate that was denied.
@@ -235,18 +246,21 @@ fn put_denied_certificate<R: AllocGlobal + Files>(
     rt: &R,
     certificate: LinesAt<'_>,
     question: &Question<'_>,
-    sink: &mut Words,
-) -> Result<(), Fault> {
-    let Some(lines) = lines_again(rt, certificate)? else {
-        return put_unread_denial(certificate, sink);
+    words: &mut Words,
+) {
+    let Some(lines) = denied_again(rt, certificate, words) else {
+        return;
     };
-    let Some(fault) = check_again(rt.alloc(), question, lines)? else {
-        return Ok(());
-    };
-    put_text_name(rt, certificate, sink)?;
-    put_line_words(rt, certificate, question, &fault, sink)?;
-    put_silent_words(rt.alloc(), question, sink)?;
-    put_reason(sink, fault.number)
+    match check_again(rt.alloc(), question, lines) {
+        Ok(Some(fault)) => {
+            put_text_name(rt, certificate, words);
+            put_line_words(rt, certificate, question, &fault, words);
+            put_silent_words(rt.alloc(), question, words);
+            put_reason_words(fault.number, words);
+        }
+        Ok(None) => {}
+        Err(_) => words.fail(),
+    }
 }
 
 /// Writes what is wrong with a refutation that was denied.
@@ -254,17 +268,20 @@ fn put_denied_refutation<R: AllocGlobal + Files>(
     rt: &R,
     refutation: LinesAt<'_>,
     question: &Question<'_>,
-    sink: &mut Words,
-) -> Result<(), Fault> {
-    let Some(lines) = lines_again(rt, refutation)? else {
-        return put_unread_denial(refutation, sink);
+    words: &mut Words,
+) {
+    let Some(lines) = denied_again(rt, refutation, words) else {
+        return;
     };
-    let Some(fault) = confirm_again(rt.alloc(), question, lines)? else {
-        return Ok(());
-    };
-    put_text_name(rt, refutation, sink)?;
-    put_step_words(rt, refutation, question, &fault, sink)?;
-    put_reason(sink, fault.number)
+    match confirm_again(rt.alloc(), question, lines) {
+        Ok(Some(fault)) => {
+            put_text_name(rt, refutation, words);
+            put_step_words(rt, refutation, question, &fault, words);
+            put_reason_words(fault.number, words);
+        }
+        Ok(None) => {}
+        Err(_) => words.fail(),
+    }
 }
 
 /// Writes what a refusal is about: a place of a document, a line or a step of a text, or what stands in a stream.
@@ -272,27 +289,28 @@ fn put_refused_words<R: AllocGlobal + Files>(
     rt: &R,
     question: &Question<'_>,
     fault: &Fault,
-    sink: &mut Words,
-) -> Result<(), Fault> {
+    words: &mut Words,
+) {
     // A line that is too long can't be told, and a failed read is no place.
     if fault.number >= refusals::WANT_OF_MEMORY {
-        return Ok(());
+        return;
     }
     if fault.number < refusals::CERTIFICATE_FIRST {
-        return put_document_place(rt.alloc(), question, fault, sink);
+        put_document_place(rt.alloc(), question, fault, words);
+        return;
     }
     match question.asked {
         Asked::Replay(run) => {
-            put_bundled_name(run, sink)?;
-            put_step_words(rt, run, question, fault, sink)
+            put_bundled_name(run, words);
+            put_step_words(rt, run, question, fault, words);
         }
         Asked::Run { capture, schedule } => {
-            put_metering_words(rt, capture, schedule, question, fault, sink)
+            put_metering_words(rt, capture, schedule, question, fault, words);
         }
-        Asked::Collect(stream) => put_message_words(rt, stream, fault, sink),
-        Asked::Draw(Some(answer)) => put_undrawn_words(rt, answer, question, fault, sink),
-        Asked::Sum(totals) => put_unsummed_words(rt, totals, question, fault, sink),
-        _ => Ok(()),
+        Asked::Collect(stream) => put_message_words(rt, stream, fault, words),
+        Asked::Draw(Some(answer)) => put_undrawn_words(rt, answer, question, fault, words),
+        Asked::Sum(totals) => put_unsummed_words(rt, totals, question, fault, words),
+        _ => {}
     }
 }
 
@@ -303,15 +321,16 @@ fn put_undrawn_words<R: AllocGlobal + Files>(
     answer: LinesAt<'_>,
     question: &Question<'_>,
     fault: &Fault,
-    sink: &mut Words,
-) -> Result<(), Fault> {
+    words: &mut Words,
+) {
     if fault.number < refusals::REFUTATION_FIRST {
-        return put_line_words(rt, answer, question, fault, sink);
+        put_line_words(rt, answer, question, fault, words);
+        return;
     }
     if fault.number == refusals::REFUTATION_FORM && fault.place == Place::Line(1) {
-        put_text(sink, NO_ANSWER)?;
+        words.text(NO_ANSWER);
     }
-    put_step_words(rt, answer, question, fault, sink)
+    put_step_words(rt, answer, question, fault, words);
 }
 
 /// Writes what is wrong with a line of totals that aren't summed.
@@ -320,41 +339,28 @@ fn put_unsummed_words<R: AllocGlobal + Files>(
     totals: LinesAt<'_>,
     question: &Question<'_>,
     fault: &Fault,
-    sink: &mut Words,
-) -> Result<(), Fault> {
+    words: &mut Words,
+) {
     let Some(network) = question.network else {
-        return Ok(());
+        return;
     };
-    match lines_again(rt, totals)? {
-        Some(mut lines) => {
-            let octets = network.octets.unwrap_or(b"");
-            put_totals_words(rt.alloc(), octets, &mut lines, fault, sink)
-        }
-        None => put_lines_not_again(totals, sink),
+    if let Some(mut lines) = lines_or_words(rt, totals, words) {
+        let octets = network.octets.unwrap_or(b"");
+        let written = put_totals_words(rt.alloc(), octets, &mut lines, fault, words.sink());
+        words.note(written);
     }
 }
 
 /// Writes which document a refusal is about, and what stands there.
-fn put_document_place(
-    alloc: Global,
-    question: &Question<'_>,
-    fault: &Fault,
-    sink: &mut Words,
-) -> Result<(), Fault> {
+fn put_document_place(alloc: Global, question: &Question<'_>, fault: &Fault, words: &mut Words) {
     let Some(network) = question.network else {
-        return Ok(());
+        return;
     };
-    let Some(octets) = network.octets else {
-        return Ok(());
-    };
-    put_document_words(
-        alloc,
-        network.name,
-        octets,
-        question.named_traffic(),
-        fault,
-        sink,
-    )
+    if let Some(octets) = network.octets {
+        let traffic = question.named_traffic();
+        let written = put_document_words(alloc, network.name, octets, traffic, fault, words.sink());
+        words.note(written);
+    }
 }
 
 /// Writes what the line of a certificate is about.
@@ -363,16 +369,22 @@ fn put_line_words<R: AllocGlobal + Files>(
     certificate: LinesAt<'_>,
     question: &Question<'_>,
     fault: &Fault,
-    sink: &mut Words,
-) -> Result<(), Fault> {
+    words: &mut Words,
+) {
     let Some((network, traffic)) = question.both() else {
-        return Ok(());
+        return;
     };
-    match lines_again(rt, certificate)? {
-        Some(mut lines) => {
-            put_certificate_words(rt.alloc(), network, traffic, &mut lines, fault, sink)
-        }
-        None => put_lines_not_again(certificate, sink),
+    if let Some(mut lines) = lines_or_words(rt, certificate, words) {
+        let alloc = rt.alloc();
+        let written = put_certificate_words(
+            alloc,
+            network,
+            traffic,
+            &mut lines,
+            fault,
+            words.sink(),
+        );
+        words.note(written);
     }
 }
 
@@ -382,14 +394,15 @@ fn put_step_words<R: AllocGlobal + Files>(
     run: LinesAt<'_>,
     question: &Question<'_>,
     fault: &Fault,
-    sink: &mut Words,
-) -> Result<(), Fault> {
+    words: &mut Words,
+) {
     let Some((network, traffic)) = question.both() else {
-        return Ok(());
+        return;
     };
-    match lines_again(rt, run)? {
-        Some(mut lines) => put_run_words(rt.alloc(), network, traffic, &mut lines, fault, sink),
-        None => put_lines_not_again(run, sink),
+    if let Some(mut lines) = lines_or_words(rt, run, words) {
+        let alloc = rt.alloc();
+        let written = put_run_words(alloc, network, traffic, &mut lines, fault, words.sink());
+        words.note(written);
     }
 }
 
@@ -400,17 +413,17 @@ fn put_metering_words<R: AllocGlobal + Files>(
     schedule: &str,
     question: &Question<'_>,
     fault: &Fault,
-    sink: &mut Words,
-) -> Result<(), Fault> {
+    words: &mut Words,
+) {
     let lines = LinesAt::File(schedule);
     match fault.number {
         refusals::NOT_IN_NAMED_CLASS | refusals::IN_NO_CLASS => {
-            put_packet_words(rt, capture, lines, question, fault, sink)
+            put_packet_words(rt, capture, lines, question, fault, words);
         }
         refusals::CAPTURE_FORMAT..=refusals::LONG_CAPTURE_RECORD => {
-            put_captured_words(rt, capture, fault, sink)
+            put_captured_words(rt, capture, fault, words);
         }
-        _ => put_step_words(rt, lines, question, fault, sink),
+        _ => put_step_words(rt, lines, question, fault, words),
     }
 }
 
@@ -419,11 +432,11 @@ fn put_captured_words<R: AllocGlobal + Files>(
     rt: &R,
     capture: &str,
     fault: &Fault,
-    sink: &mut Words,
-) -> Result<(), Fault> {
-    match file_again(rt, capture) {
-        Some(mut file) => put_capture_words(rt.alloc(), &mut file, fault, sink),
-        None => put_not_again(capture, sink),
+    words: &mut Words,
+) {
+    if let Some(mut file) = file_or_words(rt, capture, words) {
+        let written = put_capture_words(rt.alloc(), &mut file, fault, words.sink());
+        words.note(written);
     }
 }
 
@@ -434,27 +447,25 @@ fn put_packet_words<R: AllocGlobal + Files>(
     schedule: LinesAt<'_>,
     question: &Question<'_>,
     fault: &Fault,
-    sink: &mut Words,
-) -> Result<(), Fault> {
+    words: &mut Words,
+) {
     let Some((network, traffic)) = question.both() else {
-        return Ok(());
+        return;
     };
-    let Some(frames) = file_again(rt, capture) else {
-        return put_not_again(capture, sink);
+    let Some(frames) = file_or_words(rt, capture, words) else {
+        return;
     };
-    match lines_again(rt, schedule)? {
-        Some(mut lines) => {
-            put_schedule_words(
-                rt.alloc(),
-                network,
-                traffic,
-                &mut lines,
-                frames,
-                fault,
-                sink,
-            )
-        }
-        None => put_lines_not_again(schedule, sink),
+    if let Some(mut lines) = lines_or_words(rt, schedule, words) {
+        let written = put_schedule_words(
+            rt.alloc(),
+            network,
+            traffic,
+            &mut lines,
+            frames,
+            fault,
+            words.sink(),
+        );
+        words.note(written);
     }
 }
 
@@ -463,11 +474,11 @@ fn put_message_words<R: AllocGlobal + Files>(
     rt: &R,
     stream: &str,
     fault: &Fault,
-    sink: &mut Words,
-) -> Result<(), Fault> {
-    match file_again(rt, stream) {
-        Some(mut file) => put_stream_words(rt.alloc(), &mut file, fault, sink),
-        None => put_not_again(stream, sink),
+    words: &mut Words,
+) {
+    if let Some(mut file) = file_or_words(rt, stream, words) {
+        let written = put_stream_words(rt.alloc(), &mut file, fault, words.sink());
+        words.note(written);
     }
 }
 
@@ -476,15 +487,15 @@ fn put_replayed_words<R: AllocGlobal + Files>(
     rt: &R,
     run: LinesAt<'_>,
     question: &Question<'_>,
-    sink: &mut Words,
-) -> Result<(), Fault> {
-    put_text(sink, REPLAYED)?;
+    words: &mut Words,
+) {
+    words.text(REPLAYED);
     let Some((network, traffic)) = question.both() else {
-        return Ok(());
+        return;
     };
-    match lines_again(rt, run)? {
-        Some(mut lines) => put_replay_words(rt.alloc(), network, traffic, &mut lines, sink),
-        None => Ok(()),
+    if let Some(mut lines) = lines_again(rt, run, words) {
+        let written = put_replay_words(rt.alloc(), network, traffic, &mut lines, words.sink());
+        words.note(written);
     }
 }
 
@@ -493,14 +504,12 @@ fn put_collected_words<R: AllocGlobal + Files>(
     rt: &R,
     stream: &str,
     question: &Question<'_>,
-    sink: &mut Words,
-) -> Result<(), Fault> {
-    put_text(sink, COLLECTED)?;
-    match (question.network_octets(), file_again(rt, stream)) {
-        (Some(network), Some(mut file)) => {
-            put_collection_words(rt.alloc(), network, &mut file, sink)
-        }
-        _ => Ok(()),
+    words: &mut Words,
+) {
+    words.text(COLLECTED);
+    if let (Some(network), Some(mut file)) = (question.network_octets(), file_again(rt, stream)) {
+        let written = put_collection_words(rt.alloc(), network, &mut file, words.sink());
+        words.note(written);
     }
 }
 
@@ -509,14 +518,15 @@ fn put_story<R: AllocGlobal + Files>(
     rt: &R,
     refutation: LinesAt<'_>,
     question: &Question<'_>,
-    sink: &mut Words,
-) -> Result<(), Fault> {
+    words: &mut Words,
+) {
     let Some((network, traffic)) = question.both() else {
-        return Ok(());
+        return;
     };
-    match lines_again(rt, refutation)? {
-        Some(mut lines) => put_refutation_story(rt.alloc(), network, traffic, &mut lines, sink),
-        None => put_lines_not_again(refutation, sink),
+    if let Some(mut lines) = lines_or_words(rt, refutation, words) {
+        let alloc = rt.alloc();
+        let written = put_refutation_story(alloc, network, traffic, &mut lines, words.sink());
+        words.note(written);
     }
 }
 
