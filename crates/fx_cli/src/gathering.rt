@@ -3,8 +3,8 @@
 use fx_base::{Fault, Outside, put_number, put_text};
 use std::alloc::Global;
 
-/// Words behind an answer. Where some can't be had, for want of memory or since what they are about can't be read once
-/// more, there are none at the end.
+/// Words behind an answer. Where some can't be had, for want of memory or since a read of what they are about fails, there
+/// are none at the end.
 #[derive(Drop)]
 pub(crate) struct Words {
     sink: Outside<Vec<u8>>,
@@ -28,7 +28,7 @@ impl Words {
     /// Notes whether words could be had.
     pub(crate) fn note(&mut self, outcome: Result<(), Fault>) {
         if outcome.is_err() {
-            self.failed = true;
+            self.fail();
         }
     }
 

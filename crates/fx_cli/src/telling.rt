@@ -77,10 +77,13 @@ fn put_words<R: AllocGlobal + Files>(
     words: &mut Words,
 ) {
     let question = question_of(call, notes);
-    match (outcome, &question) {
-        (Ok(answer), Some(question)) => put_answer_words(rt, question, *answer, words),
-        (Ok(_), None) => {}
-        (Err(fault), _) => {
+    match outcome {
+        Ok(answer) => {
+            if let Some(question) = &question {
+                put_answer_words(rt, question, *answer, words);
+            }
+        }
+        Err(fault) => {
             put_file_words(rt, call, notes, fault, words);
             match &question {
                 Some(question) => put_refused_words(rt, question, fault, words),
@@ -375,9 +378,8 @@ fn put_line_words<R: AllocGlobal + Files>(
         return;
     };
     if let Some(mut lines) = lines_or_words(rt, certificate, words) {
-        let alloc = rt.alloc();
         let written = put_certificate_words(
-            alloc,
+            rt.alloc(),
             network,
             traffic,
             &mut lines,
@@ -400,8 +402,14 @@ fn put_step_words<R: AllocGlobal + Files>(
         return;
     };
     if let Some(mut lines) = lines_or_words(rt, run, words) {
-        let alloc = rt.alloc();
-        let written = put_run_words(alloc, network, traffic, &mut lines, fault, words.sink());
+        let written = put_run_words(
+            rt.alloc(),
+            network,
+            traffic,
+            &mut lines,
+            fault,
+            words.sink(),
+        );
         words.note(written);
     }
 }
@@ -524,8 +532,7 @@ fn put_story<R: AllocGlobal + Files>(
         return;
     };
     if let Some(mut lines) = lines_or_words(rt, refutation, words) {
-        let alloc = rt.alloc();
-        let written = put_refutation_story(alloc, network, traffic, &mut lines, words.sink());
+        let written = put_refutation_story(rt.alloc(), network, traffic, &mut lines, words.sink());
         words.note(written);
     }
 }

@@ -118,7 +118,7 @@ impl Drop for Plan {
     }
 }
 
-/// What a plan is made of: behind a box, so that a function that holds a plan lets it go by one call.
+/// What a plan is made of, behind a box: a plan that is moved is one pointer.
 #[derive(Debug, Drop)]
 struct Parts {
     network: NetworkDocument,
