@@ -1,9 +1,9 @@
 //! Documents that were accepted, read again from their octets.
+use crate::story::Story;
 use fx_base::{Fault, entry_numbered, refusals};
 use fx_plan::{Plan, read_plan};
 use fx_traffic::{Traffic, read_traffic};
 use serde_json::Value;
-use std::alloc::{AllocError, Global};
 
 /// What two documents say.
 pub(crate) struct Documents {
@@ -26,69 +26,59 @@ impl Drop for Documents {
     }
 }
 
-/// The value that octets are the JSON text of, or none where they are no such text.
-pub(crate) fn value_again(alloc: Global, octets: &[u8]) -> Result<Option<Value>, AllocError> {
-    match Value::from_slice(alloc, octets) {
-        Ok(value) => Ok(Some(value)),
+/// The value that octets are the JSON text of, for a story, or none where they are no such text.
+pub(crate) fn value_again(story: &mut Story, octets: &[u8]) -> Option<Value> {
+    match Value::from_slice(story.alloc, octets) {
+        Ok(value) => Some(value),
         Err(error) => {
             if error.is_memory() {
-                return Err(AllocError);
+                story.fall_short();
             }
-            Ok(None)
+            None
         }
     }
 }
 
-/// What was read, or none where it is refused.
-pub(crate) fn unless_refused<T: Drop>(outcome: Result<T, Fault>) -> Result<Option<T>, AllocError> {
+/// What was read for a story, or none where it is refused.
+pub(crate) fn unless_refused<T: Drop>(story: &mut Story, outcome: Result<T, Fault>) -> Option<T> {
     match outcome {
-        Ok(value) => Ok(Some(value)),
+        Ok(value) => Some(value),
         Err(fault) => {
             if fault.number == refusals::WANT_OF_MEMORY {
-                return Err(AllocError);
+                story.fall_short();
             }
-            Ok(None)
+            None
         }
     }
 }
 
-/// The network that octets are the document of, or none where it is refused.
-pub(crate) fn plan_again(alloc: Global, network: &[u8]) -> Result<Option<Plan>, AllocError> {
-    match value_again(alloc, network)? {
-        Some(value) => unless_refused(read_plan(alloc, &value)),
-        None => Ok(None),
-    }
+/// The network that octets are the document of, for a story, or none where it is refused.
+pub(crate) fn plan_again(story: &mut Story, network: &[u8]) -> Option<Plan> {
+    let value = value_again(story, network)?;
+    let read = read_plan(story.alloc, &value);
+    unless_refused(story, read)
 }
 
 /// What both documents say, in a network that was accepted.
-fn with_traffic(
-    alloc: Global,
-    plan: Plan,
-    traffic: &[u8],
-) -> Result<Option<Documents>, AllocError> {
-    let Some(classes) = value_again(alloc, traffic)? else {
-        return Ok(None);
-    };
-    match unless_refused(read_traffic(alloc, &classes, &plan))? {
-        Some(traffic) => Ok(Some(Documents {
-            plan,
-            traffic,
-            classes,
-        })),
-        None => Ok(None),
-    }
+fn with_traffic(story: &mut Story, plan: Plan, traffic: &[u8]) -> Option<Documents> {
+    let classes = value_again(story, traffic)?;
+    let read = read_traffic(story.alloc, &classes, &plan);
+    let traffic = unless_refused(story, read)?;
+    Some(Documents {
+        plan,
+        traffic,
+        classes,
+    })
 }
 
-/// What both documents say, or none where one is refused.
+/// What both documents say, for a story, or none where one is refused.
 pub(crate) fn documents_again(
-    alloc: Global,
+    story: &mut Story,
     network: &[u8],
     traffic: &[u8],
-) -> Result<Option<Documents>, AllocError> {
-    match plan_again(alloc, network)? {
-        Some(plan) => with_traffic(alloc, plan, traffic),
-        None => Ok(None),
-    }
+) -> Option<Documents> {
+    let plan = plan_again(story, network)?;
+    with_traffic(story, plan, traffic)
 }
 
 /// The name of the class of this number, from 1.

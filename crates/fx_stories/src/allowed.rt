@@ -5,7 +5,6 @@ use crate::parts::tell_whole;
 use crate::pointers::last_member;
 use crate::story::{Story, between};
 use serde_json::Value;
-use std::alloc::{AllocError, Global};
 
 /// The members that objects of a network may have, by the member under which such an object stands, but for those that are
 /// refused with a number of their own.
@@ -331,29 +330,27 @@ fn example_at(place: &str, name: &str, is_network: bool) -> Option<&'static str>
 /// Tells a member that an object may not have: the nearest name that is allowed, or the names that are. The pointer
 /// leads to the member.
 pub(crate) fn tell_unknown_member(
-    alloc: Global,
     story: &mut Story,
     document: &Value,
     pointer: &str,
     is_network: bool,
-) -> Result<(), AllocError> {
+) {
     let Some((place, name)) = pointer.rsplit_once('/') else {
-        return Ok(());
+        return;
     };
     let Some(object) = document.pointer(place) else {
-        return Ok(());
+        return;
     };
     if let Some(example) = example_at(place, name, is_network) {
         tell_example(story, name, example, is_network);
-        return Ok(());
+        return;
     }
     let names = members_allowed(last_member(place), is_network);
-    match near_of(alloc, name, names)? {
+    match near_of(story, name, names) {
         Some(known) => tell_near(story, object, name, known),
         None => tell_free(story, object, name, names, one_required(last_member(place))),
     }
     if let (Some(member), true) = (object.get(name), place.is_empty()) {
         tell_whole(story, object, member, is_network);
     }
-    Ok(())
 }

@@ -51,7 +51,6 @@ fn split_at_value(line: &[u8]) -> Option<(Axis, u128)> {
 
 /// Tells where to split a region that something cuts.
 fn tell_cut(
-    alloc: Global,
     story: &mut Story,
     plan: &Plan,
     crossings: &[Crossing],
@@ -60,7 +59,7 @@ fn tell_cut(
     ensures err { IfErr result IsMemory }
 {
     let tables = tables_of(plan);
-    let mut scratch = Scratch::new(alloc, &tables)?;
+    let mut scratch = Scratch::new(story.alloc, &tables)?;
     if let Some((axis, at)) = cut(&mut scratch, &tables, crossings, region) {
         story.text("split the region by ");
         story.text(axis_word(axis));
@@ -114,7 +113,6 @@ fn is_of_packets(number: u16) -> bool {
 
 /// Tells the place of a region in its tree, and why it is refused with this number.
 fn tell_tree(
-    alloc: Global,
     story: &mut Story,
     documents: &Documents,
     target: &Target<'_>,
@@ -129,14 +127,13 @@ fn tell_tree(
         tell_following(story, &documents.plan, region, target.crossings);
     }
     if number == refusals::CUT_REGION {
-        tell_cut(alloc, story, &documents.plan, target.crossings, region)?;
+        tell_cut(story, &documents.plan, target.crossings, region)?;
     }
     Ok(())
 }
 
 /// Tells where the walk stands, and what is wrong there.
 fn tell_stand(
-    alloc: Global,
     story: &mut Story,
     documents: &Documents,
     targets: &[Target<'_>],
@@ -164,7 +161,7 @@ fn tell_stand(
         tell_item(story, &documents.plan, target, item);
     }
     tell_due(story, target, region, walk.version, &item, number);
-    tell_tree(alloc, story, documents, target, region, number)
+    tell_tree(story, documents, target, region, number)
 }
 
 /// Goes past the lines before the one of this number.
@@ -223,7 +220,6 @@ fn tell_form(story: &mut Story, line: &Line<'_>, number: u64, fault: u16) {
 
 /// Tells what a certificate's line of this number is about, over the documents.
 fn tell_certificate<C: Source>(
-    alloc: Global,
     story: &mut Story,
     documents: &Documents,
     certificate: &mut LineReader<C>,
@@ -232,9 +228,8 @@ fn tell_certificate<C: Source>(
 ) -> Result<(), Fault>
     ensures err { IfErr result IsUntold }
 {
-    let targets = documents.traffic.targets(alloc)?;
+    let targets = documents.traffic.targets(story.alloc)?;
     tell_among(
-        alloc,
         story,
         documents,
         certificate,
@@ -246,7 +241,6 @@ fn tell_certificate<C: Source>(
 
 /// Tells what a certificate's line of this number is about, over the documents and their paths.
 fn tell_among<C: Source>(
-    alloc: Global,
     story: &mut Story,
     documents: &Documents,
     certificate: &mut LineReader<C>,
@@ -256,7 +250,7 @@ fn tell_among<C: Source>(
 ) -> Result<(), Fault>
     ensures { IfErr result IsUntold }
 {
-    let mut walk = Walk::new(alloc);
+    let mut walk = Walk::new(story.alloc);
     go_before(&mut walk, targets, certificate, number)?;
     let item = tell_next(story, certificate, number, fault.number)?;
     if number == 1 {
@@ -266,12 +260,11 @@ fn tell_among<C: Source>(
         tell_behind_end(story, certificate);
         return Ok(());
     }
-    tell_stand(alloc, story, documents, targets, &walk, item, fault.number)
+    tell_stand(story, documents, targets, &walk, item, fault.number)
 }
 
 /// Tells what a certificate's line of this number is about.
 fn tell_refused<C: Source>(
-    alloc: Global,
     story: &mut Story,
     network: &[u8],
     traffic: &[u8],
@@ -281,10 +274,8 @@ fn tell_refused<C: Source>(
 ) -> Result<(), Fault>
     ensures { IfErr result IsUntold }
 {
-    match documents_again(alloc, network, traffic)? {
-        Some(documents) => {
-            tell_certificate(alloc, story, &documents, certificate, fault, number)
-        }
+    match documents_again(story, network, traffic) {
+        Some(documents) => { tell_certificate(story, &documents, certificate, fault, number) }
         None => Ok(()),
     }
 }
@@ -301,15 +292,7 @@ fn story_of<C: Source>(
 {
     let mut story = Story::new(alloc);
     if let Place::Line(number) = &fault.place {
-        tell_refused(
-            alloc,
-            &mut story,
-            network,
-            traffic,
-            certificate,
-            fault,
-            *number,
-        )?;
+        tell_refused(&mut story, network, traffic, certificate, fault, *number)?;
     }
     Ok(story)
 }

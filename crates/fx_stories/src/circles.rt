@@ -192,13 +192,12 @@ fn tell_way(story: &mut Story, links: &[NamedLink], way: &[usize], first: usize)
 }
 
 /// Tells the links of a circle that is there.
-fn tell_circle_of(
-    alloc: Global,
-    story: &mut Story,
-    network: &NetworkDocument,
-) -> Result<(), AllocError> {
-    let mut search = Search::new(alloc, network)?;
-    if let Some(first) = search.run()? {
+fn tell_circle_of(story: &mut Story, network: &NetworkDocument) {
+    let begun = Search::new(story.alloc, network);
+    let Some(mut search) = story.unless_short(begun) else {
+        return;
+    };
+    if let Some(Some(first)) = story.unless_short(search.run()) {
         tell_way(
             story,
             network.links.as_slice(),
@@ -206,17 +205,12 @@ fn tell_circle_of(
             first,
         );
     }
-    Ok(())
 }
 
 /// Tells the links of a circle of a network, one behind another, by their places in the list of links.
-pub(crate) fn tell_circle(
-    alloc: Global,
-    story: &mut Story,
-    network: &Value,
-) -> Result<(), AllocError> {
-    match unless_refused(read_network(alloc, network))? {
-        Some(network) => tell_circle_of(alloc, story, &network),
-        None => Ok(()),
+pub(crate) fn tell_circle(story: &mut Story, network: &Value) {
+    let read = read_network(story.alloc, network);
+    if let Some(network) = unless_refused(story, read) {
+        tell_circle_of(story, &network);
     }
 }

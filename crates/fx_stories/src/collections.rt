@@ -208,7 +208,7 @@ fn story_of<R: Source>(alloc: Global, network: &[u8], stream: &mut R) -> Result<
     ensures { IfErr result IsUntold }
 {
     let mut story = Story::new(alloc);
-    if let Some(plan) = plan_again(alloc, network)? {
+    if let Some(plan) = plan_again(&mut story, network) {
         let mut reading = Reading::counting(alloc, Counting::new(alloc, &plan)?);
         read_on(&mut reading, &mut story, stream)?;
         tell_counted(

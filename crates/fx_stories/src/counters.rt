@@ -5,7 +5,6 @@ use crate::pointers::{items_member, text_member, text_or_none};
 use crate::story::Story;
 use fx_elements::{Axis, Element, by_name};
 use serde_json::Value;
-use std::alloc::{AllocError, Global};
 
 /// The counters that have to be among the fields of a cache.
 const COUNTERS: [&str; 2] = ["octetDeltaCount", "packetDeltaCount"];
@@ -21,15 +20,10 @@ fn is_among(fields: &[Value], element: Element) -> bool {
 }
 
 /// Tells the fields of a layout whose element is misspelled, where it is nearest to this counter.
-fn tell_misspelled(
-    alloc: Global,
-    story: &mut Story,
-    fields: &[Value],
-    counter: &'static str,
-) -> Result<(), AllocError> {
+fn tell_misspelled(story: &mut Story, fields: &[Value], counter: &'static str) {
     for field in fields {
         if let Some(name) = text_member(field, "ieName") {
-            let is_near = near_of(alloc, name, &COUNTERS)? == Some(counter);
+            let is_near = near_of(story, name, &COUNTERS) == Some(counter);
             if is_near && by_name(name) == Element::Other {
                 story.text_quoted("field ", text_or_none(field, "name"));
                 story.text_quoted(" names no element that is read: ", name);
@@ -37,24 +31,18 @@ fn tell_misspelled(
             }
         }
     }
-    Ok(())
 }
 
 /// Tells which counters the layout of a cache lacks.
-pub(crate) fn tell_counters(
-    alloc: Global,
-    story: &mut Story,
-    layout: &Value,
-) -> Result<(), AllocError> {
+pub(crate) fn tell_counters(story: &mut Story, layout: &Value) {
     let fields = items_member(layout, "cacheField");
     for counter in COUNTERS {
         if !is_among(fields, by_name(counter)) {
             story.text("missing among the fields: ");
             story.sentence(counter);
-            tell_misspelled(alloc, story, fields, counter)?;
+            tell_misspelled(story, fields, counter);
         }
     }
-    Ok(())
 }
 
 /// The element of the whole addresses whose prefixes stand on an axis.
@@ -68,19 +56,14 @@ fn address_name(axis: Axis) -> &'static str {
 }
 
 /// Tells why a field of a cache can't be a flow key.
-pub(crate) fn tell_flow_key(
-    alloc: Global,
-    story: &mut Story,
-    field: &Value,
-) -> Result<(), AllocError> {
+pub(crate) fn tell_flow_key(story: &mut Story, field: &Value) {
     if let Element::Prefix(axis) = element_of(field) {
         story.text("its element is a prefix, and the flow keys of caches are whole: write ");
         story.text(address_name(axis));
         story.sentence(
             ", and the prefix with its prefixLength in the key of an aggregation or of the report",
         );
-        return Ok(());
+        return;
     }
-    let _of_axis = tell_element(alloc, story, field, false)?;
-    Ok(())
+    let _of_axis = tell_element(story, field, false);
 }

@@ -132,16 +132,13 @@ fn tell_devices(story: &mut Story, plan: &Plan, sights: &[Vec<Sight>]) {
 
 /// Tells the observation points that see no crossing of any path, though paths cross their interfaces in the other
 /// direction.
-pub(crate) fn tell_directions(
-    alloc: Global,
-    story: &mut Story,
-    documents: &Documents,
-    targets: &[Target<'_>],
-) -> Result<(), AllocError> {
-    let mut sights = no_sights(alloc, &documents.plan)?;
+pub(crate) fn tell_directions(story: &mut Story, documents: &Documents, targets: &[Target<'_>]) {
+    let none_yet = no_sights(story.alloc, &documents.plan);
+    let Some(mut sights) = story.unless_short(none_yet) else {
+        return;
+    };
     for target in targets {
         note_path(&mut sights, &documents.plan, target.crossings);
     }
     tell_devices(story, &documents.plan, sights.as_slice());
-    Ok(())
 }

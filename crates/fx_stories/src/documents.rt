@@ -24,7 +24,7 @@ use crate::story::Story;
 use crate::values::{tell_allowed, tell_wrong};
 use fx_base::{Fault, Place, Sink, put_text, refusals};
 use serde_json::Value;
-use std::alloc::{AllocError, Global};
+use std::alloc::Global;
 
 /// Tells what a refusal at a pointer into a network is about: which names name nothing there.
 fn tell_names(story: &mut Story, network: &Value, value: &Value, pointer: &str, number: u16) {
@@ -98,45 +98,26 @@ fn tell_wrong_kind(story: &mut Story, at: &ValueAt<'_>) {
 }
 
 /// Tells a value that is refused with this number, and what is wrong with it.
-fn tell_value_at(
-    alloc: Global,
-    story: &mut Story,
-    at: &ValueAt<'_>,
-    number: u16,
-) -> Result<(), AllocError> {
-    tell_value(alloc, story, at.value)?;
+fn tell_value_at(story: &mut Story, at: &ValueAt<'_>, number: u16) {
+    tell_value(story, at.value);
     match number {
         refusals::TOTAL_COUNTER => story.sentence(
             "it counts since the beginning; in its place stands octetDeltaCount or packetDeltaCount",
         ),
-        refusals::KEY_WITHOUT_AXIS => tell_flow_key(alloc, story, at.value)?,
+        refusals::KEY_WITHOUT_AXIS => tell_flow_key(story, at.value),
         refusals::WRONG_KIND => tell_wrong_kind(story, at),
-        _ => tell_wrong(
-            alloc,
-            story,
-            at.document,
-            at.pointer,
-            at.value,
-            at.is_network,
-        )?,
+        _ => tell_wrong(story, at.document, at.pointer, at.value, at.is_network),
     }
-    Ok(())
 }
 
 /// Tells what a refusal at a pointer is about.
-fn tell_at(
-    alloc: Global,
-    story: &mut Story,
-    refused: &Refused,
-    pointer: &str,
-    number: u16,
-) -> Result<(), AllocError> {
+fn tell_at(story: &mut Story, refused: &Refused, pointer: &str, number: u16) {
     let document = match &refused.traffic {
         Some(traffic) => traffic,
         None => &refused.network,
     };
     let Some(value) = document.pointer(pointer) else {
-        return Ok(());
+        return;
     };
     let at = ValueAt {
         document,
@@ -146,79 +127,60 @@ fn tell_at(
     };
     match number {
         refusals::UNKNOWN_MEMBER => {
-            tell_unknown_member(alloc, story, document, pointer, at.is_network)?;
+            tell_unknown_member(story, document, pointer, at.is_network);
         }
         refusals::MISSING_MEMBER => {
             tell_lacking(story, value, last_member(pointer), at.is_network);
         }
-        refusals::MISSING_COUNTER => tell_counters(alloc, story, value)?,
-        refusals::TOO_MANY_LAYOUTS => tell_layouts(alloc, story, value)?,
+        refusals::MISSING_COUNTER => tell_counters(story, value),
+        refusals::TOO_MANY_LAYOUTS => tell_layouts(story, value),
         refusals::TOO_MANY_ENTRIES | refusals::TOO_MUCH_TRAFFIC => {
             tell_entries(story, pointer, value, at.is_network);
         }
-        _ if is_of_value(number) => tell_value_at(alloc, story, &at, number)?,
+        _ if is_of_value(number) => tell_value_at(story, &at, number),
         _ => tell_names(story, &refused.network, value, pointer, number),
     }
-    Ok(())
 }
 
 /// Tells what a refusal of a document is about.
-fn tell_refused(
-    alloc: Global,
-    story: &mut Story,
-    refused: &Refused,
-    fault: &Fault,
-) -> Result<(), AllocError> {
+fn tell_refused(story: &mut Story, refused: &Refused, fault: &Fault) {
     match &fault.place {
         Place::Text(text) if fault.number == refusals::LINK_CYCLE => {
             tell_cycle(story, &refused.network, text.as_str());
-            tell_circle(alloc, story, &refused.network)
+            tell_circle(story, &refused.network);
         }
-        Place::Text(text) => tell_at(alloc, story, refused, text.as_str(), fault.number),
-        Place::None => tell_at(alloc, story, refused, "", fault.number),
-        _ => Ok(()),
+        Place::Text(text) => tell_at(story, refused, text.as_str(), fault.number),
+        Place::None => tell_at(story, refused, "", fault.number),
+        _ => {}
     }
 }
 
 /// Tells what the refusal of a network is about.
-fn tell_network(
-    alloc: Global,
-    story: &mut Story,
-    network: &[u8],
-    fault: &Fault,
-) -> Result<(), AllocError> {
-    match value_again(alloc, network)? {
+fn tell_network(story: &mut Story, network: &[u8], fault: &Fault) {
+    match value_again(story, network) {
         Some(network) => {
             let refused = Refused {
                 network,
                 traffic: None,
             };
-            tell_refused(alloc, story, &refused, fault)
+            tell_refused(story, &refused, fault);
         }
-        None => tell_json(alloc, story, network, true),
+        None => tell_json(story, network, true),
     }
 }
 
 /// Tells what the refusal of a traffic declaration is about.
-fn tell_traffic(
-    alloc: Global,
-    story: &mut Story,
-    network: &[u8],
-    traffic: &[u8],
-    fault: &Fault,
-) -> Result<(), AllocError> {
-    let Some(declared) = value_again(alloc, traffic)? else {
-        return tell_json(alloc, story, traffic, false);
+fn tell_traffic(story: &mut Story, network: &[u8], traffic: &[u8], fault: &Fault) {
+    let Some(declared) = value_again(story, traffic) else {
+        tell_json(story, traffic, false);
+        return;
     };
-    match value_again(alloc, network)? {
-        Some(network) => {
-            let refused = Refused {
-                network,
-                traffic: Some(declared),
-            };
-            tell_refused(alloc, story, &refused, fault)
-        }
-        None => Ok(()),
+    if let Some(network) = value_again(story, network) {
+        let refused = Refused {
+            network,
+            traffic: Some(declared),
+        };
+        tell_refused(story, &refused, fault);
     }
 }
 
@@ -229,18 +191,18 @@ fn story_of(
     network: &[u8],
     traffic: Option<(&str, &[u8])>,
     fault: &Fault,
-) -> Result<Story, AllocError> {
+) -> Story {
     let mut story = Story::new(alloc);
-    if plan_again(alloc, network)?.is_none() {
+    if plan_again(&mut story, network).is_none() {
         story.text("file: ");
         story.sentence(name);
-        tell_network(alloc, &mut story, network, fault)?;
+        tell_network(&mut story, network, fault);
     } else if let Some((name, traffic)) = traffic {
         story.text("file: ");
         story.sentence(name);
-        tell_traffic(alloc, &mut story, network, traffic, fault)?;
+        tell_traffic(&mut story, network, traffic, fault);
     }
-    Ok(story)
+    story
 }
 
 /// Writes in sentences what a refusal of a document, 101 to 115, 201 to 207 or 301 to 305, is about: the name of the
@@ -268,6 +230,6 @@ pub fn put_document_words<S: Sink>(
     ensures err { IfErr result (λ e. (IsMemory e × (sink.new ≡ sink.old))
         ⊎ IsWriteFault (S.failed sink.new) e) }
 {
-    let story = story_of(alloc, network_name, network, traffic, fault)?;
+    let story = story_of(alloc, network_name, network, traffic, fault);
     put_text(sink, story.octets()?)
 }

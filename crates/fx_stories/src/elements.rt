@@ -5,7 +5,6 @@ use crate::pointers::{text_member, text_or_none};
 use crate::story::{Story, between};
 use fx_elements::{Element, by_id, by_name};
 use serde_json::Value;
-use std::alloc::{AllocError, Global};
 
 /// How many octets of a value are told.
 const TOLD: usize = 200;
@@ -127,10 +126,10 @@ fn tell_choice(story: &mut Story, prefixes: bool) {
 }
 
 /// The nearest name to that which an object gives to its element, where no element has that name.
-fn near_name(alloc: Global, object: &Value) -> Result<Option<&'static str>, AllocError> {
+fn near_name(story: &mut Story, object: &Value) -> Option<&'static str> {
     match text_member(object, "ieName") {
-        Some(name) if by_name(name) == Element::Other => near_of(alloc, name, &NAMES),
-        _ => Ok(None),
+        Some(name) if by_name(name) == Element::Other => near_of(story, name, &NAMES),
+        _ => None,
     }
 }
 
@@ -166,55 +165,46 @@ fn is_registered(name: &str) -> bool {
 
 /// Tells the fields of a layout whose elements are misspelled, of a cache of a device.
 pub(crate) fn tell_misspelled_fields(
-    alloc: Global,
     story: &mut Story,
     device: &str,
     cache: &str,
     fields: &[Value],
-) -> Result<(), AllocError> {
+) {
     for field in fields {
-        if let Some(known) = near_name(alloc, field)? {
+        if let Some(known) = near_name(story, field) {
             if !is_of_enterprise(field) && !is_registered(text_or_none(field, "ieName")) {
                 tell_misspelled(story, device, cache, field, known);
             }
         }
     }
-    Ok(())
 }
 
 /// Tells what is wrong with the element that an object names, where packets aren't told apart by it: the nearest name,
 /// or the elements by which they are, those of prefixes only where these may stand there. Answers whether packets are
 /// told apart by it.
-pub(crate) fn tell_element(
-    alloc: Global,
-    story: &mut Story,
-    object: &Value,
-    prefixes: bool,
-) -> Result<bool, AllocError> {
+pub(crate) fn tell_element(story: &mut Story, object: &Value, prefixes: bool) -> bool {
     if is_of_axis(element_of(object)) {
-        return Ok(true);
+        return true;
     }
-    match near_name(alloc, object)? {
+    match near_name(story, object) {
         Some(known) => tell_near(story, text_or_none(object, "ieName"), known),
         None => {
             tell_no_axis(story, object);
             tell_choice(story, prefixes);
         }
     }
-    Ok(false)
+    false
 }
 
 /// Tells a value that isn't allowed, as far as it is short.
-pub(crate) fn tell_value(
-    alloc: Global,
-    story: &mut Story,
-    value: &Value,
-) -> Result<(), AllocError> {
-    let text = value.to_string(alloc)?;
+pub(crate) fn tell_value(story: &mut Story, value: &Value) {
+    let text = value.to_string(story.alloc);
+    let Some(text) = story.unless_short(text) else {
+        return;
+    };
     let octets = text.as_bytes();
     let end = octets.len().min(TOLD);
     story.text("the value there: ");
     story.octets_of(&octets[..end]);
     story.end_line();
-    Ok(())
 }

@@ -69,19 +69,20 @@ fn tell_names(story: &mut Story, names: &[&str], nearest: Option<&str>) {
 
 /// Tells at which interfaces the observation points of a device are, behind one at which none is.
 pub(crate) fn tell_watched_interfaces(
-    alloc: Global,
     story: &mut Story,
     points: &[ObservationPoint],
     interface: &str,
-) -> Result<(), AllocError> {
-    let names = interfaces_of(alloc, points)?;
+) {
+    let names = interfaces_of(story.alloc, points);
+    let Some(names) = story.unless_short(names) else {
+        return;
+    };
     if names.is_empty() {
         story.sentence("; the device has none");
-        return Ok(());
+        return;
     }
-    let nearest = near_of(alloc, interface, names.as_slice())?;
+    let nearest = near_of(story, interface, names.as_slice());
     story.text("; those of the device are at ");
     tell_names(story, names.as_slice(), nearest);
     story.end_line();
-    Ok(())
 }

@@ -4,7 +4,6 @@ use crate::other_files::tell_other_file;
 use crate::places::{number16, number32, octet_at};
 use crate::story::Story;
 use serde_json::{Error, Value};
-use std::alloc::{AllocError, Global};
 
 /// How many octets before a place are told.
 const TOLD: usize = 60;
@@ -138,14 +137,11 @@ fn tell_beginning(story: &mut Story, octets: &[u8], is_network: bool) -> bool {
 }
 
 /// Tells where an error stands, its reason, and what stands there.
-fn tell_error(
-    alloc: Global,
-    story: &mut Story,
-    octets: &[u8],
-    error: &Error,
-    is_network: bool,
-) -> Result<(), AllocError> {
-    let text = format!(in alloc; "{error}")?;
+fn tell_error(story: &mut Story, octets: &[u8], error: &Error, is_network: bool) {
+    let text = format!(in story.alloc; "{error}");
+    let Some(text) = story.unless_short(text) else {
+        return;
+    };
     let reason = reason_in(text.as_str());
     tell_reason(story, error.line(), error.column(), reason);
     if !tell_beginning(story, octets, is_network) {
@@ -153,19 +149,13 @@ fn tell_error(
         let place = place_of(octets, error.line(), error.column(), reason);
         tell_fault(story, octets, place);
     }
-    Ok(())
 }
 
 /// Tells why octets are no JSON text, if they aren't, where a network or a traffic declaration is due.
-pub(crate) fn tell_json(
-    alloc: Global,
-    story: &mut Story,
-    octets: &[u8],
-    is_network: bool,
-) -> Result<(), AllocError> {
-    match Value::from_slice(alloc, octets) {
-        Ok(_) => Ok(()),
-        Err(error) if error.is_memory() => Err(AllocError),
-        Err(error) => tell_error(alloc, story, octets, &error, is_network),
+pub(crate) fn tell_json(story: &mut Story, octets: &[u8], is_network: bool) {
+    match Value::from_slice(story.alloc, octets) {
+        Ok(_) => {}
+        Err(error) if error.is_memory() => story.fall_short(),
+        Err(error) => tell_error(story, octets, &error, is_network),
     }
 }

@@ -4,7 +4,7 @@ use crate::story::Story;
 use fx_layout::Layout;
 use fx_topology::{NetworkDevice, NetworkDocument, read_network};
 use serde_json::Value;
-use std::alloc::{AllocError, Global};
+use std::alloc::AllocError;
 
 /// Whether a key is one of these.
 fn is_among(known: &[Layout], key: &Layout) -> bool {
@@ -49,29 +49,20 @@ fn add_network(known: &mut Vec<Layout>, network: &NetworkDocument) -> Result<(),
 }
 
 /// Tells how many different keys a network has.
-fn tell_keys(
-    alloc: Global,
-    story: &mut Story,
-    network: &NetworkDocument,
-) -> Result<(), AllocError> {
-    let mut known = Vec::new(alloc);
-    add_network(&mut known, network)?;
+fn tell_keys(story: &mut Story, network: &NetworkDocument) {
+    let mut known = Vec::new(story.alloc);
+    let _added = story.unless_short(add_network(&mut known, network));
     story.text_number(
         "different keys of caches, of aggregations and of the report: ",
         known.len() as u64,
     );
     story.sentence("; at most 64 are allowed");
-    Ok(())
 }
 
 /// Tells how many different keys the caches, the aggregations and the report of a network have, and how many they may have.
-pub(crate) fn tell_layouts(
-    alloc: Global,
-    story: &mut Story,
-    network: &Value,
-) -> Result<(), AllocError> {
-    match unless_refused(read_network(alloc, network))? {
-        Some(network) => tell_keys(alloc, story, &network),
-        None => Ok(()),
+pub(crate) fn tell_layouts(story: &mut Story, network: &Value) {
+    let read = read_network(story.alloc, network);
+    if let Some(network) = unless_refused(story, read) {
+        tell_keys(story, &network);
     }
 }

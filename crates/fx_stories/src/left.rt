@@ -6,12 +6,12 @@ use crate::again::Documents;
 use crate::crossings::tell_numbered;
 use crate::lines::unless_wrong;
 use crate::story::Story;
-use crate::trying::{Waiting, refusal_of};
+use crate::trying::{Waiting, choice_of_nothing, refusal_of};
 use fx_base::{Fault, refusals};
 use fx_config::CollectingProcess;
 use fx_machine::State;
 use fx_plan::Plan;
-use fx_run_text::{Choices, Step};
+use fx_run_text::Step;
 use fx_tables::{Crossing, HolderName, Packet};
 use fx_topology::{NamedLink, NetworkDevice};
 use std::alloc::{AllocError, Global};
@@ -22,7 +22,6 @@ const TOLD: u64 = 20;
 /// The end of a run.
 #[derive(Drop)]
 struct End<'a, 'b> {
-    alloc: Global,
     state: &'a mut State<'b>,
     /// How many crossings are to come.
     to_come: u64,
@@ -31,8 +30,13 @@ struct End<'a, 'b> {
 impl End<'_, '_> {
     /// Whether a crossing of a packet is to come. It is tried with a choice of what is numbered 0, which nothing is, so that
     /// the step is refused in any case.
-    fn is_to_come(&mut self, packet: u64, crossing: u64) -> Result<bool, AllocError> {
-        let choices = Choices::new(vec![in self.alloc; Some(0)]?);
+    fn is_to_come(
+        &mut self,
+        alloc: Global,
+        packet: u64,
+        crossing: u64,
+    ) -> Result<bool, AllocError> {
+        let choices = choice_of_nothing(alloc)?;
         let step = Step::Cross {
             packet,
             crossing,
@@ -49,10 +53,11 @@ impl End<'_, '_> {
         packet: u64,
         crossings: &[Crossing],
         is_numbered: bool,
-    ) -> Result<(), AllocError> {
+    ) {
         for place in 0..crossings.len() {
             let number = place as u64 + 1;
-            if self.is_to_come(packet, number)? {
+            let is_to_come = self.is_to_come(story.alloc, packet, number);
+            if story.unless_short(is_to_come) == Some(true) {
                 self.to_come = self.to_come.saturating_add(1);
                 if self.to_come <= TOLD {
                     if is_numbered {
@@ -64,16 +69,10 @@ impl End<'_, '_> {
                 }
             }
         }
-        Ok(())
     }
 
     /// Tells which crossings of packets are to come.
-    fn tell_all_to_come(
-        &mut self,
-        story: &mut Story,
-        documents: &Documents,
-        packets: &[Packet],
-    ) -> Result<(), AllocError> {
+    fn tell_all_to_come(&mut self, story: &mut Story, documents: &Documents, packets: &[Packet]) {
         let is_numbered = packets.len() > 1;
         for place in 0..packets.len() {
             let crossings = documents.traffic.classes().path_of(&packets[place]);
@@ -83,7 +82,7 @@ impl End<'_, '_> {
                 place as u64 + 1,
                 crossings,
                 is_numbered,
-            )?;
+            );
         }
         if self.to_come > TOLD {
             story.text_number(
@@ -92,38 +91,34 @@ impl End<'_, '_> {
             );
             story.end_line();
         }
-        Ok(())
     }
 
     /// Makes these steps, as far as they can be made.
-    fn make(&mut self, steps: &[Step]) -> Result<(), AllocError> {
+    fn make(&mut self, story: &mut Story, steps: &[Step]) {
         for step in steps {
-            if refusal_of(self.state, step)?.is_some() {
-                return Ok(());
+            let refusal = refusal_of(self.state, step);
+            if story.unless_short(refusal) != Some(None) {
+                return;
             }
         }
-        Ok(())
     }
 
-    /// How many records are left there.
-    fn count(&mut self, waiting: Waiting) -> Result<u64, AllocError> {
-        waiting.count(self.alloc, self.state)
+    /// How many records are left there, as far as that can be learned.
+    fn count(&mut self, story: &mut Story, waiting: Waiting) -> u64 {
+        let count = waiting.count(story.alloc, self.state);
+        story.unless_short(count).unwrap_or(0)
     }
 
     /// Tells the records that are left in the caches of a device, which is of this number.
-    fn tell_caches(
-        &mut self,
-        story: &mut Story,
-        device: &NetworkDevice,
-        number: u64,
-    ) -> Result<(), AllocError> {
+    fn tell_caches(&mut self, story: &mut Story, device: &NetworkDevice, number: u64) {
         let caches = device.config.caches.as_slice();
         for place in 0..caches.len() {
             let cache = place as u64 + 1;
-            let count = self.count(Waiting::Holder(HolderName::Cache {
+            let holder = HolderName::Cache {
                 device: number,
                 cache,
-            }))?;
+            };
+            let count = self.count(story, Waiting::Holder(holder));
             if count > 0 {
                 story.text_quoted("cache ", caches[place].name.as_str());
                 story.text(" of ");
@@ -134,7 +129,6 @@ impl End<'_, '_> {
                 story.sentence(" 1 CHOICES");
             }
         }
-        Ok(())
     }
 
     /// Tells the records that are left in the aggregations of a collecting process, which is of this number on its device.
@@ -144,15 +138,16 @@ impl End<'_, '_> {
         process: &CollectingProcess,
         device: u64,
         number: u64,
-    ) -> Result<(), AllocError> {
+    ) {
         let aggregations = process.aggregations.as_slice();
         for place in 0..aggregations.len() {
             let aggregation = place as u64 + 1;
-            let count = self.count(Waiting::Holder(HolderName::Aggregation {
+            let holder = HolderName::Aggregation {
                 device,
                 process: number,
                 aggregation,
-            }))?;
+            };
+            let count = self.count(story, Waiting::Holder(holder));
             if count > 0 {
                 story.text_quoted("aggregation ", aggregations[place].name.as_str());
                 story.text_quoted(" of collecting process ", process.name.as_str());
@@ -163,28 +158,21 @@ impl End<'_, '_> {
                 story.sentence(" 1 CHOICES");
             }
         }
-        Ok(())
     }
 
     /// Tells the records that are left in the aggregations of a device, which is of this number.
-    fn tell_processes(
-        &mut self,
-        story: &mut Story,
-        device: &NetworkDevice,
-        number: u64,
-    ) -> Result<(), AllocError> {
+    fn tell_processes(&mut self, story: &mut Story, device: &NetworkDevice, number: u64) {
         let processes = device.config.collecting_processes.as_slice();
         for place in 0..processes.len() {
-            self.tell_aggregations(story, &processes[place], number, place as u64 + 1)?;
+            self.tell_aggregations(story, &processes[place], number, place as u64 + 1);
         }
-        Ok(())
     }
 
     /// Tells the records that are left on links.
-    fn tell_links(&mut self, story: &mut Story, links: &[NamedLink]) -> Result<(), AllocError> {
+    fn tell_links(&mut self, story: &mut Story, links: &[NamedLink]) {
         for place in 0..links.len() {
             let number = place as u64 + 1;
-            let count = self.count(Waiting::Link(number))?;
+            let count = self.count(story, Waiting::Link(number));
             if count > 0 {
                 story.text_quoted(
                     "on the link to collecting process ",
@@ -197,20 +185,19 @@ impl End<'_, '_> {
                 story.sentence(" 1 CHOICES");
             }
         }
-        Ok(())
     }
 }
 
 /// Tells the records that are left in caches, in aggregations and on links.
-fn tell_left(story: &mut Story, plan: &Plan, end: &mut End<'_, '_>) -> Result<(), AllocError> {
+fn tell_left(story: &mut Story, plan: &Plan, end: &mut End<'_, '_>) {
     let network = plan.network();
     let devices = network.devices.as_slice();
     for place in 0..devices.len() {
         let number = place as u64 + 1;
-        end.tell_caches(story, &devices[place], number)?;
-        end.tell_processes(story, &devices[place], number)?;
+        end.tell_caches(story, &devices[place], number);
+        end.tell_processes(story, &devices[place], number);
     }
-    end.tell_links(story, network.links.as_slice())
+    end.tell_links(story, network.links.as_slice());
 }
 
 /// Makes these steps, as far as they can be made, and tells what they leave undone.
@@ -220,16 +207,15 @@ fn tell_after(
     packets: &[Packet],
     steps: &[Step],
     end: &mut End<'_, '_>,
-) -> Result<(), AllocError> {
-    end.make(steps)?;
-    end.tell_all_to_come(story, documents, packets)?;
-    tell_left(story, &documents.plan, end)
+) {
+    end.make(story, steps);
+    end.tell_all_to_come(story, documents, packets);
+    tell_left(story, &documents.plan, end);
 }
 
 /// Tells what a run of these packets leaves undone: which crossings are to come, the first 20 of them, and which records
 /// are held or on links.
 pub(crate) fn tell_undone(
-    alloc: Global,
     story: &mut Story,
     documents: &Documents,
     packets: &[Packet],
@@ -237,16 +223,16 @@ pub(crate) fn tell_undone(
 ) -> Result<(), Fault>
     ensures { IfErr result IsUntold }
 {
-    let copied = Vec::from_slice(alloc, packets)?;
+    let copied = Vec::from_slice(story.alloc, packets)?;
     let classes = documents.traffic.classes();
-    let opened = State::open(alloc, documents.plan.net(), classes, copied);
+    let opened = State::open(story.alloc, documents.plan.net(), classes, copied);
     let Some(mut state) = unless_wrong(opened)? else {
         return Ok(());
     };
     let mut end = End {
-        alloc,
         state: &mut state,
         to_come: 0,
     };
-    Ok(tell_after(story, documents, packets, steps, &mut end)?)
+    tell_after(story, documents, packets, steps, &mut end);
+    Ok(())
 }

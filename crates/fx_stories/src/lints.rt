@@ -16,22 +16,21 @@ use crate::unseen::tell_unseen;
 use crate::unused::tell_unused;
 use fx_base::{Fault, Sink, put_text};
 use fx_traffic::Target;
-use std::alloc::{AllocError, Global};
+use std::alloc::Global;
 
 /// Tells what is read in silence in a network's document.
-fn tell_network(alloc: Global, story: &mut Story, network: &[u8]) -> Result<(), AllocError> {
-    let Some(value) = value_again(alloc, network)? else {
-        return Ok(());
+fn tell_network(story: &mut Story, network: &[u8]) {
+    let Some(value) = value_again(story, network) else {
+        return;
     };
-    tell_twice(alloc, story, "network", network)?;
+    tell_twice(story, "network", network);
     tell_unread_members(story, &value);
-    tell_unread_fields(alloc, story, &value)?;
+    tell_unread_fields(story, &value);
     tell_prefixes(story, &value);
-    if let Some(plan) = plan_again(alloc, network)? {
+    if let Some(plan) = plan_again(story, network) {
         tell_unused(story, &plan);
         tell_excluding(story, &plan);
     }
-    Ok(())
 }
 
 /// Tells which classes are exempt, or that there is no class.
@@ -51,44 +50,30 @@ fn tell_classes(story: &mut Story, documents: &Documents) {
 }
 
 /// Tells which crossings of paths no observation point sees, or none in their direction.
-fn tell_targets(
-    alloc: Global,
-    story: &mut Story,
-    documents: &Documents,
-    targets: &[Target<'_>],
-) -> Result<(), AllocError> {
-    tell_unseen(alloc, story, documents, targets)?;
-    tell_directions(alloc, story, documents, targets)
+fn tell_targets(story: &mut Story, documents: &Documents, targets: &[Target<'_>]) {
+    tell_unseen(story, documents, targets);
+    tell_directions(story, documents, targets);
 }
 
 /// Tells what a traffic declaration says in silence, and its classes.
-fn tell_declared(
-    alloc: Global,
-    story: &mut Story,
-    traffic: &[u8],
-    documents: &Documents,
-) -> Result<(), Fault>
+fn tell_declared(story: &mut Story, traffic: &[u8], documents: &Documents) -> Result<(), Fault>
     ensures { IfErr result IsMemory }
 {
-    tell_twice(alloc, story, "traffic", traffic)?;
+    tell_twice(story, "traffic", traffic);
     tell_classes(story, documents);
     tell_prefixes_of_classes(story, &documents.classes);
     tell_overlapping(story, documents);
-    let targets = documents.traffic.targets(alloc)?;
-    Ok(tell_targets(alloc, story, documents, targets.as_slice())?)
+    let targets = documents.traffic.targets(story.alloc)?;
+    tell_targets(story, documents, targets.as_slice());
+    Ok(())
 }
 
 /// Tells what is read in silence in a traffic declaration.
-fn tell_traffic(
-    alloc: Global,
-    story: &mut Story,
-    network: &[u8],
-    traffic: &[u8],
-) -> Result<(), Fault>
+fn tell_traffic(story: &mut Story, network: &[u8], traffic: &[u8]) -> Result<(), Fault>
     ensures { IfErr result IsMemory }
 {
-    match documents_again(alloc, network, traffic)? {
-        Some(documents) => tell_declared(alloc, story, traffic, &documents),
+    match documents_again(story, network, traffic) {
+        Some(documents) => tell_declared(story, traffic, &documents),
         None => Ok(()),
     }
 }
@@ -98,9 +83,9 @@ fn story_of(alloc: Global, network: &[u8], traffic: Option<&[u8]>) -> Result<Sto
     ensures { IfErr result IsMemory }
 {
     let mut story = Story::new(alloc);
-    tell_network(alloc, &mut story, network)?;
+    tell_network(&mut story, network);
     if let Some(traffic) = traffic {
-        tell_traffic(alloc, &mut story, network, traffic)?;
+        tell_traffic(&mut story, network, traffic)?;
     }
     Ok(story)
 }

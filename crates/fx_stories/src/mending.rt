@@ -196,29 +196,31 @@ fn origins_along<'a>(
 }
 
 /// Tells what to do about a packet whose totals are wrong, with these of its records' ways to the report.
-fn tell_along(
-    story: &mut Story,
-    wrong: &Wrong<'_>,
-    ways: &Ways,
-    counted: u64,
-) -> Result<(), AllocError> {
-    let sightings = wrong.origins.held.reported(ways)?;
+fn tell_along(story: &mut Story, wrong: &Wrong<'_>, ways: &Ways, counted: u64) {
+    let sightings = wrong.origins.held.reported(ways);
+    let Some(sightings) = story.unless_short(sightings) else {
+        return;
+    };
     story.text("what to do: ");
     wrong.tell(story, sightings.as_slice(), counted);
-    Ok(())
 }
 
 /// Tells what to do about a refutation whose run has these totals.
 pub(crate) fn tell_mending(
-    alloc: Global,
     story: &mut Story,
     documents: &Documents,
     refutation: &Refutation,
     ran: &Totals,
-) -> Result<(), AllocError> {
+) {
     let packet = refutation.packet();
-    let origins = origins_along(alloc, documents, refutation)?;
-    let ways = origins.ways(alloc)?;
+    let origins = origins_along(story.alloc, documents, refutation);
+    let Some(origins) = story.unless_short(origins) else {
+        return;
+    };
+    let ways = origins.ways(story.alloc);
+    let Some(ways) = story.unless_short(ways) else {
+        return;
+    };
     let wrong = Wrong {
         documents,
         packet,
@@ -226,5 +228,5 @@ pub(crate) fn tell_mending(
         origins: &origins,
         parting: first_parting(ways.steps.as_slice()),
     };
-    tell_along(story, &wrong, &ways, counted(documents, packet, ran))
+    tell_along(story, &wrong, &ways, counted(documents, packet, ran));
 }

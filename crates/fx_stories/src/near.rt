@@ -1,4 +1,5 @@
 //! Names that a misspelled one may stand for.
+use crate::story::Story;
 use std::alloc::{AllocError, Global};
 use strsim::osa_distance;
 
@@ -46,22 +47,19 @@ fn reach(name: &str) -> usize {
 }
 
 /// The nearest of these names, if one is near: of several that are as near the first.
-pub(crate) fn near_of<'a>(
-    alloc: Global,
-    name: &str,
-    names: &[&'a str],
-) -> Result<Option<&'a str>, AllocError> {
+pub(crate) fn near_of<'a>(story: &mut Story, name: &str, names: &[&'a str]) -> Option<&'a str> {
     let mut nearest = None;
     let mut least = usize::MAX;
     if name.len() > COMPARED {
-        return Ok(None);
+        return None;
     }
     for known in names {
-        let apart = distance(alloc, name, known)?;
+        let measured = distance(story.alloc, name, known);
+        let apart = story.unless_short(measured).unwrap_or(usize::MAX);
         if apart < least && apart <= reach(known) {
             nearest = Some(*known);
             least = apart;
         }
     }
-    Ok(nearest)
+    nearest
 }

@@ -12,7 +12,6 @@ use fx_elements::{Words, is_word};
 use fx_plan::Plan;
 use fx_topology::{NamedLink, NetworkDevice};
 use fx_walk::Named;
-use std::alloc::Global;
 
 /// How many names or links are told.
 const TOLD: usize = 20;
@@ -194,7 +193,6 @@ fn tell_nothing_there(story: &mut Story, plan: &Plan, line: &[u8], read: u64) {
 
 /// Tells a line of a schedule for which nothing is there, and why.
 pub(crate) fn tell_unanswered<C: Source>(
-    alloc: Global,
     story: &mut Story,
     network: &[u8],
     lines: &mut LineReader<C>,
@@ -206,7 +204,7 @@ pub(crate) fn tell_unanswered<C: Source>(
     let read = taking_of(story, lines, Some(number))?
         .packets
         .saturating_sub(1);
-    if let Some(plan) = plan_again(alloc, network)? {
+    if let Some(plan) = plan_again(story, network) {
         tell_nothing_there(story, &plan, lines.line().bytes, read);
     }
     Ok(())

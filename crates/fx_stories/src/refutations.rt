@@ -61,23 +61,19 @@ fn tell_lacking(
 }
 
 /// Tells the steps of a packet's run, each in a sentence with its number.
-fn tell_steps(
-    alloc: Global,
-    story: &mut Story,
-    documents: &Documents,
-    packet: &Packet,
-    steps: &[Step],
-) -> Result<(), AllocError> {
-    let mut origins = origins_of(alloc, documents, packet)?;
+fn tell_steps(story: &mut Story, documents: &Documents, packet: &Packet, steps: &[Step]) {
+    let begun = origins_of(story.alloc, documents, packet);
+    let Some(mut origins) = story.unless_short(begun) else {
+        return;
+    };
     for place in 0..steps.len() {
         let step = &steps[place];
         story.number(place as u64 + 1);
         story.text(". ");
-        tell_step(alloc, story, documents, &[*packet], step)?;
+        tell_step(story, documents, &[*packet], step);
         tell_lacking(story, documents, packet, &origins, step);
-        origins.take(step)?;
+        let _taken = story.unless_short(origins.take(step));
     }
-    Ok(())
 }
 
 /// Whether at a step a record reaches the collecting process of the report.
@@ -125,7 +121,6 @@ fn tell_totals(story: &mut Story, totals: &Totals)
 
 /// Tells the totals of a refutation's run, the plain sums, and what to do about their difference.
 fn tell_compared(
-    alloc: Global,
     story: &mut Story,
     documents: &Documents,
     refutation: &Refutation,
@@ -140,21 +135,17 @@ fn tell_compared(
     tell_totals(story, ran);
     story.sentence("and it should hold");
     tell_totals(story, plain);
-    Ok(tell_mending(alloc, story, documents, refutation, ran)?)
+    tell_mending(story, documents, refutation, ran);
+    Ok(())
 }
 
 /// Tells what a refutation's run comes to, what it should come to, and what to do about it.
-fn tell_sums(
-    alloc: Global,
-    story: &mut Story,
-    documents: &Documents,
-    refutation: &Refutation,
-) -> Result<(), Fault>
+fn tell_sums(story: &mut Story, documents: &Documents, refutation: &Refutation) -> Result<(), Fault>
     ensures { IfErr result IsMemory }
 {
-    match confirm(alloc, &documents.plan, &documents.traffic, refutation) {
+    match confirm(story.alloc, &documents.plan, &documents.traffic, refutation) {
         Ok((mut ran, mut plain)) => {
-            tell_compared(alloc, story, documents, refutation, &mut ran, &mut plain)
+            tell_compared(story, documents, refutation, &mut ran, &mut plain)
         }
         Err(fault) => {
             if fault.number == refusals::WANT_OF_MEMORY {
@@ -166,22 +157,15 @@ fn tell_sums(
 }
 
 /// Tells the packet of a refutation, its steps, and at which of them a record reaches the report.
-fn tell_run(
-    alloc: Global,
-    story: &mut Story,
-    documents: &Documents,
-    refutation: &Refutation,
-) -> Result<(), AllocError> {
+fn tell_run(story: &mut Story, documents: &Documents, refutation: &Refutation) {
     let packet = refutation.packet();
     tell_packet(story, documents, packet);
-    tell_steps(alloc, story, documents, packet, refutation.steps())?;
+    tell_steps(story, documents, packet, refutation.steps());
     tell_reported(story, documents, refutation.steps());
-    Ok(())
 }
 
 /// Tells the run of a refutation, and what it leaves undone where it isn't complete.
 fn tell_run_left(
-    alloc: Global,
     story: &mut Story,
     documents: &Documents,
     refutation: &Refutation,
@@ -189,17 +173,16 @@ fn tell_run_left(
 ) -> Result<(), Fault>
     ensures { IfErr result IsUntold }
 {
-    tell_run(alloc, story, documents, refutation)?;
+    tell_run(story, documents, refutation);
     if fault == refusals::RUN_NOT_COMPLETE {
         let packets = [*refutation.packet()];
-        tell_undone(alloc, story, documents, &packets, refutation.steps())?;
+        tell_undone(story, documents, &packets, refutation.steps())?;
     }
     Ok(())
 }
 
 /// Tells the run of the refutation that lines say, over the documents.
 fn tell_unconfirmed_over<C: Source>(
-    alloc: Global,
     story: &mut Story,
     documents: &Documents,
     lines: &mut LineReader<C>,
@@ -207,8 +190,8 @@ fn tell_unconfirmed_over<C: Source>(
 ) -> Result<(), Fault>
     ensures { IfErr result IsUntold }
 {
-    match unless_wrong(read_refutation(alloc, lines))? {
-        Some(refutation) => tell_run_left(alloc, story, documents, &refutation, fault),
+    match unless_wrong(read_refutation(story.alloc, lines))? {
+        Some(refutation) => tell_run_left(story, documents, &refutation, fault),
         None => Ok(()),
     }
 }
@@ -218,7 +201,6 @@ fn tell_unconfirmed_over<C: Source>(
 ///
 /// Fails with 901 and 903 where the lines can't be read again, and with 900 for want of memory.
 pub(crate) fn tell_unconfirmed<C: Source>(
-    alloc: Global,
     story: &mut Story,
     network: &[u8],
     traffic: &[u8],
@@ -227,43 +209,40 @@ pub(crate) fn tell_unconfirmed<C: Source>(
 ) -> Result<(), Fault>
     ensures { IfErr result IsUntold }
 {
-    match documents_again(alloc, network, traffic)? {
-        Some(documents) => tell_unconfirmed_over(alloc, story, &documents, lines, fault),
+    match documents_again(story, network, traffic) {
+        Some(documents) => tell_unconfirmed_over(story, &documents, lines, fault),
         None => Ok(()),
     }
 }
 
 /// Tells a refutation over the documents.
 fn tell_refutation(
-    alloc: Global,
     story: &mut Story,
     documents: &Documents,
     refutation: &Refutation,
 ) -> Result<(), Fault>
     ensures { IfErr result IsMemory }
 {
-    tell_run(alloc, story, documents, refutation)?;
-    tell_sums(alloc, story, documents, refutation)
+    tell_run(story, documents, refutation);
+    tell_sums(story, documents, refutation)
 }
 
 /// Tells the refutation that lines say over the documents.
 fn tell_read<C: Source>(
-    alloc: Global,
     story: &mut Story,
     documents: &Documents,
     lines: &mut LineReader<C>,
 ) -> Result<(), Fault>
     ensures { IfErr result IsUntold }
 {
-    match unless_wrong(read_refutation(alloc, lines))? {
-        Some(refutation) => tell_refutation(alloc, story, documents, &refutation),
+    match unless_wrong(read_refutation(story.alloc, lines))? {
+        Some(refutation) => tell_refutation(story, documents, &refutation),
         None => Ok(()),
     }
 }
 
 /// Tells the refutation that lines say.
 fn tell_lines<C: Source>(
-    alloc: Global,
     story: &mut Story,
     network: &[u8],
     traffic: &[u8],
@@ -271,8 +250,8 @@ fn tell_lines<C: Source>(
 ) -> Result<(), Fault>
     ensures { IfErr result IsUntold }
 {
-    match documents_again(alloc, network, traffic)? {
-        Some(documents) => tell_read(alloc, story, &documents, lines),
+    match documents_again(story, network, traffic) {
+        Some(documents) => tell_read(story, &documents, lines),
         None => Ok(()),
     }
 }
@@ -287,7 +266,7 @@ fn story_of<C: Source>(
     ensures { IfErr result IsUntold }
 {
     let mut story = Story::new(alloc);
-    tell_lines(alloc, &mut story, network, traffic, refutation)?;
+    tell_lines(&mut story, network, traffic, refutation)?;
     Ok(story)
 }
 

@@ -13,22 +13,20 @@ use std::alloc::Global;
 
 /// Tells what the run that lines say leaves undone over the documents.
 fn tell_run<C: Source>(
-    alloc: Global,
     story: &mut Story,
     documents: &Documents,
     lines: &mut LineReader<C>,
 ) -> Result<(), Fault>
     ensures { IfErr result IsUntold }
 {
-    match unless_wrong(read_run(alloc, documents.traffic.classes(), lines))? {
-        Some(run) => tell_undone(alloc, story, documents, run.packets(), run.steps()),
+    match unless_wrong(read_run(story.alloc, documents.traffic.classes(), lines))? {
+        Some(run) => tell_undone(story, documents, run.packets(), run.steps()),
         None => Ok(()),
     }
 }
 
 /// Tells what the run that lines say leaves undone.
 fn tell_replayed<C: Source>(
-    alloc: Global,
     story: &mut Story,
     network: &[u8],
     traffic: &[u8],
@@ -36,8 +34,8 @@ fn tell_replayed<C: Source>(
 ) -> Result<(), Fault>
     ensures { IfErr result IsUntold }
 {
-    match documents_again(alloc, network, traffic)? {
-        Some(documents) => tell_run(alloc, story, &documents, lines),
+    match documents_again(story, network, traffic) {
+        Some(documents) => tell_run(story, &documents, lines),
         None => Ok(()),
     }
 }
@@ -52,7 +50,7 @@ fn story_of<C: Source>(
     ensures { IfErr result IsUntold }
 {
     let mut story = Story::new(alloc);
-    tell_replayed(alloc, &mut story, network, traffic, lines)?;
+    tell_replayed(&mut story, network, traffic, lines)?;
     Ok(story)
 }
 

@@ -1,7 +1,6 @@
 //! Why a run or a refutation is refused, in words.
 ghost use Rattle.std.specs.Prelude.{◌≡◌, ◌⊎◌, IfErr, OnOk};
 ghost use Rattle.fx_base.specs.Device.{IsWriteFault, KeepsGoing};
-ghost use Rattle.fx_base.specs.Fault.{IsMemory};
 ghost use Rattle.fx_stories.specs.Stories.{IsUntold, WritesStory};
 
 use crate::again::{Documents, documents_again};
@@ -19,16 +18,17 @@ use fx_machine::State;
 use fx_refute::read_refutation;
 use fx_run_text::{RunLine, Step, TextVersion, put_step_line, read_run, read_run_line};
 use fx_tables::Packet;
-use std::alloc::{AllocError, Global};
+use std::alloc::Global;
 
 /// The place of the first step that is refused and the number that it is refused with, or none where all can be made.
-fn refused_step(state: &mut State<'_>, steps: &[Step]) -> Result<Option<(usize, u16)>, AllocError> {
+fn refused_step(story: &mut Story, state: &mut State<'_>, steps: &[Step]) -> Option<(usize, u16)> {
     for place in 0..steps.len() {
-        if let Some(number) = refusal_of(state, &steps[place])? {
-            return Ok(Some((place, number)));
+        let refusal = refusal_of(state, &steps[place]);
+        if let Some(number) = story.unless_short(refusal)? {
+            return Some((place, number));
         }
     }
-    Ok(None)
+    None
 }
 
 /// Tells a step as its line has it, which is of this number.
@@ -48,23 +48,18 @@ fn tell_step_line(story: &mut Story, number: u64, step: &Step) {
 }
 
 /// Tells a step that can't be made: its line, what it is to do, and why it can't.
-fn tell_unmade(
-    story: &mut Story,
-    state: &mut State<'_>,
-    unmade: &Unmade<'_>,
-) -> Result<(), AllocError> {
+fn tell_unmade(story: &mut Story, state: &mut State<'_>, unmade: &Unmade<'_>) {
     let Some(step) = unmade.steps.get(unmade.place) else {
-        return Ok(());
+        return;
     };
     tell_step_line(story, unmade.line_of(unmade.place), step);
     story.text("this step can't be made; what it asks for: ");
-    tell_step(unmade.alloc, story, unmade.documents, unmade.packets, step)?;
-    unmade.tell(story, state)
+    tell_step(story, unmade.documents, unmade.packets, step);
+    unmade.tell(story, state);
 }
 
 /// Tells the first step that is refused of a run over these packets.
 fn tell_run(
-    alloc: Global,
     story: &mut Story,
     documents: &Documents,
     packets: &[Packet],
@@ -72,39 +67,37 @@ fn tell_run(
 ) -> Result<(), Fault>
     ensures { IfErr result IsUntold }
 {
-    let copied = Vec::from_slice(alloc, packets)?;
+    let copied = Vec::from_slice(story.alloc, packets)?;
     let classes = documents.traffic.classes();
-    let opened = State::open(alloc, documents.plan.net(), classes, copied);
+    let opened = State::open(story.alloc, documents.plan.net(), classes, copied);
     let Some(mut state) = unless_wrong(opened)? else {
         return Ok(());
     };
-    if let Some((place, fault)) = refused_step(&mut state, steps)? {
+    if let Some((place, fault)) = refused_step(story, &mut state, steps) {
         let unmade = Unmade {
-            alloc,
             documents,
             packets,
             steps,
             place,
             fault,
         };
-        tell_unmade(story, &mut state, &unmade)?;
+        tell_unmade(story, &mut state, &unmade);
     }
     Ok(())
 }
 
 /// Tells the first step that is refused of the refutation that lines say, over the documents.
 fn tell_step_refuted<C: Source>(
-    alloc: Global,
     story: &mut Story,
     documents: &Documents,
     lines: &mut LineReader<C>,
 ) -> Result<(), Fault>
     ensures { IfErr result IsUntold }
 {
-    match unless_wrong(read_refutation(alloc, lines))? {
+    match unless_wrong(read_refutation(story.alloc, lines))? {
         Some(refutation) => {
             let packets = [*refutation.packet()];
-            tell_run(alloc, story, documents, &packets, refutation.steps())
+            tell_run(story, documents, &packets, refutation.steps())
         }
         None => Ok(()),
     }
@@ -112,22 +105,20 @@ fn tell_step_refuted<C: Source>(
 
 /// Tells the first step that is refused of the run that lines say, over the documents.
 fn tell_step_run<C: Source>(
-    alloc: Global,
     story: &mut Story,
     documents: &Documents,
     lines: &mut LineReader<C>,
 ) -> Result<(), Fault>
     ensures { IfErr result IsUntold }
 {
-    match unless_wrong(read_run(alloc, documents.traffic.classes(), lines))? {
-        Some(run) => tell_run(alloc, story, documents, run.packets(), run.steps()),
+    match unless_wrong(read_run(story.alloc, documents.traffic.classes(), lines))? {
+        Some(run) => tell_run(story, documents, run.packets(), run.steps()),
         None => Ok(()),
     }
 }
 
 /// Tells the first step that is refused of the refutation that lines say.
 fn tell_refutation_step<C: Source>(
-    alloc: Global,
     story: &mut Story,
     network: &[u8],
     traffic: &[u8],
@@ -135,15 +126,14 @@ fn tell_refutation_step<C: Source>(
 ) -> Result<(), Fault>
     ensures { IfErr result IsUntold }
 {
-    match documents_again(alloc, network, traffic)? {
-        Some(documents) => tell_step_refuted(alloc, story, &documents, lines),
+    match documents_again(story, network, traffic) {
+        Some(documents) => tell_step_refuted(story, &documents, lines),
         None => Ok(()),
     }
 }
 
 /// Tells the first step that is refused of the run that lines say.
 fn tell_refused_step<C: Source>(
-    alloc: Global,
     story: &mut Story,
     network: &[u8],
     traffic: &[u8],
@@ -151,8 +141,8 @@ fn tell_refused_step<C: Source>(
 ) -> Result<(), Fault>
     ensures { IfErr result IsUntold }
 {
-    match documents_again(alloc, network, traffic)? {
-        Some(documents) => tell_step_run(alloc, story, &documents, lines),
+    match documents_again(story, network, traffic) {
+        Some(documents) => tell_step_run(story, &documents, lines),
         None => Ok(()),
     }
 }
@@ -170,20 +160,19 @@ fn tell_packet_read(story: &mut Story, documents: &Documents, number: u64, read:
 
 /// Tells the packet that a line has, and why it isn't in its class.
 fn tell_line_packet(
-    alloc: Global,
     story: &mut Story,
     documents: &Documents,
     version: TextVersion,
     line: &Line<'_>,
-) -> Result<(), AllocError> {
-    let read = read_run_line(alloc, version, line.bytes)?;
-    tell_packet_read(story, documents, line.number, &read);
-    Ok(())
+) {
+    let read = read_run_line(story.alloc, version, line.bytes);
+    if let Some(read) = story.unless_short(read) {
+        tell_packet_read(story, documents, line.number, &read);
+    }
 }
 
 /// Tells the line of this number, and why the packet that it has isn't in its class.
 fn tell_refused_packet<C: Source>(
-    alloc: Global,
     story: &mut Story,
     documents: &Documents,
     lines: &mut LineReader<C>,
@@ -199,7 +188,7 @@ fn tell_refused_packet<C: Source>(
         }
         if line.number == number {
             tell_line(story, &line);
-            tell_line_packet(alloc, story, documents, version, &line)?;
+            tell_line_packet(story, documents, version, &line);
             return Ok(());
         }
     }
@@ -208,7 +197,6 @@ fn tell_refused_packet<C: Source>(
 
 /// Tells the packet of a run or a refutation, at the line of this number, that isn't in its class.
 fn tell_packet_outside<C: Source>(
-    alloc: Global,
     story: &mut Story,
     network: &[u8],
     traffic: &[u8],
@@ -217,15 +205,14 @@ fn tell_packet_outside<C: Source>(
 ) -> Result<(), Fault>
     ensures { IfErr result IsUntold }
 {
-    match documents_again(alloc, network, traffic)? {
-        Some(documents) => tell_refused_packet(alloc, story, &documents, lines, number),
+    match documents_again(story, network, traffic) {
+        Some(documents) => tell_refused_packet(story, &documents, lines, number),
         None => tell_line_numbered(story, lines, number),
     }
 }
 
 /// What is to be told of the refusal of a run at a line.
 fn tell_at_line<C: Source>(
-    alloc: Global,
     story: &mut Story,
     network: &[u8],
     traffic: &[u8],
@@ -236,22 +223,21 @@ fn tell_at_line<C: Source>(
     ensures { IfErr result IsUntold }
 {
     match fault {
-        refusals::REFUTATION_STEP => { tell_refutation_step(alloc, story, network, traffic, lines) }
+        refusals::REFUTATION_STEP => { tell_refutation_step(story, network, traffic, lines) }
         refusals::REFUTATION_PACKET | refusals::RUN_PACKET => {
-            tell_packet_outside(alloc, story, network, traffic, lines, number)
+            tell_packet_outside(story, network, traffic, lines, number)
         }
         refusals::RUN_HEADER
         | refusals::RUN_FORM
         | refusals::REFUTATION_FORM
         | refusals::SCHEDULE_OR_BUNDLE => tell_form_numbered(story, lines, fault, number),
-        refusals::NOTHING_THERE => tell_unanswered(alloc, story, network, lines, number),
+        refusals::NOTHING_THERE => tell_unanswered(story, network, lines, number),
         _ => tell_line_numbered(story, lines, number),
     }
 }
 
 /// What is to be told of the refusal of a run or of a refutation at no place.
 fn tell_whole<C: Source>(
-    alloc: Global,
     story: &mut Story,
     network: &[u8],
     traffic: &[u8],
@@ -262,10 +248,10 @@ fn tell_whole<C: Source>(
 {
     match fault {
         refusals::STEP_NOT_ENABLED | refusals::WRONG_CHOICES | refusals::NO_RECORD_THERE => {
-            tell_refused_step(alloc, story, network, traffic, lines)
+            tell_refused_step(story, network, traffic, lines)
         }
         refusals::RUN_NOT_COMPLETE | refusals::TOTALS_AGREE => {
-            tell_unconfirmed(alloc, story, network, traffic, lines, fault)
+            tell_unconfirmed(story, network, traffic, lines, fault)
         }
         _ => Ok(()),
     }
@@ -283,17 +269,9 @@ fn story_of<C: Source>(
 {
     let mut story = Story::new(alloc);
     if let Place::Line(number) = &fault.place {
-        tell_at_line(
-            alloc,
-            &mut story,
-            network,
-            traffic,
-            lines,
-            fault.number,
-            *number,
-        )?;
+        tell_at_line(&mut story, network, traffic, lines, fault.number, *number)?;
     } else {
-        tell_whole(alloc, &mut story, network, traffic, lines, fault.number)?;
+        tell_whole(&mut story, network, traffic, lines, fault.number)?;
     }
     Ok(story)
 }

@@ -18,7 +18,6 @@ struct Open {
 /// How far a JSON text was looked through.
 #[derive(Drop)]
 struct Scan {
-    alloc: Global,
     open: Vec<Open>,
     in_string: bool,
     escaped: bool,
@@ -65,7 +64,6 @@ impl Scan {
     /// Before the first octet.
     fn new(alloc: Global, document: &'static str) -> Scan {
         Scan {
-            alloc,
             open: Vec::new(alloc),
             in_string: false,
             escaped: false,
@@ -76,13 +74,15 @@ impl Scan {
     }
 
     /// An object or a list begins.
-    fn begin(&mut self, is_object: bool) -> Result<(), AllocError> {
-        self.open.push(Open {
+    fn begin(&mut self, story: &mut Story, is_object: bool) {
+        let pushed = self.open.push(Open {
             is_object,
             name_next: is_object,
-            names: Vec::new(self.alloc),
-        })?;
-        Ok(())
+            names: Vec::new(story.alloc),
+        });
+        if pushed.is_err() {
+            story.fall_short();
+        }
     }
 
     /// Goes on to the next member of an object.
@@ -93,21 +93,20 @@ impl Scan {
     }
 
     /// A string ends at a place: tells it where it is the name of a member that stands there already.
-    fn end_string(&mut self, story: &mut Story, text: &[u8], end: usize) -> Result<(), AllocError> {
+    fn end_string(&mut self, story: &mut Story, text: &[u8], end: usize) {
         self.in_string = false;
         let start = self.start;
         let Some(open) = self.open.last_mut() else {
-            return Ok(());
+            return;
         };
-        if !open.name_next || !open.add(text, start, end)? {
-            return Ok(());
+        if !open.name_next || story.unless_short(open.add(text, start, end)) != Some(true) {
+            return;
         }
         story.text(self.document);
         story.text_number(", line ", self.line);
         story.text(": member \"");
         story.octets_of(part(text, start, end));
         story.sentence("\" stands twice in one object; the last one counts");
-        Ok(())
     }
 
     /// Goes past an octet of a string, but for the quotation mark that ends it.
@@ -116,14 +115,15 @@ impl Scan {
     }
 
     /// Goes past an octet.
-    fn take(&mut self, story: &mut Story, text: &[u8], place: usize) -> Result<(), AllocError> {
+    fn take(&mut self, story: &mut Story, text: &[u8], place: usize) {
         let octet = text.get(place).copied().unwrap_or(0);
         if self.in_string {
             if octet == b'"' && !self.escaped {
-                return self.end_string(story, text, place);
+                self.end_string(story, text, place);
+            } else {
+                self.in_text(octet);
             }
-            self.in_text(octet);
-            return Ok(());
+            return;
         }
         match octet {
             b'"' => {
@@ -131,8 +131,8 @@ impl Scan {
                 self.escaped = false;
                 self.start = place.saturating_add(1);
             }
-            b'{' => self.begin(true)?,
-            b'[' => self.begin(false)?,
+            b'{' => self.begin(story, true),
+            b'[' => self.begin(story, false),
             b'}' | b']' => {
                 let _closed = self.open.pop();
             }
@@ -140,21 +140,14 @@ impl Scan {
             b'\n' => self.line = self.line.saturating_add(1),
             _ => {}
         }
-        Ok(())
     }
 }
 
 /// Tells the members that stand twice in an object of a JSON text, which is valid, by the lines of the second ones. Of
 /// each object its first 64 names are looked at, as they are spelled.
-pub(crate) fn tell_twice(
-    alloc: Global,
-    story: &mut Story,
-    document: &'static str,
-    text: &[u8],
-) -> Result<(), AllocError> {
-    let mut scan = Scan::new(alloc, document);
+pub(crate) fn tell_twice(story: &mut Story, document: &'static str, text: &[u8]) {
+    let mut scan = Scan::new(story.alloc, document);
     for place in 0..text.len() {
-        scan.take(story, text, place)?;
+        scan.take(story, text, place);
     }
-    Ok(())
 }

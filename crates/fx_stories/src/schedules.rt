@@ -198,7 +198,7 @@ fn story_of<C: Source, F: Source>(
         _ => None,
     };
     let taking = taking_of(&mut story, schedule, last)?;
-    let Some(documents) = documents_again(alloc, network, traffic)? else {
+    let Some(documents) = documents_again(&mut story, network, traffic) else {
         return Ok(story);
     };
     if let Some(mut capture) = capture_again(alloc, capture)? {

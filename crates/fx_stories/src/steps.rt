@@ -12,7 +12,6 @@ use fx_config::Device;
 use fx_plan::Plan;
 use fx_run_text::Step;
 use fx_tables::{Crossing, Occurrence, Packet};
-use std::alloc::{AllocError, Global};
 
 /// Tells a packet: its class and its path, its fields that aren't 0, and its octets.
 pub(crate) fn tell_packet(story: &mut Story, documents: &Documents, packet: &Packet) {
@@ -56,41 +55,42 @@ fn tell_occurrences(story: &mut Story, plan: &Plan, device: u64, occurrences: &[
 
 /// Tells that a packet of this number makes a crossing, and where it is metered.
 fn tell_metering(
-    alloc: Global,
     story: &mut Story,
     plan: &Plan,
     number: u64,
     packet: &Packet,
     crossing: &Crossing,
-) -> Result<(), AllocError> {
+) {
     story.text_number("packet ", number);
     story.text(" crosses ");
     tell_crossing(story, plan, crossing);
-    let occurrences = plan.net().occurrences(alloc, crossing, &packet.fields)?;
-    tell_occurrences(story, plan, crossing.device, occurrences.as_slice());
-    if occurrences.as_slice().is_empty() {
-        tell_unmetered(story, plan, crossing, &packet.fields);
+    let occurrences = plan
+        .net()
+        .occurrences(story.alloc, crossing, &packet.fields);
+    if let Some(occurrences) = story.unless_short(occurrences) {
+        tell_occurrences(story, plan, crossing.device, occurrences.as_slice());
+        if occurrences.as_slice().is_empty() {
+            tell_unmetered(story, plan, crossing, &packet.fields);
+        }
     }
     story.end_line();
-    Ok(())
 }
 
 /// Tells a step at which a packet makes a crossing.
 fn tell_crossing_made(
-    alloc: Global,
     story: &mut Story,
     documents: &Documents,
     packets: &[Packet],
     number: u64,
     crossing: u64,
-) -> Result<(), AllocError> {
+) {
     let Some(packet) = entry_numbered(packets, number) else {
         tell_missing(story, "there is no packet ", number, packets.len());
-        return Ok(());
+        return;
     };
     let crossings = documents.traffic.classes().path_of(packet);
     match entry_numbered(crossings, crossing) {
-        Some(made) => tell_metering(alloc, story, &documents.plan, number, packet, made)?,
+        Some(made) => tell_metering(story, &documents.plan, number, packet, made),
         None => tell_missing(
             story,
             "the packet's path has no crossing ",
@@ -98,23 +98,16 @@ fn tell_crossing_made(
             crossings.len(),
         ),
     }
-    Ok(())
 }
 
 /// Tells a step of a run over these packets.
-pub(crate) fn tell_step(
-    alloc: Global,
-    story: &mut Story,
-    documents: &Documents,
-    packets: &[Packet],
-    step: &Step,
-) -> Result<(), AllocError> {
+pub(crate) fn tell_step(story: &mut Story, documents: &Documents, packets: &[Packet], step: &Step) {
     match step {
         Step::Cross {
             packet,
             crossing,
             choices: _,
-        } => tell_crossing_made(alloc, story, documents, packets, *packet, *crossing)?,
+        } => tell_crossing_made(story, documents, packets, *packet, *crossing),
         Step::Expire {
             holder,
             position: _,
@@ -126,5 +119,4 @@ pub(crate) fn tell_step(
             choices,
         } => tell_arrival(story, &documents.plan, *link, choices.as_slice()),
     }
-    Ok(())
 }

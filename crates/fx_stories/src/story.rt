@@ -13,6 +13,8 @@ use std::marker::Model;
 /// is told from then on, and that is said at the end alone.
 #[derive(Drop)]
 pub(crate) struct Story {
+    /// Where its octets are kept, and what is gathered for it.
+    pub(crate) alloc: Global,
     octets: Vec<u8>,
     is_short: bool,
 }
@@ -48,6 +50,7 @@ impl Story {
     /// A story that tells nothing yet.
     pub(crate) fn new(alloc: Global) -> Story {
         Story {
+            alloc,
             octets: Vec::new(alloc),
             is_short: false,
         }
@@ -61,6 +64,22 @@ impl Story {
             return Err(AllocError);
         }
         Ok(self.octets.as_slice())
+    }
+
+    /// Notes that there is no memory for more.
+    pub(crate) fn fall_short(&mut self) {
+        self.is_short = true;
+    }
+
+    /// What there was memory for, or none where there was too little, which is noted.
+    pub(crate) fn unless_short<T: Drop>(&mut self, made: Result<T, AllocError>) -> Option<T> {
+        match made {
+            Ok(made) => Some(made),
+            Err(_) => {
+                self.fall_short();
+                None
+            }
+        }
     }
 
     /// Tells an octet, which is a line feed or no control character.
@@ -96,6 +115,9 @@ impl Story {
     }
 
     /// Tells a text.
+    // This one and those below stand at hundreds of places, of which a run takes a few: copies there would cost more than calls.
+    #[cold]
+    #[inline(never)]
     pub(crate) fn text(&mut self, text: &str) {
         self.octets_of(text.as_bytes());
     }
@@ -126,18 +148,24 @@ impl Story {
     }
 
     /// Tells a text, and behind it a name in quotation marks.
+    #[cold]
+    #[inline(never)]
     pub(crate) fn text_quoted(&mut self, text: &str, name: &str) {
         self.text(text);
         self.quoted(name);
     }
 
     /// Tells a text, and behind it a number in decimal.
+    #[cold]
+    #[inline(never)]
     pub(crate) fn text_number(&mut self, text: &str, number: u64) {
         self.text(text);
         self.number(number);
     }
 
     /// Tells a text, and ends the line.
+    #[cold]
+    #[inline(never)]
     pub(crate) fn sentence(&mut self, text: &str) {
         self.text(text);
         self.end_line();

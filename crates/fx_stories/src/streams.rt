@@ -1,7 +1,6 @@
 //! Why a message of an IPFIX stream is refused, in words.
 ghost use Rattle.std.specs.Prelude.{◌≡◌, ◌⊎◌, IfErr, OnOk};
 ghost use Rattle.fx_base.specs.Device.{IsWriteFault, KeepsGoing};
-ghost use Rattle.fx_base.specs.Fault.{IsMemory};
 ghost use Rattle.fx_stories.specs.Stories.{IsUntold, WritesStory};
 
 use crate::counting::Counting;
@@ -14,14 +13,13 @@ use crate::template_sets::take_templates;
 use crate::templates::Templates;
 use fx_base::{Fault, PieceReader, Place, Sink, Source, put_text, refusals};
 use fx_wire::TemplateKind;
-use std::alloc::{AllocError, Global};
+use std::alloc::Global;
 
 /// The most octets that a message can have.
 const LONGEST: usize = 65_535;
 
 /// How far a stream was read once more.
 pub(crate) struct Reading {
-    alloc: Global,
     /// The templates of the messages before.
     pub(crate) templates: Templates,
     /// The number of the message that comes next, from 1.
@@ -40,7 +38,6 @@ impl Drop for Reading {
     /// Lets its parts go: proved once, and one call wherever one is let go.
     fn drop(self) {
         let Self {
-            alloc: _,
             templates: _,
             number: _,
             place: _,
@@ -54,63 +51,51 @@ impl Drop for Reading {
 /// Does what the set of a message says of templates, or tells what is wrong with it. Answers whether something is. The
 /// records of data sets are looked at where the message is refused, and else counted where they are.
 fn take_set(
-    alloc: Global,
     story: &mut Story,
     templates: &mut Templates,
     message: &MessageThere<'_>,
     set: &SetThere,
     fault: Option<u16>,
-) -> Result<bool, AllocError> {
+) -> bool {
     match (set.id, fault) {
-        (2, _) => take_templates(alloc, story, templates, message, set, TemplateKind::Plain),
-        (3, _) => take_templates(alloc, story, templates, message, set, TemplateKind::Options),
-        (_, Some(fault)) => Ok(tell_data_set(story, templates, message, set, fault)),
+        (2, _) => take_templates(story, templates, message, set, TemplateKind::Plain),
+        (3, _) => take_templates(story, templates, message, set, TemplateKind::Options),
+        (_, Some(fault)) => tell_data_set(story, templates, message, set, fault),
         (_, None) => {
             templates.count(message, set);
-            Ok(false)
+            false
         }
     }
 }
 
 /// Does what the sets of a message say of templates, up to the first with which something is wrong, which is told.
 fn take_sets(
-    alloc: Global,
     story: &mut Story,
     templates: &mut Templates,
     message: &MessageThere<'_>,
     sets: &[SetThere],
     fault: Option<u16>,
-) -> Result<(), AllocError> {
+) {
     for set in sets {
-        if take_set(alloc, story, templates, message, set, fault)? {
-            return Ok(());
+        if take_set(story, templates, message, set, fault) {
+            return;
         }
     }
-    Ok(())
 }
 
 /// Does what a message says of templates, up to the first set with which something is wrong, which is told.
-fn take_templates_of(
-    alloc: Global,
-    story: &mut Story,
-    templates: &mut Templates,
-    message: &MessageThere<'_>,
-) -> Result<(), AllocError> {
-    let sets = message.sets(alloc)?;
-    take_sets(alloc, story, templates, message, sets.as_slice(), None)
+fn take_templates_of(story: &mut Story, templates: &mut Templates, message: &MessageThere<'_>) {
+    let sets = message.sets(story.alloc);
+    if let Some(sets) = story.unless_short(sets) {
+        take_sets(story, templates, message, sets.as_slice(), None);
+    }
 }
 
 /// Does what a message says of templates, and counts it where messages are counted.
-fn take_message(
-    alloc: Global,
-    story: &mut Story,
-    templates: &mut Templates,
-    message: &MessageThere<'_>,
-) -> Result<(), AllocError> {
-    take_templates_of(alloc, story, templates, message)?;
-    match &mut templates.counting {
-        Some(counting) => counting.take_message(message),
-        None => Ok(()),
+fn take_message(story: &mut Story, templates: &mut Templates, message: &MessageThere<'_>) {
+    take_templates_of(story, templates, message);
+    if let Some(counting) = &mut templates.counting {
+        let _taken = story.unless_short(counting.take_message(message));
     }
 }
 
@@ -118,7 +103,6 @@ impl Reading {
     /// Before the first octet.
     fn new(alloc: Global, fault: u16, refused: u64) -> Reading {
         Reading {
-            alloc,
             templates: Templates::new(alloc),
             number: 1,
             place: 0,
@@ -136,7 +120,7 @@ impl Reading {
     }
 
     /// Goes past the whole messages before the refused one.
-    fn pass_messages(&mut self, story: &mut Story) -> Result<(), AllocError> {
+    fn pass_messages(&mut self, story: &mut Story) {
         let count = self.octets.len();
         let mut at: usize = 0;
         for _ in 0..count {
@@ -150,20 +134,25 @@ impl Reading {
                 place: self.place,
                 octets: part(rest, 0, length),
             };
-            take_message(self.alloc, story, &mut self.templates, &message)?;
+            take_message(story, &mut self.templates, &message);
             at = at.saturating_add(length);
             self.place = self.place.saturating_add(length as u64);
             self.number = self.number.saturating_add(1);
         }
-        self.octets = Vec::from_slice(self.alloc, part(self.octets.as_slice(), at, count))?;
-        Ok(())
+        let left = Vec::from_slice(story.alloc, part(self.octets.as_slice(), at, count));
+        if let Some(left) = story.unless_short(left) {
+            self.octets = left;
+        }
     }
 
     /// Reads on with a piece, and answers whether no more is wanted.
-    fn take(&mut self, story: &mut Story, piece: &[u8]) -> Result<bool, AllocError> {
-        self.octets.extend_from_slice(piece)?;
-        self.pass_messages(story)?;
-        Ok(self.octets.len() >= LONGEST)
+    fn take(&mut self, story: &mut Story, piece: &[u8]) -> bool {
+        let added = self.octets.extend_from_slice(piece);
+        if story.unless_short(added).is_none() {
+            return true;
+        }
+        self.pass_messages(story);
+        self.octets.len() >= LONGEST
     }
 
     /// Tells the first octets of the refused message, and what they begin where they are no message.
@@ -227,7 +216,7 @@ impl Reading {
     }
 
     /// Tells what is wrong with the sets of the refused message.
-    fn tell_sets(&mut self, story: &mut Story) -> Result<(), AllocError> {
+    fn tell_sets(&mut self, story: &mut Story) {
         let length = usize::from(number16(self.octets.as_slice(), 2));
         let message = MessageThere {
             number: self.number,
@@ -235,35 +224,35 @@ impl Reading {
             octets: part(self.octets.as_slice(), 0, length),
         };
         message.tell(story);
-        let sets = message.sets(self.alloc)?;
+        let sets = message.sets(story.alloc);
+        let Some(sets) = story.unless_short(sets) else {
+            return;
+        };
         let fault = self.fault;
         match fault {
             refusals::SET_LENGTH => message.tell_set_length(story, sets.as_slice()),
             refusals::RESERVED_SET => message.tell_reserved(story, sets.as_slice()),
             _ => take_sets(
-                self.alloc,
                 story,
                 &mut self.templates,
                 &message,
                 sets.as_slice(),
                 Some(fault),
-            )?,
+            ),
         }
-        Ok(())
     }
 
     /// Tells the refused message, where the stream is as it was.
-    fn tell(&mut self, story: &mut Story) -> Result<(), AllocError> {
+    fn tell(&mut self, story: &mut Story) {
         if self.place != self.refused || self.octets.is_empty() {
             story.sentence("The message isn't told: the stream has no longer what was read of it.");
-            return Ok(());
+            return;
         }
         match self.fault {
             refusals::MESSAGE_VERSION => self.tell_version(story),
             refusals::MESSAGE_LENGTH => self.tell_length(story),
-            _ => self.tell_sets(story)?,
+            _ => self.tell_sets(story),
         }
-        Ok(())
     }
 }
 
@@ -277,7 +266,7 @@ pub(crate) fn read_on<R: Source>(
 {
     let mut pieces = PieceReader::new();
     for _ in 0..u64::MAX {
-        if !pieces.advance(stream)? || reading.take(story, pieces.piece())? {
+        if !pieces.advance(stream)? || reading.take(story, pieces.piece()) {
             return Ok(());
         }
     }
@@ -292,7 +281,7 @@ fn story_of<R: Source>(alloc: Global, stream: &mut R, fault: &Fault) -> Result<S
     if let Place::Octet(refused) = &fault.place {
         let mut reading = Reading::new(alloc, fault.number, *refused);
         read_on(&mut reading, &mut story, stream)?;
-        reading.tell(&mut story)?;
+        reading.tell(&mut story);
     }
     Ok(story)
 }

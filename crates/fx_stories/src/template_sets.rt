@@ -8,7 +8,6 @@ use fx_elements::{Element, by_id};
 use fx_wire::{
     FieldSpecifier, FieldSpecifiers, NewTemplate, TemplateHeading, TemplateKind, read_heading,
 };
-use std::alloc::{AllocError, Global};
 
 /// A template record: its message, its set, and its place in the message.
 #[derive(Drop)]
@@ -182,15 +181,18 @@ fn add_fields(
     new: &NewTemplate,
     left: &mut FieldSpecifiers<'_>,
     fields: &mut Vec<FieldSpecifier>,
-) -> Result<bool, AllocError> {
+) -> bool {
     while let Some(next) = left.next() {
         let Ok(field) = next else {
             record.tell_wrong_field(story, new, fields.len(), left.rest());
-            return Ok(false);
+            return false;
         };
-        fields.push(field)?;
+        if fields.push(field).is_err() {
+            story.fall_short();
+            return false;
+        }
     }
-    Ok(true)
+    true
 }
 
 /// Tells that a template is refused beside one that is declared already, where it is, and answers whether.
@@ -213,9 +215,9 @@ fn keep(
     record: &RecordThere<'_>,
     new: &NewTemplate,
     fields: Vec<FieldSpecifier>,
-) -> Result<bool, AllocError> {
+) -> bool {
     if record.kind == TemplateKind::Plain && record.tell_narrow(story, new, fields.as_slice()) {
-        return Ok(false);
+        return false;
     }
     let declared = Declared {
         domain: record.message.domain(),
@@ -230,88 +232,85 @@ fn keep(
         unassigned: 0,
     };
     if tell_declared_otherwise(story, templates, record, &declared) {
-        return Ok(false);
+        return false;
     }
-    templates.declare(declared)?;
-    Ok(true)
+    story.unless_short(templates.declare(declared)).is_some()
 }
 
 /// Keeps a template whose fields are at the front of the octets, and answers the octets behind it; none where it is
 /// refused, which is told.
 fn declare<'o>(
-    alloc: Global,
     story: &mut Story,
     templates: &mut Templates,
     record: &RecordThere<'_>,
     new: NewTemplate,
     octets: &'o [u8],
-) -> Result<Option<&'o [u8]>, AllocError> {
-    let mut fields: Vec<FieldSpecifier> = Vec::new(alloc);
+) -> Option<&'o [u8]> {
+    let mut fields: Vec<FieldSpecifier> = Vec::new(story.alloc);
     let mut left = FieldSpecifiers::new(new.count, octets);
-    if add_fields(story, record, &new, &mut left, &mut fields)?
-        && keep(story, templates, record, &new, fields)?
+    if add_fields(story, record, &new, &mut left, &mut fields)
+        && keep(story, templates, record, &new, fields)
     {
-        return Ok(Some(left.rest()));
+        return Some(left.rest());
     }
-    Ok(None)
+    None
 }
 
 /// Does what the template record at the front of the octets says, and answers the octets behind it; none where it is
 /// refused, which is told.
 fn take_record<'o>(
-    alloc: Global,
     story: &mut Story,
     templates: &mut Templates,
     record: &RecordThere<'_>,
     octets: &'o [u8],
-) -> Result<Option<&'o [u8]>, AllocError> {
+) -> Option<&'o [u8]> {
     if octets.len() < 4 {
-        return Ok(None);
+        return None;
     }
     let (domain, message) = (record.message.domain(), record.message.number);
     match read_heading(record.kind, octets) {
         Err(_) => {
             record.tell_heading(story, octets);
-            Ok(None)
+            None
         }
         Ok((TemplateHeading::Withdrawal(id), rest)) => {
             templates.withdraw(domain, Withdrawn::Id(id), message);
-            Ok(Some(rest))
+            Some(rest)
         }
         Ok((TemplateHeading::WithdrawalOfAll, rest)) => {
             templates.withdraw(domain, Withdrawn::Kind(record.kind), message);
-            Ok(Some(rest))
+            Some(rest)
         }
         Ok((TemplateHeading::Declaration(new), rest)) => {
-            declare(alloc, story, templates, record, new, rest)
+            declare(story, templates, record, new, rest)
         }
     }
 }
 
-/// Does what the template records of a set say, up to the first that is refused, which is told. Answers whether one is.
+/// Does what the template records of a set say, up to the first that is refused, which is told, or can't be kept for want
+/// of memory. Answers whether one is.
 pub(crate) fn take_templates(
-    alloc: Global,
     story: &mut Story,
     templates: &mut Templates,
     message: &MessageThere<'_>,
     set: &SetThere,
     kind: TemplateKind,
-) -> Result<bool, AllocError> {
+) -> bool {
     let content = part(message.octets, set.start(), set.end());
     let mut rest = content;
     for _ in 0..content.len() {
         if rest.len() < 4 {
-            return Ok(false);
+            return false;
         }
         let record = RecordThere {
             message: &*message,
             kind,
             place: set.end().saturating_sub(rest.len()),
         };
-        match take_record(alloc, story, templates, &record, rest)? {
+        match take_record(story, templates, &record, rest) {
             Some(behind) => rest = behind,
-            None => return Ok(true),
+            None => return true,
         }
     }
-    Ok(false)
+    false
 }

@@ -43,8 +43,8 @@ fn story_of<C: Source>(
 ) -> Result<Story, Fault>
     ensures { IfErr result IsUntold }
 {
-    let plan = plan_again(alloc, network)?;
     let mut story = Story::new(alloc);
+    let plan = plan_again(&mut story, network);
     let mut stand = Stand::new(alloc);
     'lines: while next_line(lines)? {
         let line = lines.line();

@@ -24,7 +24,7 @@ pub(crate) fn refusal_of(state: &mut State<'_>, step: &Step) -> Result<Option<u1
 }
 
 /// The choice of what is numbered 0.
-fn choice_of_nothing(alloc: Global) -> Result<Choices, AllocError> {
+pub(crate) fn choice_of_nothing(alloc: Global) -> Result<Choices, AllocError> {
     let mut items = Vec::new(alloc);
     items.push(Some(0))?;
     Ok(Choices::new(items))

@@ -7,7 +7,6 @@ use fx_base::refusals;
 use fx_machine::State;
 use fx_run_text::Step;
 use fx_tables::Packet;
-use std::alloc::{AllocError, Global};
 
 /// How many choices are told.
 const FEW: usize = 20;
@@ -15,7 +14,6 @@ const FEW: usize = 20;
 /// The steps of a run of which one can't be made.
 #[derive(Drop)]
 pub(crate) struct Unmade<'a> {
-    pub(crate) alloc: Global,
     pub(crate) documents: &'a Documents,
     pub(crate) packets: &'a [Packet],
     pub(crate) steps: &'a [Step],
@@ -97,8 +95,11 @@ impl Unmade<'_> {
         state: &mut State<'_>,
         waiting: Waiting,
         position: u64,
-    ) -> Result<(), AllocError> {
-        let count = waiting.count(self.alloc, state)?;
+    ) {
+        let count = waiting.count(story.alloc, state);
+        let Some(count) = story.unless_short(count) else {
+            return;
+        };
         if count == 0 {
             story.text("before this step no record is there");
             self.tell_taken(story, waiting);
@@ -107,7 +108,6 @@ impl Unmade<'_> {
             story.text_number("; positions count from 1, and none is at ", position);
         }
         story.end_line();
-        Ok(())
     }
 
     /// Tells how many choices a step has, and how many it should have.
@@ -117,10 +117,11 @@ impl Unmade<'_> {
         state: &mut State<'_>,
         trial: &Trial<'_>,
         choosers: &Choosers<'_>,
-    ) -> Result<(), AllocError> {
+    ) {
         let written = choices_of(trial.step).len();
         story.text_number("choices of the step: ", written as u64);
-        match trial.count_wanted(self.alloc, state)? {
+        let wanted = trial.count_wanted(story.alloc, state);
+        match story.unless_short(wanted).flatten() {
             Some(wanted) => {
                 story.text_number("; it takes ", wanted as u64);
                 story.sentence(rule_words(trial.step));
@@ -128,36 +129,33 @@ impl Unmade<'_> {
             }
             None => story.sentence(rule_words(trial.step)),
         }
-        Ok(())
     }
 
     /// Tells which choice of a step is wrong, or how many it should have.
-    fn tell_choices(
-        &self,
-        story: &mut Story,
-        state: &mut State<'_>,
-        step: &Step,
-    ) -> Result<(), AllocError> {
-        let choosers = choosers_of(self.alloc, self.documents, self.packets, step)?;
+    fn tell_choices(&self, story: &mut Story, state: &mut State<'_>, step: &Step) {
+        let choosers = choosers_of(story.alloc, self.documents, self.packets, step);
+        let Some(choosers) = story.unless_short(choosers) else {
+            return;
+        };
         let trial = Trial {
             step,
             exporters: choosers.exporters.len(),
         };
-        match trial.wrong_choice(self.alloc, state)? {
+        let wrong = trial.wrong_choice(story.alloc, state);
+        match story.unless_short(wrong).flatten() {
             Some(wrong) => {
                 let chosen = choices_of(step).get(wrong.place).copied().flatten();
                 tell_wrong_choice(story, &choosers, wrong.place, chosen);
                 tell_same_key(story, wrong.position);
             }
-            None => self.tell_count(story, state, &trial, &choosers)?,
+            None => self.tell_count(story, state, &trial, &choosers),
         }
-        Ok(())
     }
 
     /// Tells why the step can't be made in the state before it.
-    pub(crate) fn tell(&self, story: &mut Story, state: &mut State<'_>) -> Result<(), AllocError> {
+    pub(crate) fn tell(&self, story: &mut Story, state: &mut State<'_>) {
         let Some(step) = self.steps.get(self.place) else {
-            return Ok(());
+            return;
         };
         match (step, self.fault) {
             (
@@ -168,15 +166,14 @@ impl Unmade<'_> {
                 },
                 refusals::STEP_NOT_ENABLED,
             ) => self.tell_made(story, *packet, *crossing),
-            (_, refusals::WRONG_CHOICES) => self.tell_choices(story, state, step)?,
+            (_, refusals::WRONG_CHOICES) => self.tell_choices(story, state, step),
             (_, refusals::NO_RECORD_THERE) => {
                 if let Some((waiting, position)) = Waiting::of(step) {
-                    self.tell_positions(story, state, waiting, position)?;
+                    self.tell_positions(story, state, waiting, position);
                 }
             }
             _ => {}
         }
-        Ok(())
     }
 }
 

@@ -3,7 +3,6 @@ use crate::elements::tell_misspelled_fields;
 use crate::pointers::{configuration, items_member, text_or_none};
 use crate::story::Story;
 use serde_json::Value;
-use std::alloc::{AllocError, Global};
 
 /// The transports of destinations and of collecting processes.
 const TRANSPORTS: [&str; 6] = [
@@ -127,32 +126,25 @@ fn layout_of(cache: &Value) -> Option<&Value> {
 }
 
 /// Tells the fields of a device's caches whose elements are misspelled.
-fn tell_fields(alloc: Global, story: &mut Story, device: &Value) -> Result<(), AllocError> {
+fn tell_fields(story: &mut Story, device: &Value) {
     let Some(container) = configuration(device) else {
-        return Ok(());
+        return;
     };
     for cache in items_member(container, "cache") {
         if let Some(layout) = layout_of(cache) {
             tell_misspelled_fields(
-                alloc,
                 story,
                 text_or_none(device, "name"),
                 text_or_none(cache, "name"),
                 items_member(layout, "cacheField"),
-            )?;
+            );
         }
     }
-    Ok(())
 }
 
 /// Tells the fields of caches of a network's document whose elements are misspelled, and so aren't read.
-pub(crate) fn tell_unread_fields(
-    alloc: Global,
-    story: &mut Story,
-    network: &Value,
-) -> Result<(), AllocError> {
+pub(crate) fn tell_unread_fields(story: &mut Story, network: &Value) {
     for device in items_member(network, "devices") {
-        tell_fields(alloc, story, device)?;
+        tell_fields(story, device);
     }
-    Ok(())
 }

@@ -9,7 +9,6 @@ use fx_config::ObservationPoint;
 use fx_plan::Plan;
 use fx_tables::Crossing;
 use fx_traffic::Target;
-use std::alloc::{AllocError, Global};
 
 /// Of how many misspelled interfaces those are told that there are: comparing names takes long.
 const TOLD: usize = 64;
@@ -80,28 +79,28 @@ fn is_told(told: &[&Crossing], crossing: &Crossing) -> bool {
 /// Ends the line of a crossing that is at no observation point: with the interfaces of those that its device has, where
 /// they weren't told of that interface yet.
 fn tell_others<'a>(
-    alloc: Global,
     story: &mut Story,
     points: &[ObservationPoint],
     crossing: &'a Crossing,
     told: &mut Vec<&'a Crossing>,
-) -> Result<(), AllocError> {
+) {
     if told.len() >= TOLD || is_told(told.as_slice(), crossing) {
         story.end_line();
-        return Ok(());
+        return;
     }
-    told.push(crossing)?;
-    tell_watched_interfaces(alloc, story, points, crossing.interface.as_str())
+    if told.push(crossing).is_err() {
+        story.fall_short();
+    }
+    tell_watched_interfaces(story, points, crossing.interface.as_str());
 }
 
 /// Tells the crossings of a path whose interfaces are at no observation point, and those that are.
 fn tell_interfaces<'a>(
-    alloc: Global,
     story: &mut Story,
     documents: &Documents,
     target: &Target<'a>,
     told: &mut Vec<&'a Crossing>,
-) -> Result<(), AllocError> {
+) {
     for crossing in target.crossings {
         let points = points_at(&documents.plan, crossing);
         if !is_watched(points, &crossing.interface) {
@@ -109,10 +108,9 @@ fn tell_interfaces<'a>(
             story.text(": at ");
             tell_crossing(story, &documents.plan, crossing);
             story.text(" the interface is at no observation point");
-            tell_others(alloc, story, points, crossing, told)?;
+            tell_others(story, points, crossing, told);
         }
     }
-    Ok(())
 }
 
 /// Tells that no observation point sees a crossing of a path, or that it has none.
@@ -126,18 +124,12 @@ fn tell_path(story: &mut Story, documents: &Documents, target: &Target<'_>) {
 }
 
 /// Tells of each path of each class what no observation point sees.
-pub(crate) fn tell_unseen(
-    alloc: Global,
-    story: &mut Story,
-    documents: &Documents,
-    targets: &[Target<'_>],
-) -> Result<(), AllocError> {
-    let mut told = Vec::new(alloc);
+pub(crate) fn tell_unseen(story: &mut Story, documents: &Documents, targets: &[Target<'_>]) {
+    let mut told = Vec::new(story.alloc);
     for target in targets {
-        tell_interfaces(alloc, story, documents, target, &mut told)?;
+        tell_interfaces(story, documents, target, &mut told);
         if !is_any_seen(&documents.plan, target.crossings) {
             tell_path(story, documents, target);
         }
     }
-    Ok(())
 }

@@ -6,7 +6,6 @@ use crate::spelling::{tell_forms, tell_spelling, tell_values};
 use crate::story::Story;
 use fx_elements::{Element, by_name, width};
 use serde_json::Value;
-use std::alloc::{AllocError, Global};
 
 /// Members that are whole numbers of 32 bits.
 const WHOLE: [&str; 6] = [
@@ -131,14 +130,13 @@ fn are_several(object: &Value, names: &'static [&'static str]) -> bool {
 }
 
 /// Tells what is wrong with an object that names an element and a value of it.
-fn tell_match(alloc: Global, story: &mut Story, object: &Value) -> Result<(), AllocError> {
-    if !tell_element(alloc, story, object, true)? {
-        return Ok(());
+fn tell_match(story: &mut Story, object: &Value) {
+    if !tell_element(story, object, true) {
+        return;
     }
     if let Some(text) = text_member(object, "value") {
         tell_spelling(story, element_of(object), text);
     }
-    Ok(())
 }
 
 /// Whether two fields of a key are of one axis.
@@ -163,14 +161,9 @@ fn has_same_axis(fields: &[Value], other: &Value) -> bool {
 }
 
 /// Tells what is wrong with a field of a key, behind these fields.
-fn tell_field(
-    alloc: Global,
-    story: &mut Story,
-    field: &Value,
-    earlier: &[Value],
-) -> Result<(), AllocError> {
-    if !tell_element(alloc, story, field, true)? {
-        return Ok(());
+fn tell_field(story: &mut Story, field: &Value, earlier: &[Value]) {
+    if !tell_element(story, field, true) {
+        return;
     }
     let is_axis = matches!(element_of(field), Element::OnAxis(_));
     if is_axis && field.get("prefixLength").is_some() {
@@ -183,15 +176,13 @@ fn tell_field(
             "an earlier field of the key has this axis; an address and its prefix are one axis",
         );
     }
-    Ok(())
 }
 
 /// Tells what is wrong with the fields of a key.
-fn tell_key(alloc: Global, story: &mut Story, fields: &[Value]) -> Result<(), AllocError> {
+fn tell_key(story: &mut Story, fields: &[Value]) {
     for place in 0..fields.len() {
-        tell_field(alloc, story, &fields[place], &fields[..place])?;
+        tell_field(story, &fields[place], &fields[..place]);
     }
-    Ok(())
 }
 
 /// The value in which the one at a pointer stands.
@@ -201,58 +192,51 @@ fn value_above<'a>(document: &'a Value, pointer: &str) -> Option<&'a Value> {
 }
 
 /// Tells what is wrong with an object at a pointer that isn't allowed.
-fn tell_object(
-    alloc: Global,
-    story: &mut Story,
-    document: &Value,
-    pointer: &str,
-    object: &Value,
-) -> Result<(), AllocError> {
+fn tell_object(story: &mut Story, document: &Value, pointer: &str, object: &Value) {
     let member = last_member(pointer);
     let choice = one_required(member);
     if are_several(object, choice) {
         tell_several(story, object, choice);
-        return Ok(());
+        return;
     }
     match member {
-        "filterMatch" | "match" => tell_match(alloc, story, object),
+        "filterMatch" | "match" => tell_match(story, object),
         "cacheField" => {
-            let _of_axis = tell_element(alloc, story, object, false)?;
-            Ok(())
+            let _of_axis = tell_element(story, object, false);
         }
-        "report" => match object.get("key") {
-            Some(Value::Array(fields)) => tell_key(alloc, story, fields.as_slice()),
-            _ => Ok(()),
-        },
-        "key" => match value_above(document, pointer) {
-            Some(Value::Array(fields)) => tell_key(alloc, story, fields.as_slice()),
-            _ => Ok(()),
-        },
-        _ => Ok(()),
+        "report" => {
+            if let Some(Value::Array(fields)) = object.get("key") {
+                tell_key(story, fields.as_slice());
+            }
+        }
+        "key" => {
+            if let Some(Value::Array(fields)) = value_above(document, pointer) {
+                tell_key(story, fields.as_slice());
+            }
+        }
+        _ => {}
     }
 }
 
 /// Tells what is wrong with a value at a pointer that isn't allowed, and which values are.
 pub(crate) fn tell_wrong(
-    alloc: Global,
     story: &mut Story,
     document: &Value,
     pointer: &str,
     value: &Value,
     is_network: bool,
-) -> Result<(), AllocError> {
+) {
     let member = last_member(pointer);
     if words_allowed(member, is_network).is_empty() {
         match value {
-            Value::Object(_) => tell_object(alloc, story, document, pointer, value)?,
+            Value::Object(_) => tell_object(story, document, pointer, value),
             Value::String(text) => tell_text(story, member, text.as_str(), is_network),
             _ => {}
         }
-        return Ok(());
+        return;
     }
     match value_above(document, pointer) {
         Some(field) if member == "ieLength" && is_length(value) => tell_octets(story, field),
         _ => tell_allowed(story, member, is_network),
     }
-    Ok(())
 }
