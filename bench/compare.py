@@ -50,6 +50,10 @@ PROOF = """
 ## The proof
 
 What `make once` took where it last proved all crates of the program in one call, as it does in a fresh clone: {proved}.
+
+Before the proofs were made cheaper (27 November, 79e0fc68) its own `make once` took 4194 s, 6286 s of processor time: \
+measured on 29 November on 4 processors, of whose time the host kept 624 s, right before the text of that day, which took \
+1570 s, 4683 s of processor time, while the host kept 893 s.
 """
 
 GROWTH = """
