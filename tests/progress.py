@@ -2,14 +2,16 @@
 """progress.py PROGRAM: has `run`, `collect` and `audit` tell how far they have come.
 
 The capture and the stream of two rows come through a pipe, with a second or more between their pieces; the audit is of a
-certificate of nearly as many lines as there may be. With `--progress` lines must come on standard error, whose figures
-rise and end within what there is, at most one a second; without it none. The answer must be the same either way, and
-also where standard error is full. Prints a line for each that fails, and last `N passed, M failed`; the exit status is 1
-where one did. It takes half a minute.
+certificate of nearly as many lines as there may be, and is stopped for a second or more several times, as a fast machine
+finds all lines in less. With `--progress` lines must come on standard error, whose figures rise and end within what there
+is, at most one a second; without it none. The answer must be the same either way, and also where standard error is full.
+Prints a line for each that fails, and last `N passed, M failed`; the exit status is 1 where one did. It takes half a
+minute.
 """
 import json
 import os
 import re
+import signal
 import subprocess
 import sys
 import tempfile
@@ -22,6 +24,8 @@ from verdict import told
 
 PATHS = 1_996
 PAUSE = 1.2
+MOMENT = 0.1
+STOPS = 4
 
 
 def octets_of(*names):
@@ -42,10 +46,19 @@ def piped(words, octets, errors=subprocess.PIPE):
     return said, told or b"", run.returncode, time.monotonic() - start
 
 
-def timed(words, errors=subprocess.PIPE):
+def stopped(words, errors=subprocess.PIPE):
+    """What a run prints that is stopped several times, a moment after it began or went on, with its status."""
     start = time.monotonic()
-    run = subprocess.run(words, stdin=subprocess.DEVNULL, stdout=subprocess.PIPE, stderr=errors, timeout=120)
-    return run.stdout, run.stderr or b"", run.returncode, time.monotonic() - start
+    with tempfile.TemporaryFile() as answer:
+        run = subprocess.Popen(words, stdin=subprocess.DEVNULL, stdout=answer, stderr=errors)
+        for _ in range(STOPS):
+            time.sleep(MOMENT)
+            run.send_signal(signal.SIGSTOP)
+            time.sleep(PAUSE)
+            run.send_signal(signal.SIGCONT)
+        _, told = run.communicate(timeout=120)
+        answer.seek(0)
+        return answer.read(), told or b"", run.returncode, time.monotonic() - start
 
 
 def line_faults(told, form, most, seconds):
@@ -94,7 +107,7 @@ def cases(program, folder):
         with open(name, "w") as file:
             json.dump(document, file)
     yield "audit", faults(
-        timed, [program, "audit", *names],
+        stopped, [program, "audit", *names],
         r"once: (\d+) lines of a certificate found, of at most 1000000", 1_000_000)
 
 
