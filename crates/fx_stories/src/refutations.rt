@@ -181,8 +181,11 @@ fn tell_run_left(
     Ok(())
 }
 
-/// Tells the run of the refutation that lines say, over the documents.
-fn tell_unconfirmed_over<C: Source>(
+/// Tells the run of a refutation that isn't confirmed over the documents, though each of its steps can be made: one that
+/// isn't complete (504), or whose totals are the plain sums (505).
+///
+/// Fails with 901 and 903 where the lines can't be read again, and with 900 for want of memory.
+pub(crate) fn tell_unconfirmed<C: Source>(
     story: &mut Story,
     documents: &Documents,
     lines: &mut LineReader<C>,
@@ -192,25 +195,6 @@ fn tell_unconfirmed_over<C: Source>(
 {
     match unless_wrong(read_refutation(story.alloc, lines))? {
         Some(refutation) => tell_run_left(story, documents, &refutation, fault),
-        None => Ok(()),
-    }
-}
-
-/// Tells the run of a refutation that isn't confirmed, though each of its steps can be made: one that isn't complete
-/// (504), or whose totals are the plain sums (505).
-///
-/// Fails with 901 and 903 where the lines can't be read again, and with 900 for want of memory.
-pub(crate) fn tell_unconfirmed<C: Source>(
-    story: &mut Story,
-    network: &[u8],
-    traffic: &[u8],
-    lines: &mut LineReader<C>,
-    fault: u16,
-) -> Result<(), Fault>
-    ensures { IfErr result IsUntold }
-{
-    match documents_again(story, network, traffic) {
-        Some(documents) => tell_unconfirmed_over(story, &documents, lines, fault),
         None => Ok(()),
     }
 }

@@ -117,36 +117,6 @@ fn tell_step_run<C: Source>(
     }
 }
 
-/// Tells the first step that is refused of the refutation that lines say.
-fn tell_refutation_step<C: Source>(
-    story: &mut Story,
-    network: &[u8],
-    traffic: &[u8],
-    lines: &mut LineReader<C>,
-) -> Result<(), Fault>
-    ensures { IfErr result IsUntold }
-{
-    match documents_again(story, network, traffic) {
-        Some(documents) => tell_step_refuted(story, &documents, lines),
-        None => Ok(()),
-    }
-}
-
-/// Tells the first step that is refused of the run that lines say.
-fn tell_refused_step<C: Source>(
-    story: &mut Story,
-    network: &[u8],
-    traffic: &[u8],
-    lines: &mut LineReader<C>,
-) -> Result<(), Fault>
-    ensures { IfErr result IsUntold }
-{
-    match documents_again(story, network, traffic) {
-        Some(documents) => tell_step_run(story, &documents, lines),
-        None => Ok(()),
-    }
-}
-
 /// Tells the packet of a line of this number, if it has one, and why it isn't in its class.
 fn tell_packet_read(story: &mut Story, documents: &Documents, number: u64, read: &Option<RunLine>) {
     let Some(RunLine::Packet(packet)) = read else {
@@ -195,52 +165,38 @@ fn tell_refused_packet<C: Source>(
     Ok(())
 }
 
-/// Tells the packet of a run or a refutation, at the line of this number, that isn't in its class.
-fn tell_packet_outside<C: Source>(
-    story: &mut Story,
-    network: &[u8],
-    traffic: &[u8],
-    lines: &mut LineReader<C>,
-    number: u64,
-) -> Result<(), Fault>
-    ensures { IfErr result IsUntold }
-{
-    match documents_again(story, network, traffic) {
-        Some(documents) => tell_refused_packet(story, &documents, lines, number),
-        None => tell_line_numbered(story, lines, number),
-    }
-}
-
-/// What is to be told of the refusal of a run at a line.
+/// Tells what the refusal of a run or a refutation at a line is about.
 fn tell_at_line<C: Source>(
     story: &mut Story,
     network: &[u8],
-    traffic: &[u8],
+    documents: Option<&Documents>,
     lines: &mut LineReader<C>,
     fault: u16,
     number: u64,
 ) -> Result<(), Fault>
     ensures { IfErr result IsUntold }
 {
-    match fault {
-        refusals::REFUTATION_STEP => { tell_refutation_step(story, network, traffic, lines) }
-        refusals::REFUTATION_PACKET | refusals::RUN_PACKET => {
-            tell_packet_outside(story, network, traffic, lines, number)
+    match (fault, documents) {
+        (refusals::REFUTATION_STEP, Some(documents)) => tell_step_refuted(story, documents, lines),
+        (refusals::REFUTATION_PACKET | refusals::RUN_PACKET, Some(documents)) => {
+            tell_refused_packet(story, documents, lines, number)
         }
-        refusals::RUN_HEADER
-        | refusals::RUN_FORM
-        | refusals::REFUTATION_FORM
-        | refusals::SCHEDULE_OR_BUNDLE => tell_form_numbered(story, lines, fault, number),
-        refusals::NOTHING_THERE => tell_unanswered(story, network, lines, number),
+        (
+            refusals::RUN_HEADER
+            | refusals::RUN_FORM
+            | refusals::REFUTATION_FORM
+            | refusals::SCHEDULE_OR_BUNDLE,
+            _,
+        ) => tell_form_numbered(story, lines, fault, number),
+        (refusals::NOTHING_THERE, _) => tell_unanswered(story, network, lines, number),
         _ => tell_line_numbered(story, lines, number),
     }
 }
 
-/// What is to be told of the refusal of a run or of a refutation at no place.
+/// Tells what the refusal of a run or a refutation at no place is about.
 fn tell_whole<C: Source>(
     story: &mut Story,
-    network: &[u8],
-    traffic: &[u8],
+    documents: &Documents,
     lines: &mut LineReader<C>,
     fault: u16,
 ) -> Result<(), Fault>
@@ -248,12 +204,32 @@ fn tell_whole<C: Source>(
 {
     match fault {
         refusals::STEP_NOT_ENABLED | refusals::WRONG_CHOICES | refusals::NO_RECORD_THERE => {
-            tell_refused_step(story, network, traffic, lines)
+            tell_step_run(story, documents, lines)
         }
         refusals::RUN_NOT_COMPLETE | refusals::TOTALS_AGREE => {
-            tell_unconfirmed(story, network, traffic, lines, fault)
+            tell_unconfirmed(story, documents, lines, fault)
         }
         _ => Ok(()),
+    }
+}
+
+/// Tells what the refusal of a run or a refutation is about.
+fn tell_refused<C: Source>(
+    story: &mut Story,
+    network: &[u8],
+    traffic: &[u8],
+    lines: &mut LineReader<C>,
+    fault: &Fault,
+) -> Result<(), Fault>
+    ensures { IfErr result IsUntold }
+{
+    let read = documents_again(story, network, traffic);
+    match (&fault.place, read.as_ref()) {
+        (Place::Line(number), documents) => {
+            tell_at_line(story, network, documents, lines, fault.number, *number)
+        }
+        (_, Some(documents)) => tell_whole(story, documents, lines, fault.number),
+        (_, None) => Ok(()),
     }
 }
 
@@ -268,11 +244,7 @@ fn story_of<C: Source>(
     ensures { IfErr result IsUntold }
 {
     let mut story = Story::new(alloc);
-    if let Place::Line(number) = &fault.place {
-        tell_at_line(&mut story, network, traffic, lines, fault.number, *number)?;
-    } else {
-        tell_whole(&mut story, network, traffic, lines, fault.number)?;
-    }
+    tell_refused(&mut story, network, traffic, lines, fault)?;
     Ok(story)
 }
 
