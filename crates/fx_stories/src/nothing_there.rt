@@ -2,7 +2,6 @@
 ghost use Rattle.std.specs.Prelude.{IfErr};
 ghost use Rattle.fx_stories.specs.Stories.{IsUntold};
 
-use crate::again::plan_again;
 use crate::schedules::taking_of;
 use crate::sending::tell_end;
 use crate::story::{Story, between};
@@ -194,7 +193,7 @@ fn tell_nothing_there(story: &mut Story, plan: &Plan, line: &[u8], read: u64) {
 /// Tells a line of a schedule for which nothing is there, and why.
 pub(crate) fn tell_unanswered<C: Source>(
     story: &mut Story,
-    network: &[u8],
+    plan: &Plan,
     lines: &mut LineReader<C>,
     number: u64,
 ) -> Result<(), Fault>
@@ -204,8 +203,6 @@ pub(crate) fn tell_unanswered<C: Source>(
     let read = taking_of(story, lines, Some(number))?
         .packets
         .saturating_sub(1);
-    if let Some(plan) = plan_again(story, network) {
-        tell_nothing_there(story, &plan, lines.line().bytes, read);
-    }
+    tell_nothing_there(story, plan, lines.line().bytes, read);
     Ok(())
 }

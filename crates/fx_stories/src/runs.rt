@@ -168,7 +168,6 @@ fn tell_refused_packet<C: Source>(
 /// Tells what the refusal of a run or a refutation at a line is about.
 fn tell_at_line<C: Source>(
     story: &mut Story,
-    network: &[u8],
     documents: Option<&Documents>,
     lines: &mut LineReader<C>,
     fault: u16,
@@ -188,7 +187,9 @@ fn tell_at_line<C: Source>(
             | refusals::SCHEDULE_OR_BUNDLE,
             _,
         ) => tell_form_numbered(story, lines, fault, number),
-        (refusals::NOTHING_THERE, _) => tell_unanswered(story, network, lines, number),
+        (refusals::NOTHING_THERE, Some(documents)) => {
+            tell_unanswered(story, &documents.plan, lines, number)
+        }
         _ => tell_line_numbered(story, lines, number),
     }
 }
@@ -226,7 +227,7 @@ fn tell_refused<C: Source>(
     let read = documents_again(story, network, traffic);
     match (&fault.place, read.as_ref()) {
         (Place::Line(number), documents) => {
-            tell_at_line(story, network, documents, lines, fault.number, *number)
+            tell_at_line(story, documents, lines, fault.number, *number)
         }
         (_, Some(documents)) => tell_whole(story, documents, lines, fault.number),
         (_, None) => Ok(()),
