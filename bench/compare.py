@@ -35,6 +35,12 @@ nothing up; `softflowd` meters the capture into flows and sends them nowhere.
 |---|---|---|---|
 """
 
+ELSEWHERE = """
+Machines differ, and their load: on one at 2.5 GHz whose host was busy, four such runs on 29 November gave 0.72 to 1.21 times
+mawk for `check`, 0.59 to 0.67 times nfcapd for `collect`, 0.58 to 0.74 times softflowd for `run`, and 370 to 709 ns a step for
+`replay`. Instructions were the same.
+"""
+
 COUNTED = """
 ## Instructions
 
@@ -203,7 +209,7 @@ def page(rows, counts, grown):
     for work, unit, ours, name, theirs in rows:
         beside, times = ("%s %.0f ns" % (name, theirs * 1e9), "%.2f" % (ours / theirs)) if name else ("", "")
         text += "| %s | %.0f ns a %s | %s | %s |\n" % (work, ours * 1e9, unit, beside, times)
-    text += COUNTED
+    text += ELSEWHERE + COUNTED
     for kind, ours, name, theirs in counts:
         beside = "%s %s, %.2f times" % (name, format(round(theirs), ","), ours / theirs) if name else ""
         text += "| `%s` | %s | %s | %s |\n" % (kind, UNITS[kind], format(round(ours), ","), beside)
