@@ -38,7 +38,7 @@ nothing up; `softflowd` meters the capture into flows and sends them nowhere.
 ELSEWHERE = """
 Machines differ, and their load: on one at 2.5 GHz whose host was busy, four such runs on 29 November gave 0.72 to 1.21 times
 mawk for `check`, 0.59 to 0.67 times nfcapd for `collect`, 0.58 to 0.74 times softflowd for `run`, and 370 to 709 ns a step for
-`replay`. Instructions were the same.
+`replay`. Instructions differed by less than 3 of 1,000.
 """
 
 COUNTED = """
