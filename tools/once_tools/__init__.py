@@ -1,0 +1,1 @@
+"""Programs around `once`: importers from router configurations, and readers of captured exports."""
