@@ -8,8 +8,8 @@ import os
 import re
 import shutil
 
-from bodies.edits import module_of, proof_paths, read, sources
-from bodies.texts import functions
+from mutation.edits import module_of, proof_paths, read, sources
+from mutation.texts import functions
 
 MARK = "_twin_"
 

@@ -1,26 +1,30 @@
-"""Tries the edits of one crate on copies of it, over the work that its checks keep."""
+"""Tries the mutants of one crate on copies of it, over the work that its checks keep."""
 import os
 import subprocess
 import tempfile
 import time
 
-from bodies.copies import MARK, Copies
-from bodies.edits import BAD, CONSTANT, IN_PLACE, TWIN, proof_paths, read, sources
-from bodies.texts import functions
-from bodies.verdicts import ENDED, FRONT, first_lines, judged, lines_of
+from mutation import answers
+from mutation.copies import MARK, Copies
+from mutation.edits import BAD, CONSTANT, IN_PLACE, TWIN, proof_paths, read, sources
+from mutation.texts import functions
+from mutation.verdicts import ENDED, FRONT, Verdict, first_lines, judged, lines_of
+
+# How often goals are tried anew, each time without one more stored answer, and the last time without any that does not fit.
+ROUNDS = 5
 
 
 class Trial:
-    """A crate's checks: what they stand on is kept in the folder `kept`; `proved` are the functions that needn't be proved
+    """A crate's checks. `kept` is the folder of the work that they keep; `proved` are the functions that need not be proved
     again, by their paths below proofs/."""
 
     def __init__(self, rtlib, crate, kept, proved=(), jobs=1, shown=None):
         self.rtlib, self.crate, self.kept, self.jobs, self.shown = rtlib, crate, kept, jobs, shown
         self.copies = Copies(rtlib, crate, proved)
-        self.seconds, self.checks, self.peak = 0.0, 0, 0
+        self.seconds, self.checks, self.peak, self.anew = 0.0, 0, 0, 0
 
     def judge(self, edits, with_own_bodies=False):
-        """Gives each edit its verdict: those on twins in one check, which those in place share as far as each function has but one."""
+        """Gives each edit its verdict: those on twins in one check, which those in place share where no function has two."""
         twins = [part for it in edits if it.kind == TWIN for part in it.parts]
         first, *others = apart([it for it in edits if it.kind == IN_PLACE], functions_of) or [[]]
         self.judge_parts([*twins, *parts_of(first)], with_own_bodies)
@@ -28,26 +32,26 @@ class Trial:
             self.judge_parts(parts_of(it), with_own_bodies)
         for it in edits:
             if it.kind in (TWIN, IN_PLACE):
-                lost = [part.verdict for part in it.parts if not part.verdict[0]]
+                lost = [part.verdict for part in it.parts if not part.verdict.is_refused]
                 it.verdict = lost[0] if lost else it.parts[0].verdict
         if not with_own_bodies:
             self.judge_constants([it for it in edits if it.kind == CONSTANT])
 
     def control(self, edits):
-        """Checks each function that an edit changes, on its twin or in place, with its own body, which is to be proved."""
+        """Checks each function that an edit changes, on its twin or in place, with its own body, which must be proved."""
         self.judge(edits, with_own_bodies=True)
         for it in edits:
             if it.kind in (TWIN, IN_PLACE):
-                lost = [part.verdict[1] for part in it.parts if not part.verdict[1].startswith("NOT REFUSED")]
-                it.verdict = (False, lost[0]) if lost else (True, "with the function's own body it is proved")
+                lost = [part.verdict.text for part in it.parts if not part.verdict.text.startswith("NOT REFUSED")]
+                it.verdict = Verdict(False, lost[0]) if lost else Verdict(True, "with the function's own body it is proved")
             elif it.kind != BAD:
-                it.verdict = True, "it changes a constant, and has no control"
+                it.verdict = Verdict(True, "it changes a constant, and has no control")
 
     def check(self, room, only):
-        """Checks the functions of these names in a copy of the crate; returns what is said and the status. What calls a function
-        that is refused, or that has a hole in place of its proof, is judged over that function's statement."""
-        words = [word for it in only for word in ("--only", it)]
-        words = self.crate.words(["--jobs", str(self.jobs), "--allow-holes", *words], keeps=False)
+        """Checks the functions of these names in a copy of the crate; returns what is printed and the status. A caller of a function
+        that is refused, or that has a hole for a proof, is judged over that function's statement."""
+        names = [argument for it in only for argument in ("--only", it)]
+        words = self.crate.words(["--jobs", str(self.jobs), "--allow-holes", *names], keeps=False)
         how = {"cwd": room, "stdin": subprocess.DEVNULL, "stdout": subprocess.PIPE, "stderr": subprocess.STDOUT}
         whole = [*self.rtlib.guarded(), self.rtlib.RATTLE, "check", *words, "--incremental", self.kept]
         began, lines = time.monotonic(), []
@@ -65,29 +69,56 @@ class Trial:
         return "".join(text for _, text in lines), ran.returncode
 
     def judge_parts(self, parts, with_own_bodies=False):
-        """Judges these parts in one check, each on a twin of its function or in place; once more without those that don't compile."""
+        """Judges these parts in one check, each on a twin of its function or in place; once more without those that do not
+        compile, and then those that only stored answers refuse, with their goals tried anew."""
+        if not with_own_bodies:
+            for it in parts:
+                it.without = [(folder, "Answers", goal) for goal in it.edit.goals for folder in self.proof_folders(it)]
+        parts = self.judge_once(parts, with_own_bodies)
+        for round in range(ROUNDS):
+            parts = [it for it in parts if it.verdict.misfits and not it.verdict.is_refused]
+            if with_own_bodies or not parts:
+                return
+            self.anew += len(parts)
+            for it in parts:
+                errors = it.verdict.misfits[:1] if round < ROUNDS - 1 else it.verdict.misfits
+                it.without += [(error.folder, error.file, error.goal) for error in errors]
+            parts = self.judge_once(parts)
+
+    def proof_folders(self, part):
+        """Returns the folders below proofs/ in which a check looks for proof files of the part."""
+        name = part.twin_name(MARK) if part.has_twin() else part.function.name
+        return [[*at[:-1], name] for at in part.folders()]
+
+    def judge_once(self, parts, with_own_bodies=False):
+        """Judges these parts in one check; returns those that compile."""
+        for it in parts:
+            it.verdict = None
         while parts:
-            with tempfile.TemporaryDirectory(prefix="wrong-bodies-") as room:
+            with tempfile.TemporaryDirectory(prefix="mutants-") as room:
                 self.copies.write(room, parts, [], with_own_bodies)
+                lasting = [it for part in parts for it in part.without if not answers.remove(room, *it)]
                 said, status = self.check(room, [self.symbol_of(it) for it in parts])
             if ENDED.search(said):
                 found = lines_of(said)
                 for it in parts:
                     it.verdict = verdict_on(said, found, it, self.symbol_of(it))
-                return
+                    # (an answer that cannot be removed cannot be tried without, either)
+                    it.verdict.misfits = [error for error in it.verdict.misfits if place_of(error) not in lasting]
+                return parts
             refuse_unread(said, parts)
             left = [it for it in parts if it.verdict is None]
             if len(left) == len(parts):
                 return self.judge_halves(said, status, parts, with_own_bodies)
             parts = left
+        return parts
 
     def judge_halves(self, said, status, parts, with_own_bodies):
         if len(parts) == 1:
-            parts[0].verdict = False, f"BAD EDIT: the check ended with status {status}: {first_lines(said)}"
-            return
+            parts[0].verdict = Verdict(False, f"BAD EDIT: the check ended with status {status}: {first_lines(said)}")
+            return []
         half = len(parts) // 2
-        self.judge_parts(parts[:half], with_own_bodies)
-        self.judge_parts(parts[half:], with_own_bodies)
+        return [part for it in (parts[:half], parts[half:]) for part in self.judge_once(it, with_own_bodies)]
 
     def symbol_of(self, part):
         """Returns the name by which a check is asked for the part's function, or for its twin."""
@@ -100,31 +131,43 @@ class Trial:
         return "::".join([self.crate.name, *at])
 
     def judge_constants(self, edits):
-        """Judges edits of constants, as many in one check as no function that is asked for names constants of two: of each
-        edit one function is to be refused."""
+        """Judges edits of constants, several in one check if no function that is asked for names constants of two: of each
+        edit one function must be refused."""
         changed = {(path, name) for it in edits for path, name, _, _ in it.constants}
         for together in apart(edits, lambda it: self.constants_met(it, changed)):
-            found = {it: self.functions_asked(it) for it in together}
-            asked = [it for there in found.values() for it in there]
-            with tempfile.TemporaryDirectory(prefix="wrong-bodies-") as room:
-                self.copies.write(room, [], [(path, it.key) for path, it in asked])
-                for it in together:
-                    change_constants(room, it)
-                said, status = self.check(room, [self.symbol(*it) for it in asked]) if asked else ("", 0)
+            removed = []
+            for round in range(ROUNDS):
+                self.judge_constants_once(together, removed)
+                together = [it for it in together if it.verdict.misfits and not it.verdict.is_refused]
+                if not together:
+                    break
+                self.anew += len(together)
+                removed += [place_of(error) for it in together for error in it.verdict.misfits]
+
+    def judge_constants_once(self, together, removed):
+        found = {it: self.functions_asked(it) for it in together}
+        asked = [it for there in found.values() for it in there]
+        with tempfile.TemporaryDirectory(prefix="mutants-") as room:
+            self.copies.write(room, [], [(path, it.key) for path, it in asked])
             for it in together:
-                it.verdict = self.verdict_on_constant(said, status, found[it])
+                change_constants(room, it)
+            lasting = [it for it in removed if not answers.remove(room, *it)]
+            said, status = self.check(room, [self.symbol(*it) for it in asked]) if asked else ("", 0)
+        for it in together:
+            it.verdict = self.verdict_on_constant(said, status, found[it])
+            it.verdict.misfits = [error for error in it.verdict.misfits if place_of(error) not in lasting]
 
     def verdict_on_constant(self, said, status, asked):
         if not ENDED.search(said):
-            return False, f"BAD EDIT: the check ended with status {status}: {first_lines(said)}"
+            return Verdict(False, f"BAD EDIT: the check ended with status {status}: {first_lines(said)}")
         symbols = {self.symbol(*it) for it in asked}
         verdicts = [judged(said, it) for it in lines_of(said) if it.symbol in symbols and not it.is_proved]
-        refused = [it for it in verdicts if it and it[0]]
-        return refused[0] if refused else (False, "NOT REFUSED: each function that was asked for is proved")
+        verdicts = sorted((it for it in verdicts if not it.waits), key=lambda it: (not it.is_refused, not it.misfits))
+        return verdicts[0] if verdicts else Verdict(False, "NOT REFUSED: each function that was asked for is proved")
 
     def functions_asked(self, edit):
-        """Returns the functions of which an edit of constants wants one to be refused, with their files: those that it tells,
-        and else those of the constants' files that name them."""
+        """Returns the functions, with their files, of which an edit of constants wants one to be refused: those that it names,
+        or else those of the constants' files that name the constants."""
         if edit.refused:
             names = [it.rpartition("::") for it in edit.refused]
             return [found for found in self.all_functions() if any(found[1].is_in(it[0], it[2]) for it in names)]
@@ -143,6 +186,10 @@ class Trial:
         return [(path, it) for path in sources(folder) for it in functions(read(f"{folder}/{path}"))]
 
 
+def place_of(error):
+    return error.folder, error.file, error.goal
+
+
 def change_constants(room, edit):
     for path, _, was, now in edit.constants:
         text = read(f"{room}/{path}").replace(was, now)
@@ -159,7 +206,7 @@ def parts_of(edits):
 
 
 def apart(edits, keys_of):
-    """Returns the edits in as few lists as no two of one list have a key in common."""
+    """Returns the edits in as few lists as possible, no two edits of one list with a key in common."""
     found = []
     for edit in edits:
         keys = keys_of(edit)
@@ -182,11 +229,11 @@ def verdict_on(said, found, part, symbol):
         own = [it for it in found if it.symbol == symbol] or [it for it in found if it.is_inside(part.path, part.lines)]
         inner = []
     if not own:
-        return False, "BAD EDIT: the check printed no line for the changed function"
+        return Verdict(False, "BAD EDIT: the check printed no line for the changed function")
     verdict = judged(said, own[0], inner, part.path, part.lines)
-    if verdict is None:
-        return False, f"BAD EDIT: it waits for a function that isn't proved: {own[0].words[:160]}"
-    return verdict[0], verdict[1].replace(symbol, part.function.name) if part.has_twin() else verdict[1]
+    if part.has_twin():
+        verdict.text = verdict.text.replace(symbol, part.function.name)
+    return verdict
 
 
 def refuse_unread(said, parts):
@@ -194,4 +241,4 @@ def refuse_unread(said, parts):
     for error in FRONT.finditer(said):
         for it in parts:
             if it.verdict is None and it.path == error[1] and it.lines[0] <= int(error[2]) <= it.lines[1]:
-                it.verdict = False, f"BAD EDIT: it doesn't compile: {error[0][:200]}"
+                it.verdict = Verdict(False, f"BAD EDIT: it does not compile: {error[0][:200]}")

@@ -1,17 +1,18 @@
-"""Reads edits: which functions each gives a wrong body, or which constant another value."""
+"""Reads edits: which functions each mutates, or which constant it gives another value."""
 import functools
 import itertools
 import os
 import re
 
-from bodies.texts import constants, contracts, functions, skeleton, type_name
+from mutation.texts import constants, contracts, functions, skeleton, type_name
+from mutation.verdicts import Verdict
 
 # How an edit is tried.
 TWIN, IN_PLACE, CONSTANT, BAD = "on twins", "in place", "of a constant", "bad"
 
 
 class Part:
-    """A function that an edit gives a wrong body."""
+    """A function that an edit mutates."""
 
     numbers = itertools.count(1)
 
@@ -19,6 +20,8 @@ class Part:
         self.edit, self.path, self.function, self.body = edit, path, function, body
         # (no two twins have one name)
         self.number, self.lines, self.verdict = next(Part.numbers), (0, 0), None
+        # (the goals that are tried without their stored answers, with their files)
+        self.without = []
 
     def has_twin(self):
         return self.edit.kind == TWIN
@@ -38,20 +41,25 @@ class Edit:
     def __init__(self, folder, file):
         self.folder, self.name = folder, os.path.basename(file)
         self.kind, self.parts, self.constants, self.verdict = TWIN, [], [], None
-        self.refused = re.findall(r"(?m)^refused: *(\S+)", read(file))
-        self.texts, why = edited(read(file), folder)
+        text = read(file)
+        self.refused = re.findall(r"(?m)^refused: *(\S+)", text)
+        self.shows = re.findall(r"(?m)^shows: *(\S.*)", text)
+        self.goals = re.findall(r"(?m)^goal: *(\S+)", text)
+        # (what a verdict rests on: `shows:` is for readers, and `goal:` only says what to try first)
+        self.sum = "\n".join(line for line in text.split("\n") if not line.startswith(("shows:", "goal:"))).strip()
+        self.texts, why = edited(text, folder)
         for path, text in self.texts.items():
             why = why or self.compare(path, read(f"{folder}/{path}"), text)
         if self.parts and self.constants:
             why = why or "it changes bodies and constants"
         if why or not (self.parts or self.constants):
-            self.kind, self.verdict = BAD, (False, f"BAD EDIT: {why or 'no function gets another body'}")
+            self.kind, self.verdict = BAD, Verdict(False, f"BAD EDIT: {why or 'no function gets another body'}")
 
     def compare(self, path, old, new):
-        """Takes in what the edit changes in this file, or returns why that is no wrong body."""
+        """Adds what the edit changes in this file, or returns why that is no mutant."""
         was, now = functions(old), functions(new)
         if contracts(old, was) != contracts(new, now):
-            return "it changes a clause or another ghost line: a wrong body stands under its own contract"
+            return "it changes a clause or another ghost line: a mutant keeps its function's contract"
         if [it.key for it in was] != [it.key for it in now]:
             return "it adds, removes or renames a function"
         if skeleton(old, was) != skeleton(new, now):

@@ -1,0 +1,1 @@
+"""Tries the mutants of Rattle crates, many in one check."""
