@@ -1,9 +1,9 @@
-# The gate and the program. All of it needs the Rattle kit's command `rt` on the PATH; wrong bodies, rows and examples
-# need python3.
+# The gate and the program. All of it needs the Rattle kit's command `rt` on the PATH; mutants, rows and examples need
+# python3.
 
 SHELL := /bin/bash
 .DEFAULT_GOAL := help
-.PHONY: help kit replay once test proofs run-wrong wrong rows examples run-rows run-examples pictures torture clean \
+.PHONY: help kit replay once packages test proofs try-mutants mutants check pending rows examples pictures torture clean \
 	install uninstall deb manual
 
 # Prints what the part took when it ends.
@@ -16,10 +16,12 @@ help:
 	@echo 'make uninstall         removes them'
 	@echo 'make deb               builds a Debian package of the same, once_VERSION_amd64.deb'
 	@echo 'make manual            writes the man page and the completion anew, from the help of ./once'
-	@echo 'make test              the gate: all proofs from nothing, all wrong bodies, tests, rows and examples'
-	@echo 'make wrong NAME=CRATE  tries the wrong bodies of one crate; NAME=CRATE/WORD those with WORD in their names'
-	@echo 'make rows              proves and builds the program, and runs it over the worked rows'
-	@echo 'make examples          the same over the examples'
+	@echo 'make test              the gate: all proofs, mutants, tests, rows and examples; what passed here before is not repeated'
+	@echo 'make check             in minutes, before a proof: front ends, lists, rows, and proofs of the crates that changed'
+	@echo 'make pending           lists what the gate would still have to prove and try on this machine'
+	@echo 'make mutants NAME=CRATE  tries the mutants of one crate; NAME=CRATE/WORD those with WORD in their names'
+	@echo 'make rows              proves and builds the program, and runs the steps of the gate over it'
+	@echo 'make examples          the same for the examples alone'
 	@echo 'make pictures          draws the pictures of the examples anew (needs Graphviz)'
 	@echo 'make torture           the same over inputs that are made to do harm, for an hour or more'
 	@echo 'make clean             removes what was built'
@@ -39,86 +41,54 @@ once: kit
 	@ln -sf crates/once/out/program/once once
 	@echo 'once: proved and built as ./once'
 
-# The gate. Libraries that earlier checks left go first, so that the wrong bodies are tried over those that are proved here.
-test: kit
+# Installs the Debian packages that tests need, where that is possible.
+packages:
+	@python3 packaging/install_packages.py packaging/test-packages
+
+# The gate. Libraries that earlier checks left go first, so that mutants are tried over those that are proved here.
+# ANEW=--anew repeats what passed on this machine before.
+ANEW =
+test: kit packages
 	rm -rf crates/*/out/rlib
 	@$(call part,proofs and tests) $(MAKE) --no-print-directory proofs
-	@$(call part,wrong bodies) $(MAKE) --no-print-directory run-wrong
-	@$(call part,rows and examples) $(MAKE) --no-print-directory run-rows run-examples
+	@$(call part,mutants) $(MAKE) --no-print-directory try-mutants
+	@$(call part,rows and examples) python3 tests/gate.py $(ANEW)
+	@python3 tests/passed.py --note
 
-# Proves every crate and its tests from nothing, and runs the tests and the program, which two compilers build.
+# Proves every crate and its tests, and runs the tests and the program, which two compilers build.
 proofs:
-	rt ci
+	rt ci $(ANEW)
 	ln -sf crates/once/out/once once
 
-# Tries each wrong body, over the libraries as `rt ci` has built them.
-run-wrong:
-	python3 tests/wrong_bodies_test.py --as-built
-	python3 tests/wrong_bodies.py --as-built
+# Tries each mutant over the libraries as `rt ci` has built them.
+try-mutants:
+	python3 tests/mutants_test.py --as-built
+	python3 tests/mutants.py --as-built $(ANEW)
 
-# Tries wrong bodies over the work that checks have kept.
-wrong: kit
-	python3 tests/wrong_bodies.py --kept --jobs 2 $(NAME)
+# Tries mutants over the work that checks have kept.
+mutants: kit
+	python3 tests/mutants.py --kept --jobs 2 $(NAME)
 
-# Compares the lists of definitions to believe, and looks at clauses and crates.txt; then holds the schemas of documents
-# and what the tools write against the program, and runs it over the worked rows, over long certificates, with growths of
-# its memory refused, with reads and writes failed, with full files, over inputs that were changed or cut, and over keys
-# that were chosen to be slow to find.
-rows: once run-rows
+# What can be said in minutes, before the gate: the front ends of all crates, the lists, the steps over a program that is built without
+# a proof, and proofs of the crates that changed since the last commit known to pass.
+check: kit
+	@python3 packaging/build_unproved.py
+	@ln -sf out/unproved/once once
+	@python3 tests/gate.py definitions clauses crates callers refusals "unit tests" rows examples
+	@names=$$(python3 tests/passed.py --changed) && if [ -n "$$names" ]; then rt ci $$names; fi
 
-run-rows:
-	python3 tests/definitions.py --compare
-	python3 tests/clauses.py
-	python3 tests/crates.py
-	python3 tests/callers.py
-	python3 tests/refusals.py --compare
-	python3 tests/schemas.py ./once
-	python3 tests/members.py ./once
-	python3 tests/yang_module.py
-	python3 tests/tools.py ./once
-	python3 tests/rows.py ./once
-	python3 tests/rows_in_words.py ./once
-	python3 tests/terminal.py ./once
-	python3 tests/progress.py ./once
-	python3 tests/pages.py ./once
-	python3 tests/drawings.py ./once
-	python3 packaging/manual.py ./once --compare
-	python3 tests/long_certificates.py ./once
-	python3 tests/refused_growth.py ./once
-	python3 tests/failed_devices.py ./once
-	python3 tests/full_files.py ./once
-	python3 tests/mutated_inputs.py ./once
-	python3 tests/cut_inputs.py ./once
-	python3 tests/hostile_keys.py ./once
-	python3 tests/generated_networks.py ./once
-	python3 tests/addresses.py ./once
-	python3 tests/carried_in_pieces.py ./once
-	python3 tests/link_octets.py ./once
-	python3 bench/instructions.py ./once --noted docs/SPEED.md
+# Lists what the gate would still have to prove and try on this machine, with the time that docs/GATE.md has for each.
+pending: kit
+	@python3 tests/pending.py
 
-# Replays the runs of the examples, checks their certificates, confirms their refutations and meters their captures, and
-# compares with what they should print; then has what an audit of each answers judged.
-examples: once run-examples
+# Runs the steps of tests/steps.py over the program: lists, schemas, tools, worked rows, faults of memory and devices, changed inputs.
+rows: once
+	python3 tests/gate.py
 
-run-examples:
-	for run in examples/*/run*.txt; do \
-	  example=$$(dirname $$run); \
-	  ./once replay $$example/network.json $$example/traffic.json $$run | diff - $$example/totals$${run##*/run} || exit 1; \
-	done
-	for certificate in examples/*/certificate*.txt; do \
-	  example=$$(dirname $$certificate); \
-	  ./once check $$example/network.json $$example/traffic.json $$certificate | diff - $$example/answer$${certificate##*/certificate} || exit 1; \
-	done
-	for refutation in examples/*/refutation*.txt; do \
-	  example=$$(dirname $$refutation); \
-	  ./once confirm $$example/network.json $$example/traffic.json $$refutation | diff - $$example/refuted$${refutation##*/refutation} || exit 1; \
-	done
-	for capture in examples/*/capture.pcap; do \
-	  example=$$(dirname $$capture); \
-	  ./once run $$example/network.json $$example/traffic.json $$capture $$example/schedule.txt | diff - $$example/metered.txt || exit 1; \
-	done
-	python3 tests/generated_networks.py ./once --examples
-	ONCE=./once bash examples/scale/try.sh turn
+# Replays the runs of the examples, checks their certificates, confirms their refutations and meters their captures; then has
+# what an audit of each answers judged.
+examples: once
+	python3 tests/gate.py examples "generated examples" scale
 
 # Draws the pictures of the examples anew, with Graphviz's dot: each network with its traffic and its certificate or
 # refutation.

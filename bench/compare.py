@@ -35,11 +35,8 @@ nothing up; `softflowd` meters the capture into flows and sends them nowhere.
 |---|---|---|---|
 """
 
-ELSEWHERE = """
-Machines differ, and their load: on one at 2.5 GHz whose host was busy, four such runs on 29 November gave 0.72 to 1.21 times
-mawk for `check`, 0.59 to 0.67 times nfcapd for `collect`, 0.58 to 0.74 times softflowd for `run`, and 370 to 709 ns a step for
-`replay`. Instructions differed by less than 3 of 1,000.
-"""
+# What was measured once, on other machines or of earlier texts.
+ELSEWHERE, EARLIER_PROOFS = (os.path.join(TOP, "bench", name) for name in ("elsewhere.md", "earlier_proofs.md"))
 
 COUNTED = """
 ## Instructions
@@ -56,10 +53,6 @@ PROOF = """
 ## The proof
 
 What `make once` took where it last proved all crates of the program in one call, as it does in a fresh clone: {proved}.
-
-Before the proofs were made cheaper (27 November, 79e0fc68) its own `make once` took 4194 s, 6286 s of processor time: \
-measured on 29 November on 4 processors, of whose time the host kept 624 s, right before the text of that day, which took \
-1570 s, 4683 s of processor time, while the host kept 893 s.
 """
 
 GROWTH = """
@@ -204,18 +197,22 @@ def peers():
     return ", ".join(it.replace(": Version:", "").replace("version ", "").replace("-3", " 3") for it in told)
 
 
+def text_of(path):
+    with open(path, encoding="utf-8") as file:
+        return file.read()
+
+
 def page(rows, counts, grown):
     text = HEAD.format(machine=machine(), peers=peers(), day=datetime.date.today(), rounds=ROUNDS)
     for work, unit, ours, name, theirs in rows:
         beside, times = ("%s %.0f ns" % (name, theirs * 1e9), "%.2f" % (ours / theirs)) if name else ("", "")
         text += "| %s | %.0f ns a %s | %s | %s |\n" % (work, ours * 1e9, unit, beside, times)
-    text += ELSEWHERE + COUNTED
+    text += "\n" + text_of(ELSEWHERE) + COUNTED
     for kind, ours, name, theirs in counts:
         beside = "%s %s, %.2f times" % (name, format(round(theirs), ","), ours / theirs) if name else ""
         text += "| `%s` | %s | %s | %s |\n" % (kind, UNITS[kind], format(round(ours), ","), beside)
     if os.path.exists(PROVED):
-        with open(PROVED) as file:
-            text += PROOF.format(proved=file.read().strip())
+        text += PROOF.format(proved=text_of(PROVED).strip()) + "\n" + text_of(EARLIER_PROOFS)
     text += GROWTH
     for kind, unit, points in grown:
         text += "- `%s`: %s\n" % (kind, ", ".join("%s %ss %.3f" % (format(size, ","), unit, took) for size, took in points))

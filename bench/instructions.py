@@ -120,7 +120,7 @@ def main(words):
     parser.add_argument("--most", type=float, default=1.10)
     words, dear = parser.parse_args(words), []
     if words.noted and not shutil.which("valgrind"):
-        print("instructions: valgrind isn't on the PATH, so nothing was counted")
+        print("not run: instructions by unit of work: there is no valgrind (Debian's package valgrind)")
         return 0
     with tempfile.TemporaryDirectory() as work:
         inputs = {name: (make(work, size), make(work, 2 * size)) for name, (make, size) in KINDS.items()}

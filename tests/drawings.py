@@ -19,7 +19,7 @@ import tempfile
 sys.dont_write_bytecode = True
 TOP = os.path.dirname(os.path.dirname(os.path.abspath(__file__)))
 sys.path.insert(0, os.path.join(TOP, "tests"))
-from verdict import told
+from verdict import not_run, told
 
 NODE = re.compile(r'^ *([a-z]+[0-9_]+) \[(.*)\];$')
 EDGE = re.compile(r'^ *([a-z]+[0-9_]+) -> ([a-z]+[0-9_]+)(?: \[(.*)\])?;$')
@@ -247,7 +247,7 @@ def drawings(drawer):
 def main(words):
     dot = words[1] if len(words) > 1 else shutil.which("dot")
     if not dot:
-        print("no dot (Debian's package graphviz): no drawing is given to it")
+        not_run("drawings through dot", "there is no dot (Debian's package graphviz)")
     return told(drawings(Drawer(os.path.abspath(words[0]), dot)))
 
 

@@ -48,7 +48,7 @@ def sweep(shim, row, kind, behind):
 
 def main(program):
     if not shutil.which("cc"):
-        print("cc is missing: it builds failed_devices.c")
+        print("there is no cc (Debian\'s packages gcc and libc6-dev): it builds failed_devices.c")
         return 1
     failed = 0
     with tempfile.TemporaryDirectory() as folder:

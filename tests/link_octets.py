@@ -22,6 +22,8 @@ import sys
 import tempfile
 import time
 
+from verdict import not_run
+
 HERE = os.path.dirname(os.path.abspath(__file__))
 # The folders of the networks, and the files of their schedules.
 NETWORKS = [
@@ -175,7 +177,7 @@ def faults(program, folder, schedule, readers):
 def main(program):
     readers = {"tshark": of_tshark, "ipfixDump": of_ipfix_dump, "nfcapd": of_nfcapd}
     for name in [name for name in readers if not shutil.which(name)]:
-        print("%s isn't there: the links are read without it" % name)
+        not_run("links read by %s" % name, "it is missing (Debian's packages tshark, libfixbuf-tools, nfdump)")
         del readers[name]
     found = []
     for network, schedule in NETWORKS:
@@ -187,7 +189,7 @@ def main(program):
                 if fault:
                     print("%s: %s" % (network, fault))
     failed = len([fault for fault in found if fault])
-    print("%d links, %d failed" % (len(found), failed))
+    print("%d passed, %d failed" % (len(found) - failed, failed))
     return 1 if failed else 0
 
 

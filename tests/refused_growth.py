@@ -139,7 +139,7 @@ def is_right(name, outcome):
 
 def main(program):
     if not shutil.which("cc"):
-        print("cc is missing: it builds refused_growth.c")
+        print("there is no cc (Debian\'s packages gcc and libc6-dev): it builds refused_growth.c")
         return 1
     with tempfile.TemporaryDirectory() as folder:
         shim = Shim(os.path.abspath(program), folder, "refused_growth", "GROWTHS")

@@ -111,5 +111,5 @@ if command -v jq > /dev/null; then
   try_classes
   try_faults
 else
-  echo "not tried: traffic, as jq isn't there"
+  echo "not run: traffic cut and joined: there is no jq (Debian's package jq)"
 fi
