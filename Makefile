@@ -3,10 +3,11 @@
 
 SHELL := /bin/bash
 .DEFAULT_GOAL := help
-.PHONY: help kit replay once packages test proofs try-mutants mutants check pending rows examples pictures torture clean \
+.PHONY: help kit replay once packages test proofs mutants check pending rows examples pictures torture clean \
 	install uninstall deb manual
 
 # Prints what the part took when it ends.
+comma = ,
 part = TIMEFORMAT='part $(1): %0R s, %0U and %0S s of processor time'; time
 
 help:
@@ -50,20 +51,15 @@ packages:
 ANEW =
 test: kit packages
 	rm -rf crates/*/out/rlib
-	@$(call part,proofs and tests) $(MAKE) --no-print-directory proofs
-	@$(call part,mutants) $(MAKE) --no-print-directory try-mutants
+	@$(call part,proofs$(comma) tests and mutants) $(MAKE) --no-print-directory proofs
+	@$(call part,cases of mutants) python3 tests/mutants_test.py --as-built
 	@$(call part,rows and examples) python3 tests/gate.py $(ANEW)
 	@python3 tests/passed.py --note
 
-# Proves every crate and its tests, and runs the tests and the program, which two compilers build.
+# Proves every crate and its tests, runs the tests and the program, which two compilers build, and tries all mutants.
 proofs:
-	rt ci $(ANEW)
+	python3 tests/prove.py $(ANEW)
 	ln -sf crates/once/out/once once
-
-# Tries each mutant over the libraries as `rt ci` has built them.
-try-mutants:
-	python3 tests/mutants_test.py --as-built
-	python3 tests/mutants.py --as-built $(ANEW)
 
 # Tries mutants over the work that checks have kept.
 mutants: kit

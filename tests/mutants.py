@@ -35,14 +35,18 @@ tried again. One line a mutant that is tried; the last line is `N passed, N fail
   --pending   print how many mutants of each crate would be tried, and try none
   --goals     write a line `goal:` into each mutant that was refused only once a goal was tried anew
   --control   try each function that a mutant changes, on a twin or in place, with its own body: all must be proved
+  --follow    try each crate's mutants as soon as `rt ci`, which runs beside this, keeps the crate's proof; end where standard
+              input does, which says that `rt ci` has ended, once no more are ready
   --jobs N    processes of each check
   --show FILE write all that the checks print to the file, each line after the second at which it came
   NAME/WORD   only the mutants of this crate whose name contains WORD
 """
 import argparse
 import os
+import select
 import sys
 import time
+from concurrent.futures import FIRST_COMPLETED, ThreadPoolExecutor, wait
 
 sys.dont_write_bytecode = True
 sys.path.insert(0, os.path.dirname(os.path.realpath(__file__)))
@@ -54,11 +58,13 @@ from mutation.store import Digests, Store, store_folder
 from shown import faults_of
 
 FOLDER = "mutants"
+# How often it is looked for crates that `rt ci` has proved meanwhile.
+FOLLOW_SECONDS = 5
 
 
 def arguments_of(arguments):
     parser = argparse.ArgumentParser(usage=__doc__.split("usage: ")[1].split("\n")[0])
-    for flag in ("--kept", "--as-built", "--anew", "--pending", "--goals", "--control"):
+    for flag in ("--kept", "--as-built", "--anew", "--pending", "--goals", "--control", "--follow"):
         parser.add_argument(flag, action="store_true")
     parser.add_argument("--jobs", type=int, default=1)
     parser.add_argument("--show", type=os.path.abspath)
@@ -163,15 +169,55 @@ def main(arguments):
         return 0
     faults = [f"{it.crate.name}/{fault}" for it in found for fault in it.faults]
     libraries = Libraries(rt, os.getcwd(), crates)
-    if not build_below([it.crate for it in left], arguments, libraries):
+    if arguments.follow:
+        given = follow(rt, left, arguments, libraries)
+    elif build_below([it.crate for it in left], arguments, libraries):
+        given = rt.in_lanes({(it.crate.name, "edits"): task_of(rt, it, arguments, libraries) for it in left}).values()
+    else:
         return 1
-    given = rt.in_lanes({(it.crate.name, "edits"): task_of(rt, it, arguments, libraries) for it in left}).values()
     passed, failed, seconds = (sum(it[at] for it in given) for at in range(3))
+    lost = sum(len(it.pending()) for it in left) - passed - failed
+    if lost:
+        print(f"{lost} mutants were not tried, as their crates were not proved")
     for it in faults:
         print(it)
     print(f"mutants: {passed + failed} tried, {known} known from earlier runs on this machine; {seconds:.0f} s of processor time")
-    print(f"{passed + known} passed, {failed + len(faults)} failed")
-    return 1 if failed or faults or not passed + known else 0
+    print(f"{passed + known} passed, {failed + len(faults) + lost} failed")
+    return 1 if failed or faults or lost or not passed + known else 0
+
+
+def follow(rt, left, arguments, libraries):
+    """Tries the mutants of each crate once its proof is kept, the longest first; returns what each trial gave."""
+    waiting, running, given = sorted(left, key=lambda it: -len(it.pending()) * it.crate.count(rb"\n")), set(), []
+    with ThreadPoolExecutor(rt.processors()) as pool:
+        while waiting or running:
+            has_ended = has_input_ended()
+            ready = [it for it in waiting if are_proved_now(libraries, [*it.crate.below(), it.crate])]
+            for it in ready[: rt.processors() - len(running)]:
+                waiting.remove(it)
+                running.add(pool.submit(try_crate, rt, it, arguments, True))
+            if has_ended and not running and not ready:
+                break
+            done, running = wait(running, timeout=FOLLOW_SECONDS, return_when=FIRST_COMPLETED)
+            given += [it.result() for it in done]
+            if not running and not ready:
+                time.sleep(FOLLOW_SECONDS)
+    return given
+
+
+def are_proved_now(libraries, crates):
+    """Returns whether all crates are proved, each after those below it; one that was not a while ago may be now."""
+    for it in crates:
+        if not libraries.found.get(it.name):
+            libraries.found.pop(it.name, None)
+        if not libraries.is_proved(it):
+            return False
+    return True
+
+
+def has_input_ended():
+    """Returns whether standard input has ended; it has no octets."""
+    return bool(select.select([sys.stdin], [], [], 0)[0])
 
 
 def task_of(rt, mutants, arguments, libraries):
