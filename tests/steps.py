@@ -39,7 +39,7 @@ STEPS = [
     of_texts("callers"),
     of_texts("refusals", "--compare"),
     Step("unit tests", ("-m", "pytest", "-q", "-p", "no:cacheprovider", "tests/unit"), ("python3-pytest",), False, False, "pytest", False),
-    Step("tools", ("-m", "pytest", "-q", "-p", "no:cacheprovider", "tools/tests"), ("python3-pytest",), True, False, "pytest"),
+    Step("importers", ("-m", "pytest", "-q", "-p", "no:cacheprovider", "tools/tests"), ("python3-pytest",), True, False, "pytest"),
     script("schemas", PROGRAM, needs=("python3-jsonschema",), module="jsonschema"),
     script("members", PROGRAM),
     script("yang_module", needs=("libyang-tools",)),
