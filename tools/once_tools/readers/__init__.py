@@ -29,6 +29,7 @@ class Reader(Protocol):
 
 MODULES = [
     "once_tools.readers.cisco_ios",
+    "once_tools.readers.pmacctd",
 ]
 
 # Other spellings that a project may use for a kind.
