@@ -38,14 +38,16 @@ def counted_twice(counted: list[Sighting], name: str) -> list[Finding]:
         other_line = other.device.describe(other.pointer)
         how = f"{metered_at(first)} and {metered_at(other)}" if first.crossing != other.crossing else \
             f"{metered_at(first)}, where both take it"
+        turned = first.device is other.device and first.direction != other.direction
         found.append(finding(first, f"this and {other_line} meter the same packets: '{name}' {how}, so each counts twice",
-                             "meter where packets come into the network, once"))
+                             "meter input on all interfaces and output on none" if turned else
+                             "meter where packets come into the network, and nowhere behind it"))
     return found
 
 
 def nowhere(view: NetworkView, path: Sequence[Json], name: str, packet: Mapping[str, str]) -> list[Finding]:
     """Returns what is to be said of a packet that nothing meters."""
-    seen = []
+    seen, place = [], Place("")
     for crossing in path:
         device = next((one for one in view.devices if one.name == crossing.get("device")), None)
         points = [] if device is None else [
@@ -58,8 +60,9 @@ def nowhere(view: NetworkView, path: Sequence[Json], name: str, packet: Mapping[
         else:
             lines = " and ".join(device.describe(f"/observationPoint/{number}/ifName/{at}") for number, at, _ in points)
             seen.append(f"{where_it_is} has {lines}, which does not take it")
+            place = place if place.file else device.place(f"/observationPoint/{points[0][0]}/ifName/{points[0][1]}")
     says = f"'{name}': {packet_words(packet)} is metered nowhere: {'; '.join(seen) or 'its path has no crossing'}"
-    return [Finding(Grade.WARNING, Place(""), says, "add a monitor of its version of IP and direction at one of these")]
+    return [Finding(Grade.WARNING, place, says, "add a monitor of its version of IP and direction at one of these")]
 
 
 def judged(view: NetworkView, sightings: list[Sighting], path: Sequence[Json], name: str, exempt: bool,

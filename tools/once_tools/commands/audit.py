@@ -73,16 +73,18 @@ def run(arguments: argparse.Namespace) -> int:
     program = find_once(arguments.once)
     imported = import_project(read_project(arguments.project), options_of(arguments))
     if not imported.pairs:
-        print_report(imported.report, arguments.format)
+        print_report(imported.report, arguments.format, arguments.project.parent)
         return imported.report.status
     with tempfile.TemporaryDirectory() as made:
         out = arguments.out or Path(made)
         write_texts(imported.texts(), out)
         answers = [audit_pair(program, pair, out / pair.folder) for pair in imported.pairs]
     blamed = [one for _, _, findings in answers for one in findings]
+    certified = any(status == 0 for status, _, _ in answers)
+    meaning = [*imported.report.meaning, ""] if certified else []
     report = Report([*imported.report.findings, *blamed], imported.report.accepts,
-                    [*imported.report.meaning, "", *(says for _, says, _ in answers)])
-    print_report(report, arguments.format)
+                    [*meaning, *(says for _, says, _ in answers)])
+    print_report(report, arguments.format, arguments.project.parent)
     statuses = {status for status, _, _ in answers}
     worst = next((one for one in WORST if one in statuses), 0)
     return worst or (NOT_ALL if imported.report.status == 1 else 0)

@@ -151,7 +151,7 @@ class Running:
         for one in classic.exporters:
             one.source = self.address_of(classic.source)
             for to in one.destinations:
-                to.version = classic.version
+                to.version = 8 if self.is_aggregation(one) else classic.version
         if classic.aggregations:
             inner = Destination("aggregation", "", 0, classic.aggregations[0].place, "tcp")
             self.device.exporters.append(Exporter(WITHIN, [inner], inner.place))
@@ -161,8 +161,10 @@ class Running:
         where = classic.version_place or (classic.exporters[0].place if classic.exporters else place)
         classic.notes.premise(where, "records of classic NetFlow have counters of 4 octets, which once refuses (110); the "
                                      "document has 8, so it speaks of records whose sums stay below 4,294,967,296", "", 110)
-        classic.notes.note(where, f"NetFlow version {classic.version}: the audit is the same, and `once collect` refuses its "
-                                  "messages (611)")
+        versions = sorted({str(to.version) for one in classic.exporters for to in one.destinations})
+        if versions:
+            classic.notes.note(where, f"NetFlow version {' and '.join(versions)}: the audit is the same, and `once collect` "
+                                      "refuses its messages (611)")
         if not classic.exporters:
             classic.notes.note(where, "there is no 'ip flow-export destination': what is metered is sent nowhere")
         self.add(classic.notes.bearing_on(self.exporters_of("")))
