@@ -1,6 +1,7 @@
 """From a project to its documents and its report."""
 from __future__ import annotations
 
+import os
 from dataclasses import dataclass, field, replace
 from pathlib import Path
 
@@ -120,17 +121,20 @@ def import_project(project: Project, options: Options = Options()) -> Imported:
 
 
 def write_texts(texts: dict[str, str], folder: Path) -> None:
-    """Writes texts into a folder, each completely or not at all; raises OSError."""
-    written: list[tuple[Path, Path]] = []
+    """Writes texts into a folder, all of them completely or none; what is no regular file is written to as it is."""
+    parts: list[tuple[Path, Path]] = []
     try:
         for name, text in texts.items():
-            target = folder / name
+            target = Path(os.path.realpath(folder / name))
             target.parent.mkdir(parents=True, exist_ok=True)
+            if target.exists() and not target.is_file():
+                target.write_text(text, encoding="utf-8", errors="backslashreplace")
+                continue
             part = target.with_name(f".{target.name}.part")
-            written.append((part, target))
+            parts.append((part, target))
             part.write_text(text, encoding="utf-8", errors="backslashreplace")
-        for part, target in written:
+        for part, target in parts:
             part.replace(target)
     finally:
-        for part, _ in written:
+        for part, _ in parts:
             part.unlink(missing_ok=True)

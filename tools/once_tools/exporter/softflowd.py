@@ -1,16 +1,19 @@
 """The command line of softflowd (1.1.0) as a meter."""
+from __future__ import annotations
+
 import getopt
 import re
+from typing import Iterator
 
-from parts import elements
-from parts.capture_filter import matches_of
-from parts.meter import VERSIONS, Meter, Plugin, Unusable
+from once_tools import elements
+from once_tools.exporter.capture_filter import matches_of
+from once_tools.exporter.meter import VERSIONS, End, Meter, Plugin, Unusable
 
 OPTIONS = "i:r:t:m:n:p:c:v:L:T:6dDP:A:s:B:baC:lR:S:Nx:h"
 # The flow keys of each track level; what isn't an axis is told.
 ADDRESSES = ["sourceAddress", "destinationAddress"]
 PORTS = ["sourceTransportPort", "destinationTransportPort"]
-LEVELS = {
+LEVELS: dict[str, tuple[list[str], str | None]] = {
     "ip": (ADDRESSES, None),
     "proto": (ADDRESSES + ["protocolIdentifier"], None),
     "port": (ADDRESSES + ["protocolIdentifier"] + PORTS, None),
@@ -23,7 +26,7 @@ TIMEOUTS = {"tcp": 3600, "tcp.rst": 120, "tcp.fin": 300, "udp": 300, "icmp": 300
 UNITS = {"": 1, "s": 1, "m": 60, "h": 3600, "d": 86400, "w": 604800}
 
 
-def seconds(text):
+def seconds(text: str) -> int:
     """The seconds of a time as softflowd reads it: 90, 1m30s, 2h."""
     if not re.fullmatch(r"(?i)([0-9]+[smhdw]?)+", text):
         raise Unusable("-t: %s is no time; write seconds, or a time as 1h30m" % text)
@@ -31,7 +34,8 @@ def seconds(text):
     return min(found, 2**32 - 1)
 
 
-def timeouts(texts):
+def timeouts(texts: list[str]) -> dict[str, int]:
+    """The timeouts that are set, and those of softflowd where they are not."""
     found = dict(TIMEOUTS)
     for text in texts:
         name, _, time = text.partition("=")
@@ -41,7 +45,7 @@ def timeouts(texts):
     return found
 
 
-def destinations(text, transport):
+def destinations(text: str, transport: str) -> Iterator[End]:
     """Hosts with their ports: HOST:PORT, an address of IPv6 in brackets."""
     for one in text.split(","):
         words = re.fullmatch(r"\[([^\]]+)\]:([^:]+)|([^:\[\]]+):([^:]+)", one.strip())
@@ -50,7 +54,7 @@ def destinations(text, transport):
         yield words[1] or words[3], words[2] or words[4], transport
 
 
-def version_of(options, lost):
+def version_of(options: dict[str, str], lost: list[str]) -> tuple[int, ...]:
     """The versions of IP that are exported, and what the version of the messages means."""
     version = options.get("-v", "5")
     if version == "psamp":
@@ -63,7 +67,8 @@ def version_of(options, lost):
     return VERSIONS if version in ("9", "10") else (4,)
 
 
-def interface_of(options, meter):
+def interface_of(options: dict[str, str], meter: Meter) -> str:
+    """The interface that is metered."""
     if "-R" in options:
         raise Unusable("-R: softflowd receives PSAMP then, and sees no interface; name one with -i")
     if "-i" in options:
@@ -77,7 +82,7 @@ def interface_of(options, meter):
     return "capture"
 
 
-def tell(options, meter):
+def tell(options: dict[str, str], meter: Meter) -> None:
     """What an audit can't be told, option by option."""
     meter.lost.append("softflowd sends counters of 4 octets, which once refuses (110 in a document, 618 in a stream): "
                       "the document has them in 8, so it speaks of records whose sums stay below 4,294,967,296")
@@ -99,7 +104,7 @@ def tell(options, meter):
                           "what goes to the others as lost")
 
 
-def read(words):
+def read(words: list[str]) -> Meter:
     """The meter of a command line."""
     try:
         given, rest = getopt.gnu_getopt(words, OPTIONS)

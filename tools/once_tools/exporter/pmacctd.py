@@ -1,11 +1,16 @@
 """The settings of pmacctd (pmacct 1.7.7) as a meter: of its plugins those that export flow records, nfprobe."""
+from __future__ import annotations
+
 import getopt
 import re
+from typing import Iterator, overload
 
-from parts import elements
-from parts.capture_filter import matches_of
-from parts.meter import VERSIONS, Meter, Plugin, Unusable
-from parts.table import text_of
+from once_tools import elements
+from once_tools.exporter.capture_filter import matches_of
+from once_tools.exporter.meter import VERSIONS, End, Meter, Plugin, Unusable
+from once_tools.tables.table import text_of
+
+Found = tuple[str, str | None, str]
 
 OPTIONS = "hVf:ac:DNzn:t:P:di:I:S:F:wZ:WY:RL:up:b:m:s:r:"
 # Options that stand for settings.
@@ -24,7 +29,7 @@ HARMLESS = re.compile(r"daemonize|debug|pidfile|syslog|logfile|core_proc_name|pr
                       r"pcap_ifindex|pcap_sf_.*|(timestamps|files|print|imt|sql|kafka|amqp|networks)_.*")
 
 
-def setting(text, place):
+def setting(text: str, place: str) -> Found:
     """The key, the plugin and the value of a setting: KEY: VALUE, or KEY[PLUGIN]: VALUE."""
     words = re.fullmatch(r"\s*([A-Za-z0-9_]+)(?:\[([^\]]*)\])?\s*[:=]\s*(.*?)\s*", text)
     if not words:
@@ -32,7 +37,7 @@ def setting(text, place):
     return words[1], words[2], words[3]
 
 
-def settings_in(path):
+def settings_in(path: str) -> Iterator[Found]:
     """The settings of a file; a line that begins with ! or # is a comment."""
     for number, line in enumerate(text_of(path).splitlines(), 1):
         if line.strip() and line.strip()[0] not in "!#":
@@ -42,23 +47,31 @@ def settings_in(path):
 class Settings:
     """Settings by their keys, those of one plugin before those of all."""
 
-    def __init__(self, found):
+    def __init__(self, found: list[Found]) -> None:
         self.values = {(key, plugin): value for key, plugin, value in found}
 
-    def get(self, key, plugin=None, usual=None):
+    @overload
+    def get(self, key: str, plugin: str | None, usual: str) -> str: ...
+
+    @overload
+    def get(self, key: str, plugin: str | None = None, usual: None = None) -> str | None: ...
+
+    def get(self, key: str, plugin: str | None = None, usual: str | None = None) -> str | None:
+        """The value of a key, that of the plugin first."""
         return self.values.get((key, plugin), self.values.get((key, None), usual))
 
-    def keys(self):
+    def keys(self) -> list[str]:
+        """The keys that are set."""
         return sorted({key for key, _ in self.values})
 
 
-def settings_of(words):
+def settings_of(words: list[str]) -> Settings:
     """The settings of a command line: of its file, its options, and words as KEY=VALUE; the rest is a filter."""
     try:
         options, rest = getopt.gnu_getopt(words, OPTIONS)
     except getopt.GetoptError as error:
         raise Unusable("pmacctd: %s; `pmacctd -h` lists its options" % error) from None
-    found = [one for option, value in options if option == "-f" for one in settings_in(value)]
+    found: list[Found] = [one for option, value in options if option == "-f" for one in settings_in(value)]
     found += [(SETTINGS[option], None, value) for option, value in options if option in SETTINGS]
     found += [("promisc", None, "false") for option, _ in options if option == "-N"]
     assigned = [word for word in rest if re.match(r"[a-z_0-9]+(\[[^\]]*\])?[=:]", word)]
@@ -69,10 +82,10 @@ def settings_of(words):
     return Settings(found)
 
 
-def plugins_of(settings, meter):
+def plugins_of(settings: Settings, meter: Meter) -> list[str]:
     """The names of the plugins that export flow records."""
     names = []
-    for text in settings.get("plugins", usual="").split(","):
+    for text in settings.get("plugins", None, "").split(","):
         words = re.fullmatch(r"\s*(\w+)(?:\[([^\]]*)\])?\s*", text)
         if words and words[1] == "nfprobe":
             names.append(words[2] or "nfprobe")
@@ -85,7 +98,7 @@ def plugins_of(settings, meter):
     return names
 
 
-def axes_of(settings, name, meter):
+def axes_of(settings: Settings, name: str, meter: Meter) -> list[str]:
     """The axes that a plugin's records have: pmacctd sends ipVersion in each."""
     found = ["ipVersion"]
     for primitive in settings.get("aggregate", name, USUAL).replace(" ", "").split(","):
@@ -96,14 +109,15 @@ def axes_of(settings, name, meter):
     return list(dict.fromkeys(found))
 
 
-def number(settings, key, name, usual, least, most):
+def number(settings: Settings, key: str, name: str | None, usual: str, least: int, most: int) -> int:
+    """The number that a key is set to."""
     text = settings.get(key, name, usual)
     if not elements.is_number(text, least, most):
         raise Unusable("%s: %s is no number from %d to %d" % (key, text, least, most))
     return int(text)
 
 
-def receiver(settings, name):
+def receiver(settings: Settings, name: str) -> End:
     """Where a plugin sends to: ADDRESS:PORT, an address of IPv6 in brackets."""
     text = settings.get("nfprobe_receiver", name, "127.0.0.1:2100")
     words = re.fullmatch(r"\[([^\]]+)\]:([^:]+)|([^:\[\]]+):([^:]+)", text)
@@ -112,7 +126,7 @@ def receiver(settings, name):
     return words[1] or words[3], words[2] or words[4], "udp"
 
 
-def cache_settings(settings, name):
+def cache_settings(settings: Settings, name: str) -> dict[str, int]:
     """The settings of a plugin's cache. Times are without meaning for the audit."""
     found = {"maxFlows": number(settings, "nfprobe_maxflows", name, "8192", 1, 2**32 - 1)}
     for text in filter(None, settings.get("nfprobe_timeouts", name, "").split(":")):
@@ -125,7 +139,8 @@ def cache_settings(settings, name):
     return found
 
 
-def plugin_of(settings, name, meter):
+def plugin_of(settings: Settings, name: str, meter: Meter) -> Plugin:
+    """A plugin that exports flow records."""
     version = settings.get("nfprobe_version", name, "10")
     if version not in ("5", "9", "10"):
         raise Unusable("nfprobe_version: there is no version %s; write 10 for IPFIX" % version)
@@ -140,11 +155,12 @@ def plugin_of(settings, name, meter):
         destinations=[receiver(settings, name)])
 
 
-def interface_of(settings, meter):
+def interface_of(settings: Settings, meter: Meter) -> str:
+    """The interface that is metered."""
     if settings.get("pcap_interfaces_map"):
         meter.lost.append("pcap_interfaces_map: its interfaces stand in another file; name them in ifName")
         return "of the map"
-    name = settings.get("pcap_interface", usual=settings.get("interface"))
+    name = settings.get("pcap_interface") or settings.get("interface")
     if name == "any":
         meter.lost.append("pcap_interface any: which interfaces these are; name them in ifName")
     if name:
@@ -155,7 +171,7 @@ def interface_of(settings, meter):
     return "capture"
 
 
-def tell(settings, meter):
+def tell(settings: Settings, meter: Meter) -> None:
     """What an audit can't be told, setting by setting."""
     for key in ("sampling_rate", "pmacctd_ext_sampling_rate", "sampling_map"):
         rates = {value for (name, _), value in settings.values.items() if name == key}
@@ -167,7 +183,7 @@ def tell(settings, meter):
             meter.lost.append("%s: whether it leaves packets out" % key)
     if "snaplen" in settings.keys():
         meter.lost.append("snaplen: packets are captured in part; where headers are cut, ports aren't seen")
-    if settings.get("promisc", usual="true") == "true" and not settings.get("pcap_savefile"):
+    if settings.get("promisc", None, "true") == "true" and not settings.get("pcap_savefile"):
         meter.told.append("without promisc: false the interface is promiscuous: packets that pass it by on the wire "
                           "are seen too")
     for key in settings.keys():
@@ -175,18 +191,19 @@ def tell(settings, meter):
             meter.lost.append("%s: it isn't known here whether it bears on what is metered" % key)
 
 
-def read(words):
+def read(words: list[str]) -> Meter:
     """The meter of a command line and the file that it names."""
     settings, meter = settings_of(words), Meter()
     names = plugins_of(settings, meter)
     meter.interface = interface_of(settings, meter)
     direction = settings.get("pcap_direction")
-    meter.direction = {None: "both", "in": "ingress", "out": "egress"}.get(direction)
-    if meter.direction is None:
+    directions = {None: "both", "in": "ingress", "out": "egress"}
+    if direction not in directions:
         raise Unusable("pcap_direction: there is no direction %s; write in or out" % direction)
+    meter.direction = directions[direction]
     if ":" not in settings.get("nfprobe_engine", names[0], "0"):
         meter.domain = number(settings, "nfprobe_engine", names[0], "0", 0, 2**32 - 1)
-    meter.matches = matches_of(settings.get("pcap_filter", usual=""), meter.lost)
+    meter.matches = matches_of(settings.get("pcap_filter", None, ""), meter.lost)
     meter.plugins = [plugin_of(settings, name, meter) for name in names]
     tell(settings, meter)
     return meter

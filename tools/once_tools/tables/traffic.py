@@ -1,12 +1,20 @@
 """The classes and paths of a table as a traffic declaration."""
-import itertools
+from __future__ import annotations
 
-from parts import cells
+import itertools
+from typing import Iterator
+
+from once_tools.tables import cells
+from once_tools.tables.cells import Entry
+from once_tools.tables.devices import Devices
+from once_tools.tables.table import Faults, Row
+
+Crossing = tuple[str, list[str], str, str]
 
 DIRECTIONS = ["ingress", "egress"]
 
 
-def crossing_of(there, row, text):
+def crossing_of(there: Devices, row: Row, text: str) -> Crossing | None:
     """A crossing's devices, interface and direction: DEVICE:INTERFACE:DIRECTION, the device a name or a pattern."""
     device, _, rest = text.partition(":")
     interface, _, direction = rest.rpartition(":")
@@ -19,10 +27,11 @@ def crossing_of(there, row, text):
     return device, there.meant(row, device), interface, direction
 
 
-def paths_of(there, row):
+def paths_of(there: Devices, row: Row) -> Iterator[list[Entry]]:
     """The paths of a row, one for each device that a pattern fits. A pattern that stands twice is one device."""
-    crossings = [crossing_of(there, row, text) for text in cells.listed(row.cells[1])]
-    if None in crossings:
+    found = [crossing_of(there, row, text) for text in cells.listed(row.cells[1])]
+    crossings = [one for one in found if one is not None]
+    if len(crossings) < len(found):
         return
     if len(crossings) > 32:
         there.faults.add(row.line, "%d crossings" % len(crossings), "write at most 32")
@@ -33,17 +42,20 @@ def paths_of(there, row):
                for pattern, _, interface, direction in crossings]
 
 
-def class_of(row, faults):
-    entry = {"name": row.cells[0], "region": cells.region(row, row.cells[1], faults), "paths": []}
+def class_of(row: Row, faults: Faults) -> Entry:
+    """The class of a row, without its paths."""
+    entry: Entry = {"name": row.cells[0], "region": cells.region(row, row.cells[1], faults), "paths": []}
     if len(row.cells) > 2:
         if cells.word(row, row.cells[2], ["exempt"], "mark", faults):
             entry["exempt"] = [None]
     return entry
 
 
-def traffic_of(rows, there):
+def traffic_of(rows: list[Row], there: Devices) -> Entry | None:
     """The traffic declaration of a table's rows, or nothing where it has no classes."""
-    faults, classes, lines = there.faults, {}, {}
+    faults = there.faults
+    classes: dict[str, Entry] = {}
+    lines: dict[str, int] = {}
     for row in rows:
         if row.kind == "class":
             if row.cells[0] in classes:

@@ -1,9 +1,16 @@
 """A network document of one meter and one collector: the meter has one interface, and plugins that export."""
+from __future__ import annotations
+
 import dataclasses
 import ipaddress
+from typing import Iterator
 
-from parts import cells, elements
-from parts.devices import MODULE
+from once_tools import elements
+from once_tools.tables import cells
+from once_tools.tables.cells import Entry
+from once_tools.tables.devices import MODULE
+
+End = tuple[str, str, str]
 
 VERSIONS = (4, 6)
 
@@ -12,13 +19,13 @@ VERSIONS = (4, 6)
 class Plugin:
     """What exports: the axes that its flows are told apart by, with `sourceAddress` for that of either version."""
     name: str
-    axes: list
-    versions: tuple = VERSIONS
+    axes: list[str]
+    versions: tuple[int, ...] = VERSIONS
     kind: str = "timeout"
-    settings: dict = dataclasses.field(default_factory=dict)
-    matches: list = dataclasses.field(default_factory=list)
+    settings: dict[str, int] = dataclasses.field(default_factory=dict)
+    matches: list[Entry] = dataclasses.field(default_factory=list)
     mode: str = "parallel"
-    destinations: list = dataclasses.field(default_factory=list)
+    destinations: list[End] = dataclasses.field(default_factory=list)
 
 
 @dataclasses.dataclass
@@ -27,43 +34,43 @@ class Meter:
     interface: str = ""
     direction: str = "both"
     domain: int = 0
-    matches: list = dataclasses.field(default_factory=list)
-    plugins: list = dataclasses.field(default_factory=list)
-    lost: list = dataclasses.field(default_factory=list)
-    told: list = dataclasses.field(default_factory=list)
+    matches: list[Entry] = dataclasses.field(default_factory=list)
+    plugins: list[Plugin] = dataclasses.field(default_factory=list)
+    lost: list[str] = dataclasses.field(default_factory=list)
+    told: list[str] = dataclasses.field(default_factory=list)
 
 
 class Unusable(Exception):
     """Settings of which no document can be made, with why and what to do."""
 
 
-def axes_of(plugin, version):
+def axes_of(plugin: Plugin, version: int) -> list[str]:
     """The axes of a plugin's records of one version of IP."""
     return [axis.replace("Address", "IPv%dAddress" % version) for axis in plugin.axes]
 
 
-def is_of(version, match):
+def is_of(version: int, match: Entry) -> bool:
     """Whether packets of this version of IP can have the value."""
     element = match["ieName"]
     if element == "ipVersion":
-        return match["value"] == str(version)
+        return bool(match["value"] == str(version))
     address = elements.ADDRESSES.get(element) or elements.PREFIXES.get(element)
     return address in (None, version)
 
 
-def selection_process(name, version, matches, cache):
+def selection_process(name: str, version: int, matches: list[Entry], cache: str) -> Entry:
     """Selects the packets of one version that have the values."""
-    wanted = [{"ieName": "ipVersion", "value": str(version)}] + [one for one in matches if one["ieName"] != "ipVersion"]
-    selectors = [{"name": one["ieName"], "filterMatch": one} for one in wanted]
+    wanted: list[Entry] = [{"ieName": "ipVersion", "value": str(version)}] + [one for one in matches if one["ieName"] != "ipVersion"]
+    selectors: list[Entry] = [{"name": one["ieName"], "filterMatch": one} for one in wanted]
     for place, selector in enumerate(selectors):
         if any(selector["name"] == other["name"] for other in selectors[:place]):
             selector["name"] += " %d" % place
     return {"name": name, "selector": selectors, "cache": cache}
 
 
-def destination(host, port, transport):
+def destination(host: str, port: str, transport: str) -> Entry:
     """A destination; its parameters are unread, and an address that is no number isn't one of the model."""
-    parameters = {}
+    parameters: Entry = {}
     try:
         parameters["destinationIPAddress"] = str(ipaddress.ip_address(host))
     except ValueError:
@@ -75,9 +82,9 @@ def destination(host, port, transport):
     return {"name": "%s port %s" % (host, port), transport + "Exporter": parameters}
 
 
-def meter_of(meter):
+def meter_of(meter: Meter) -> Entry:
     """The meter's configuration: for each plugin and version of IP a selection process and a cache."""
-    ipfix = {"observationPoint": [], "selectionProcess": [], "cache": [], "exportingProcess": []}
+    ipfix: dict[str, list[Entry]] = {"observationPoint": [], "selectionProcess": [], "cache": [], "exportingProcess": []}
     for plugin in meter.plugins:
         matches = meter.matches + plugin.matches
         for version in plugin.versions:
@@ -85,7 +92,7 @@ def meter_of(meter):
                 continue
             name = "%s IPv%d" % (plugin.name, version)
             layout = {"cacheField": elements.cache_fields(axes_of(plugin, version))}
-            cache = {**plugin.settings, "cacheLayout": layout}
+            cache: Entry = {**plugin.settings, "cacheLayout": layout}
             ipfix["selectionProcess"].append(selection_process(name, version, matches, name))
             ipfix["cache"].append({"name": name, plugin.kind + "Cache": cache, "exportingProcess": [plugin.name]})
         ipfix["exportingProcess"].append({"name": plugin.name, "exportMode": plugin.mode, "destination": [
@@ -97,7 +104,7 @@ def meter_of(meter):
     return ipfix
 
 
-def links_of(meter):
+def links_of(meter: Meter) -> Iterator[Entry]:
     """A link from each destination that is the first plugin's first one; says which others lead out of the network."""
     collector = meter.plugins[0].destinations[0][:2]
     for plugin in meter.plugins:
@@ -110,7 +117,7 @@ def links_of(meter):
                                   "receives it too, add a link" % where[:2])
 
 
-def key_of(meter, ipfix):
+def key_of(meter: Meter, ipfix: Entry) -> list[Entry]:
     """The address that is reported by where no key is asked for, or what records have in its place."""
     axes = [field["name"] for cache in ipfix["cache"] for kind in cache if kind.endswith("Cache")
             for field in cache[kind]["cacheLayout"]["cacheField"] if field["name"] in elements.AXES]
@@ -122,7 +129,7 @@ def key_of(meter, ipfix):
     return [{"ieName": axes[0]}]
 
 
-def unread_by(key, ipfix):
+def unread_by(key: list[Entry], ipfix: Entry) -> Iterator[str]:
     """The caches whose records don't have the key."""
     wanted = {elements.axis_of(field["ieName"]) for field in key}
     for cache in ipfix["cache"]:
@@ -131,7 +138,7 @@ def unread_by(key, ipfix):
             yield cache["name"]
 
 
-def check_names(meter):
+def check_names(meter: Meter) -> None:
     """Refuses what can't be a name of the document, or would stand twice there."""
     names = [plugin.name for plugin in meter.plugins]
     for name in names + [meter.interface] + [where[0] for plugin in meter.plugins for where in plugin.destinations]:
@@ -146,7 +153,7 @@ def check_names(meter):
                 raise Unusable("destination %s port %s stands twice; take one of them out" % where[:2])
 
 
-def network_of(meter, key):
+def network_of(meter: Meter, key: list[Entry] | None) -> Entry:
     """The network document of a meter, with a key of the report or nothing."""
     check_names(meter)
     ipfix = meter_of(meter)

@@ -1,5 +1,11 @@
 """The links and the report of a table, and the network document of it all."""
-from parts import cells, devices
+from __future__ import annotations
+
+from typing import Iterator
+
+from once_tools.tables import cells, devices
+from once_tools.tables.cells import Entry
+from once_tools.tables.table import Faults, Row
 
 ROWS = {
     "observation-point": devices.observation_point,
@@ -11,7 +17,7 @@ ROWS = {
 }
 
 
-def links_of(there, row, taken):
+def links_of(there: devices.Devices, row: Row, taken: dict[tuple[str, str, str], int]) -> Iterator[Entry]:
     """The links of a row, one for each device where they begin; notes which destinations are taken."""
     _, exporter, destination, to_device, to_process = row.cells
     if to_device not in there.lists:
@@ -33,7 +39,7 @@ def links_of(there, row, taken):
                "toDevice": to_device, "toProcess": to_process}
 
 
-def report_of(there, rows):
+def report_of(there: devices.Devices, rows: list[Row]) -> Entry | None:
     """The report of the row that there has to be."""
     if not rows:
         there.faults.add(1, "no row tells the report", "add a row: report DEVICE COLLECTING-PROCESS KEY")
@@ -48,7 +54,7 @@ def report_of(there, rows):
     return {"device": device, "collectingProcess": process, "key": cells.key(rows[0], key, there.faults)}
 
 
-def network_of(rows, faults):
+def network_of(rows: list[Row], faults: Faults) -> tuple[Entry, devices.Devices]:
     """The network document of a table's rows, and its devices; where the table has a fault it is noted."""
     there = devices.Devices(faults)
     for row in rows:
@@ -59,7 +65,7 @@ def network_of(rows, faults):
             if row.kind == kind:
                 put(there, row)
     there.look_up()
-    taken = {}
+    taken: dict[tuple[str, str, str], int] = {}
     links = [link for row in rows if row.kind == "link" for link in links_of(there, row, taken)]
     report = report_of(there, [row for row in rows if row.kind == "report"])
     return {"devices": list(there.documents()), "links": links, "report": report}, there

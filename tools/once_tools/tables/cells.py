@@ -1,19 +1,25 @@
 """What stands in a cell: names, keys, filters, regions."""
-from parts import elements
+from __future__ import annotations
 
+from typing import Any, Callable
+
+from once_tools import elements
+from once_tools.tables.table import Faults, Row
+
+Entry = dict[str, Any]
 LONGEST = 255
 
 
-def listed(cell):
+def listed(cell: str) -> list[str]:
     """The entries of a cell that has a list: between commas; - is none."""
     return [] if cell == "-" else [entry.strip() for entry in cell.split(",")]
 
 
-def is_name(text):
+def is_name(text: str) -> bool:
     return text != "" and text == text.strip() and len(text.encode()) <= LONGEST
 
 
-def name(row, text, faults):
+def name(row: Row, text: str, faults: Faults) -> bool:
     """Whether a text may be a name."""
     if is_name(text):
         return True
@@ -22,9 +28,9 @@ def name(row, text, faults):
     return False
 
 
-def names(row, cell, faults):
+def names(row: Row, cell: str, faults: Faults) -> list[str]:
     """The names of a cell."""
-    found = []
+    found: list[str] = []
     for text in listed(cell):
         if text in found:
             faults.add(row.line, "%s stands twice" % text, "take one of them out")
@@ -33,7 +39,7 @@ def names(row, cell, faults):
     return found
 
 
-def word(row, cell, words, what, faults):
+def word(row: Row, cell: str, words: list[str], what: str, faults: Faults) -> str | None:
     """One of a few words."""
     if cell in words:
         return cell
@@ -41,9 +47,9 @@ def word(row, cell, words, what, faults):
     return None
 
 
-def axes(row, cell, faults):
+def axes(row: Row, cell: str, faults: Faults) -> list[str]:
     """The axes that a cache's flows are told apart by."""
-    found = []
+    found: list[str] = []
     for text in listed(cell):
         if text not in elements.AXES:
             faults.add(row.line, "%s can't be a flow key" % text, "write elements of: " + ", ".join(elements.AXES))
@@ -54,9 +60,10 @@ def axes(row, cell, faults):
     return found
 
 
-def key(row, cell, faults):
+def key(row: Row, cell: str, faults: Faults) -> list[Entry]:
     """The fields of a key of a report or an aggregation: axes, and prefixes as sourceIPv4Prefix/24."""
-    found, seen = [], set()
+    found: list[Entry] = []
+    seen: set[str] = set()
     for text in listed(cell):
         element, slash, bits = text.partition("/")
         if element in elements.PREFIXES:
@@ -76,9 +83,10 @@ def key(row, cell, faults):
     return found
 
 
-def pairs(row, cell, known, fits, faults):
+def pairs(row: Row, cell: str, known: list[str], fits: Callable[[str, str], bool],
+          faults: Faults) -> list[tuple[str, str]]:
     """The elements of a cell with their values, as ipVersion=4; `all` is none."""
-    found = []
+    found: list[tuple[str, str]] = []
     for text in listed(cell) if cell != "all" else []:
         element, equals, value = text.partition("=")
         if element not in known or not equals:
@@ -94,16 +102,16 @@ def pairs(row, cell, known, fits, faults):
     return found
 
 
-def filters(row, cell, faults):
+def filters(row: Row, cell: str, faults: Faults) -> list[Entry]:
     """What packets or records must have."""
     known = elements.AXES + list(elements.PREFIXES)
     found = pairs(row, cell, known, elements.is_value, faults)
     return [{"ieName": element, "value": value} for element, value in found]
 
 
-def region(row, cell, faults):
+def region(row: Row, cell: str, faults: Faults) -> dict[str, str]:
     """The values that a class's packets have."""
-    found = {}
+    found: dict[str, str] = {}
     for element, value in pairs(row, cell, elements.AXES, elements.is_range, faults):
         if element in found:
             faults.add(row.line, "%s stands twice" % element, "write one range, or two classes")
