@@ -30,6 +30,7 @@ class Reader(Protocol):
 MODULES = [
     "once_tools.readers.cisco_ios",
     "once_tools.readers.pmacctd",
+    "once_tools.readers.softflowd",
 ]
 
 # Other spellings that a project may use for a kind.
