@@ -31,6 +31,8 @@ MODULES = [
     "once_tools.readers.cisco_ios",
     "once_tools.readers.pmacctd",
     "once_tools.readers.softflowd",
+    "once_tools.readers.nfacctd",
+    "once_tools.readers.nfcapd",
 ]
 
 # Other spellings that a project may use for a kind.
