@@ -57,6 +57,26 @@ def entry_of(finding: Finding, accepted: bool) -> dict[str, object]:
             "topic": finding.topic.value, "number": finding.number}
 
 
+def folded(findings: Iterable[Finding]) -> list[tuple[Finding, list[int]]]:
+    """Returns the findings, of those that differ by their lines alone the first with the other lines."""
+    found: dict[Finding, tuple[Finding, list[int]]] = {}
+    for one in findings:
+        key = replace(one, place=replace(one.place, line=0), exporters=())
+        if key in found and one.place.text:
+            found[key][1].append(one.place.line)
+        else:
+            found.setdefault(key, (one, []))
+    return list(found.values())
+
+
+def also(lines: list[int]) -> str:
+    """Returns the other lines that a finding speaks of, in words."""
+    if not lines:
+        return ""
+    shown = ", ".join(str(line) for line in lines[:12]) + (", .." if len(lines) > 12 else "")
+    return f" (also line{'s' if len(lines) > 1 else ''} {shown})"
+
+
 LEVELS = {Grade.WRONG: "error", Grade.NOT_CARRIED_OVER: "error", Grade.WARNING: "warning"}
 
 
@@ -89,8 +109,8 @@ class Report:
         return int(any(one.grade is Grade.NOT_CARRIED_OVER and not self.accepted(one) for one in self.findings))
 
     def lines(self) -> list[str]:
-        """Returns a line for each finding."""
-        return [line_of(one, self.accepted(one)) for one in self.findings]
+        """Returns a line for each finding; equal lines of a file are one line, with their numbers."""
+        return [line_of(one, self.accepted(one)) + also(others) for one, others in folded(self.findings)]
 
     def text(self) -> str:
         """Returns the report as text."""
