@@ -33,6 +33,7 @@ MODULES = [
     "once_tools.readers.softflowd",
     "once_tools.readers.nfacctd",
     "once_tools.readers.nfcapd",
+    "once_tools.readers.openvswitch",
 ]
 
 # Other spellings that a project may use for a kind.

@@ -107,7 +107,8 @@ class _Reading:
         if not found.destinations:
             raise Unusable(source.place(0), "names no receiver", "write id=N ip=ADDRESS:PORT")
         names = ", ".join(f"{one.address}:{one.port}" for one in found.destinations)
-        self.log.note(self.place("plugins"), f"tee forwards each record as it is, to {names}", exporters=(plugin.name,))
+        self.log.note(self.place("plugins"), f"tee forwards each record as it is, to {names} ({found.destinations[0].place.file}:"
+                      f"{found.destinations[0].place.line})", exporters=(plugin.name,))
         if not self.settings.is_true("tee_transparent", False, plugin.name):
             self.log.note(self.place("plugins"), "without tee_transparent the receivers see this host as the sender",
                           exporters=(plugin.name,))
@@ -139,7 +140,8 @@ class _Reading:
 
     def propose(self, plugin: Plugin) -> None:
         """Proposes the key that a plugin stores by as the report's key."""
-        place, key = self.place("aggregate", plugin.name), []
+        place = self.place("aggregate", plugin.name)
+        key: list[tuple[str, int | None]] = []
         mask = self.settings.number("networks_mask", 1, 32, plugin.name)
         for word in re.split(r"[,\s]+", self.settings.value("aggregate", USUAL, plugin.name)):
             if word in PRIMITIVES:
@@ -152,7 +154,7 @@ class _Reading:
                 self.log.unknown(place, word, [*PRIMITIVES, *WITHOUT_AXIS])
         names = ", ".join(name if length is None else f"{name}/{length}" for name, length in key)
         self.log.note(place, f"{plugin.name} stores by {names or 'nothing'}: proposed as the report's key")
-        self.device.proposed_keys.append((plugin.name, list(key), place))
+        self.device.proposed_keys.append((plugin.name, key, place))
 
     def report_rest(self) -> None:
         """Reports the settings that have no form in the document."""
