@@ -34,6 +34,7 @@ MODULES = [
     "once_tools.readers.nfacctd",
     "once_tools.readers.nfcapd",
     "once_tools.readers.openvswitch",
+    "once_tools.readers.junos",
 ]
 
 # Other spellings that a project may use for a kind.
