@@ -35,6 +35,9 @@ MODULES = [
     "once_tools.readers.nfcapd",
     "once_tools.readers.openvswitch",
     "once_tools.readers.junos",
+    "once_tools.readers.cisco_xr",
+    "once_tools.readers.vyos",
+    "once_tools.readers.arista_eos",
 ]
 
 # Other spellings that a project may use for a kind.
