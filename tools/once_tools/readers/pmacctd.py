@@ -154,16 +154,13 @@ class _Reading:
             says, todo = filters.too_many(error)
             self.log.lost(place, f"for IPv{version} {says}", todo, Topic.FILTER, None, (name,))
             return [filters.whole_family(cache, version, cache, place)]
-        self.report_filter(place, name, version, len(found))
+        bears_on = (name,) if self.own_filter(name) else self.everywhere
+        if not found:
+            self.log.note(place, f"no IPv{version} packet passes the filter", exporters=bears_on)
+        elif len(found) > 1:
+            self.log.note(place, f"the filter becomes {len(found)} selection processes of IPv{version} that do not overlap",
+                          exporters=bears_on)
         return found
-
-    def report_filter(self, place: Place, name: str, version: int, count: int) -> None:
-        if count == 0:
-            self.log.note(place, f"no IPv{version} packet passes the filter, so {name} has no cache for IPv{version}",
-                          exporters=(name,))
-        elif count > 1:
-            self.log.note(place, f"for IPv{version} the filter of {name} becomes {count} selection processes that do not overlap",
-                          exporters=(name,))
 
     def region(self, line: Setting | None, version: int, exporters: tuple[str, ...]) -> list[Box]:
         """Returns the packets of one version of IP that pass a filter, all of them if it has no region."""
