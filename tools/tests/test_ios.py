@@ -54,7 +54,7 @@ def test_unknown_monitor_is_wrong_with_the_nearest_name() -> None:
 
 
 def test_unknown_record_and_exporter_are_wrong() -> None:
-    text = interface("ip flow monitor M input").replace("\n record R\n", "\n record RR\n").replace(" exporter E\n", " exporter F\n")
+    text = interface("ip flow monitor M input").replace("\n record R\n", "\n record RR\n").replace("\n exporter E\n", "\n exporter F\n")
     assert findings(text, Grade.WRONG) == ["record RR", "exporter F"]
 
 
@@ -92,7 +92,7 @@ def test_sampler_without_a_section_is_not_carried_over() -> None:
 
 
 def test_monitor_without_exporter_meters_and_sends_nowhere() -> None:
-    device = read(interface("ip flow monitor M input").replace(" exporter E\n", ""))
+    device = read(interface("ip flow monitor M input").replace("\n exporter E\n", "\n"))
     assert device.caches[0].exporters == [] and len(device.points) == 1
     assert any("no exporter" in one.says for one in device.findings)
 
