@@ -139,9 +139,10 @@ def _letters(name: str) -> tuple[str, str]:
 def same_names(name: str, interfaces: list[Interface]) -> list[str]:
     """Returns the interfaces that a short or other spelling stands for."""
     found = [one.name for one in interfaces if name in one.aliases or name.casefold() == one.name.casefold()]
-    if found:
-        return found
+    found = found or [one.name for one in interfaces if "." in one.name and one.name.partition(".")[0] == name]
     letters, numbers = _letters(name)
+    if found or re.match(r"[a-z]+-\d", name):
+        return found  # Junos has no short names
     starts = [letters, SHORT[letters]] if letters in SHORT else [letters]
     for one in interfaces:
         long, its_numbers = _letters(one.name)
@@ -149,7 +150,7 @@ def same_names(name: str, interfaces: list[Interface]) -> list[str]:
         is_long = len(long) >= 2 and letters.startswith(long)
         if numbers and numbers == its_numbers and (is_short or is_long):
             found.append(one.name)
-    return found or [one.name for one in interfaces if one.name.partition(".")[0] == name and "." in one.name]
+    return found
 
 
 def _matches(interface: Interface, pattern: str) -> bool:
