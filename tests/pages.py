@@ -2,7 +2,7 @@
 """pages.py PROGRAM: runs the command lines of pages for users as they are written, and compares what they print.
 
 Blocks that are set in by four spaces and begin with `$ ` are run, those of one heading in one session from the top of
-the repository: each line behind `$ `, with PROGRAM as `once`, and what it prints must be the lines behind it. Blocks
+the repository: each line behind `$ `, with PROGRAM as `once` and tools/once-import, and what it prints must be the lines behind it. Blocks
 without `$ ` are of a network of the reader's. Prints a line for each that differs, and last how many passed.
 """
 import os
@@ -12,7 +12,7 @@ import sys
 import tempfile
 
 TOP = os.path.dirname(os.path.dirname(os.path.abspath(__file__)))
-PAGES = ["README.md", "docs/GUIDE.md", "examples/tools/README.md"]
+PAGES = ["README.md", "docs/GUIDE.md", "tools/README.md"]
 # What a reader does by hand behind a sentence, as a command.
 BY_HAND = {
     "To mend it, take the second observation point": """python3 - <<'END'
@@ -42,6 +42,7 @@ def main(program):
     passed = failed = 0
     with tempfile.TemporaryDirectory() as made:
         os.symlink(os.path.abspath(program), made + "/once")
+        os.symlink(os.path.join(TOP, "tools", "once-import"), made + "/once-import")
         os.mkdir(made + "/tmp")
         for page in PAGES:
             with open(os.path.join(TOP, page), encoding="utf-8") as file:

@@ -75,4 +75,5 @@ def counters() -> list[dict[str, object]]:
 
 def cache_fields(axes: list[str]) -> list[dict[str, object]]:
     """Returns the fields of a cache by whose axes flows are told apart."""
-    return [{"name": axis, "ieName": axis, "isFlowKey": [None]} for axis in axes] + counters()
+    keys: list[dict[str, object]] = [{"name": axis, "ieName": axis, "isFlowKey": [None]} for axis in axes]
+    return keys + counters()

@@ -29,6 +29,15 @@ class Reader(Protocol):
 
 MODULES = [
     "once_tools.readers.cisco_ios",
+    "once_tools.readers.pmacctd",
+    "once_tools.readers.softflowd",
+    "once_tools.readers.nfacctd",
+    "once_tools.readers.nfcapd",
+    "once_tools.readers.openvswitch",
+    "once_tools.readers.junos",
+    "once_tools.readers.cisco_xr",
+    "once_tools.readers.vyos",
+    "once_tools.readers.arista_eos",
 ]
 
 # Other spellings that a project may use for a kind.
