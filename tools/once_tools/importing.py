@@ -12,11 +12,11 @@ from once_tools.meaning import meaning_of
 from once_tools.merge import all_findings, merge
 from once_tools.model import Device, Finding, Grade, TrafficClass
 from once_tools.network import Network
-from once_tools.paths import declare
+from once_tools.paths import cut_to_metered, declare, limit_findings
 from once_tools.project import PathOptions, Project
 from once_tools.report import Report
 from once_tools.rest import cut_others
-from once_tools.versions import Edition, classes_of, editions_of
+from once_tools.versions import Edition, classes_of, editions_of, versions_of
 
 
 @dataclass(frozen=True)
@@ -84,7 +84,8 @@ def pairs_of(network: Network, classes: list[TrafficClass], editions: list[Editi
                                     "nothing is said about its packets") if edition.version else
                             Finding(Grade.WRONG, project.report.place, "no traffic is declared", "add [[traffic]]"))
             continue
-        report_keys(network, list(edition.key), edition.version)
+        findings += limit_findings(mine, project.report.place)
+        report_keys(network, list(edition.key), {version for one in mine for version in versions_of(one)})
         found.append(Pair(edition.folder, network_document(network, list(edition.key), mine, options.faithful),
                           traffic_document(mine), mine))
     if not found and len(editions) > 1:
@@ -108,6 +109,8 @@ def import_project(project: Project, options: Options = Options()) -> Imported:
         return Imported([], Report(findings + read, project.accept), devices)
     network = merge(project, devices, collectors)
     declaration = declare(devices, project)
+    if not project.paths.full:
+        declaration = cut_to_metered(declaration, network.devices)
     findings += declaration.findings
     others = {one.place for one in project.traffic if one.others}
     classes = cut_others(declaration.classes, others, findings)
@@ -117,7 +120,8 @@ def import_project(project: Project, options: Options = Options()) -> Imported:
     if is_wrong(findings):
         return Imported([], Report(findings, project.accept), devices, network)
     keys = [one.key for one in editions if any(pair.folder == one.folder for pair in pairs)]
-    return Imported(pairs, Report(findings, project.accept, meaning_of(network, classes, keys, findings)), devices, network)
+    meaning = meaning_of(network, classes, keys, declaration.meaning, findings)
+    return Imported(pairs, Report(findings, project.accept, meaning), devices, network)
 
 
 def write_texts(texts: dict[str, str], folder: Path) -> None:

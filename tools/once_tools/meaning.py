@@ -30,13 +30,8 @@ def subject(network: Network, classes: list[TrafficClass], keys: list[tuple[KeyF
 
 
 STANDING = [
-    "Packets keep their addresses, ports and length between the interfaces of a path: no translation, no fragmentation, no "
-    "tunnel that is not declared.",
-    "Packets of the declared traffic take a declared path to its end; those that are dropped on the way are covered with "
-    "--may-drop alone.",
-    "Records arrive: UDP loses messages without notice, and a device that restarts loses what its caches hold.",
     "Totals are read after all caches have been exported.",
-    "The texts are what the devices run: a change after they were taken is not seen.",
+    "The configurations are what the devices run: a change after they were taken is not seen.",
 ]
 
 
@@ -51,8 +46,8 @@ def premises(findings: list[Finding]) -> list[str]:
     return list(dict.fromkeys(found))
 
 
-def meaning_of(network: Network, classes: list[TrafficClass], keys: list[tuple[KeyField, ...]],
+def meaning_of(network: Network, classes: list[TrafficClass], keys: list[tuple[KeyField, ...]], paths: list[str],
                findings: list[Finding]) -> list[str]:
-    """Returns the lines that end a report."""
+    """Returns the lines that end a report; `paths` are the premises of the declared paths."""
     lines = subject(network, classes, keys) + ["It presumes:"]
-    return lines + [f"  {number}. {text}" for number, text in enumerate([*STANDING, *premises(findings)], 1)]
+    return lines + [f"  {number}. {text}" for number, text in enumerate([*paths, *STANDING, *premises(findings)], 1)]

@@ -112,7 +112,8 @@ class Report:
 
     def lines(self) -> list[str]:
         """Returns a line for each finding; equal lines of a file are one line, with their numbers."""
-        return [line_of(one, self.accepted(one)) + also(others) for one, others in folded(self.findings)]
+        lines = [line_of(one, self.accepted(one)) + also(others) for one, others in folded(self.findings)]
+        return list(dict.fromkeys(lines))
 
     def text(self) -> str:
         """Returns the report as text."""

@@ -6,6 +6,7 @@ from pathlib import Path
 
 from once_tools.answers import refusal_of
 from once_tools.blame import blame
+from once_tools.documents import MODULE
 from once_tools.importing import Imported, Options, Pair, import_project, write_texts
 from once_tools.once_program import run_once
 from once_tools.origin import ORIGIN
@@ -19,10 +20,16 @@ def value_of(path: Path) -> object:
 
 
 def plain(document: object) -> object:
-    """Returns a network document as a value of JSON, without the places that it keeps."""
+    """Returns a network document as a value of JSON, without the places that it keeps; the order of named entries
+    and of interfaces does not count."""
     value = json.loads(json.dumps(document))
     for device in value["devices"]:
         device["config"].pop(ORIGIN, None)
+        for entries in device["config"][MODULE].values():
+            entries.sort(key=lambda one: str(one["name"]))
+            for one in entries:
+                one.get("ifName", []).sort()
+    value["links"].sort(key=lambda one: (one["device"], one["exportingProcess"], one["destination"]))
     return value
 
 

@@ -190,11 +190,6 @@ def test_parallel_destinations_of_classic_netflow() -> None:
     assert [one.name for one in device.points] == ["ip flow ingress", "ip flow egress"]
 
 
-def test_nat_is_reported() -> None:
-    text = interface("ip flow monitor M input") + "ip nat inside source list 1 interface GigabitEthernet0/0 overload\n"
-    assert [one.topic for one in read(text).findings if one.grade is Grade.NOT_CARRIED_OVER] == [Topic.NAT]
-
-
 def test_comments_and_ends_of_lines_change_nothing() -> None:
     text = interface("ip flow monitor M input")
     plain, changed = read(text), read("! a comment\n" + text.replace("\n", "\r\n"))

@@ -16,7 +16,7 @@ def test_sample(folder: Path, once: str, tmp_path: Path) -> None:
     found = imported(folder, full=True)
     assert found.pairs, found.report.text()
     pair = found.pairs[0]
-    assert plain(pair.network) == value_of(folder / "network.expected.json")
+    assert plain(pair.network) == plain(value_of(folder / "network.expected.json"))
     assert pair.traffic == value_of(folder / "traffic.expected.json")
     answer = audited(once, pair, tmp_path)
     assert answer.splitlines()[0] == (folder / "answer.expected").read_text().splitlines()[0]

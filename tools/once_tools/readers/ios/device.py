@@ -2,7 +2,7 @@
 from __future__ import annotations
 
 from once_tools.elements import COUNTERS
-from once_tools.model import Cache, Destination, Device, Exporter, Finding, Listener, Place, Topic
+from once_tools.model import Cache, Destination, Device, Exporter, Finding, Listener, Place
 from once_tools.readers.ios.classic import CACHE, read_classic
 from once_tools.readers.ios.exporters import read_exporter
 from once_tools.readers.ios.interfaces import Attachment, read_interfaces
@@ -199,18 +199,13 @@ class Running:
             self.add(notes.bearing_on(tuple(each for use in uses for each in self.exporters_of(use.monitor))))
 
     def report_unknown(self) -> None:
-        """Reports sections about flows, translation of addresses and the like that are not read."""
+        """Reports sections about flows that are not read."""
         for node in self.nodes:
             words = node.words
             known = any(words[: len(one)] == one for one in HARMLESS)
             is_flow = words[0] in ("flow", "netflow") or words[0] == "ip" and words[1:2] and words[1].startswith("flow")
             if is_flow and not known or words[:2] in (("mls", "netflow"), ("mls", "nde"), ("mls", "flow")):
                 self.notes.unknown(node.place, "the configuration of flows")
-            elif words[:2] == ("ip", "nat") and len(words) > 3 and words[2] in ("inside", "outside") and words[3] in (
-                    "source", "destination"):
-                self.notes.lost(node.place, "packets have other addresses behind the translation: whether one packet is "
-                                            "counted on both sides is not seen by the audit", "declare traffic by the "
-                                            "addresses that it has where it is metered", Topic.NAT)
 
     def add_interfaces(self) -> None:
         for port in self.ports.ports.values():
