@@ -269,6 +269,53 @@ def test_longest_prefixes_win() -> None:
         assert route and [hop.interface for hop in route.hops] == interface
 
 
+def with_tunnel(one: Device, address: str, source: str, destination: str) -> Device:
+    one.interfaces.append(Interface("Tunnel0", Place(""), addresses=[address], tunnel_source=source,
+                                    tunnel_destination=destination))
+    return one
+
+
+def test_tunnels_join_devices_and_have_outer_packets(tmp_path: Path) -> None:
+    a = with_tunnel(device("a", "lan 10.0.0.1/24", "wan 192.0.2.1/31"), "10.255.0.0/31", "wan", "192.0.2.3")
+    b = with_tunnel(device("b", "lan 10.1.0.1/24", "wan 192.0.2.3/31"), "10.255.0.1/31", "192.0.2.3", "192.0.2.1")
+    core = device("core", "a 192.0.2.0/31", "b 192.0.2.2/31")
+    rest = TRAFFIC + 'from = ["a:lan"]\nto = ["b:lan"]\n'
+    declaration = declared(tmp_path, [a, core, b], rest)
+    inner, outer = declaration.classes
+    assert "a:lan:in a:Tunnel0:eg b:Tunnel0:in b:lan:eg" in ways(declaration)
+    assert outer.exempt and outer.name == "tunnel of a Tunnel0" and ways(declaration, 1) == ["a:wan:eg core:a:in core:b:eg b:wan:in"]
+    assert outer.region == {"sourceIPv4Address": "192.0.2.1", "destinationIPv4Address": "192.0.2.3", "protocolIdentifier": "47",
+                            "ipVersion": "4"}
+    own = '[[traffic]]\nname = "outer"\nsource = "192.0.2.1"\nprotocol = 47\nexempt = true\npaths = [["core:a:ingress"]]\n'
+    assert [one.name for one in declared(tmp_path, [a, core, b], rest + own).classes] == ["up", "outer"]
+
+
+def test_outer_packets_by_tables(tmp_path: Path) -> None:
+    a = with_tunnel(device("a", "lan 10.0.0.1/24", "wan 192.0.2.1/31"), "10.255.0.0/31", "wan", "192.0.2.3")
+    found = [{"dst": "10.1.0.0/24", "dev": "Tunnel0", "scope": "link"}, {"dst": "default", "gateway": "192.0.2.0", "dev": "wan"}]
+    rest = TRAFFIC + 'destination = "10.1.0.0/24"\ningress = ["a:lan"]\n'
+    declaration = declared(tmp_path, [a], rest, a=routes(tmp_path, "a.json", found))
+    assert ways(declaration) == ["a:lan:in a:Tunnel0:eg"] and ways(declaration, 1) == ["a:wan:eg"]
+
+
+def test_tables_of_several_moments_are_united(tmp_path: Path) -> None:
+    first = [{"dst": "10.9.0.0/16", "dev": "x", "gateway": "172.31.0.9"}, {"dst": "default", "dev": "y", "gateway": "1.1.1.1"}]
+    routes(tmp_path, "first.json", first)
+    routes(tmp_path, "second.json", first[1:])
+    routes(tmp_path, "six.json", [{"dst": "2001:db8::/32", "dev": "x", "gateway": "fe80::9"}])
+    one = device("a", "lan 10.0.0.1/24", "x 172.31.0.8/24", "y 1.1.1.2/24")
+    rest = TRAFFIC + 'destination = "10.9.0.0/24"\ningress = ["a:lan"]\n'
+    declaration = declared(tmp_path, [one], rest, a='routes = ["first.json", "second.json", "six.json"]')
+    assert ways(declaration) == ["a:lan:in a:x:eg", "a:lan:in a:y:eg"]
+
+
+def test_a_device_without_a_table_is_wrong(tmp_path: Path) -> None:
+    pair = [device("a", "lan 10.0.0.1/24", "x 172.31.0.0/31"), device("b", "x 172.31.0.1/31", "up 203.0.113.1/24")]
+    member = routes(tmp_path, "a.json", [{"dst": "default", "gateway": "172.31.0.1", "dev": "x"}])
+    declaration = declared(tmp_path, pair, TRAFFIC + 'destination = "10.9.0.0/24"\ningress = ["a:lan"]\n', a=member)
+    assert "packets to 10.9.0.0/24 reach b, whose routing table is not given" in wrongs(declaration)
+
+
 @pytest.mark.parametrize("name, expected", [
     ("Gi0/0/0", ["GigabitEthernet0/0/0"]), ("gigabitethernet0/0/0", ["GigabitEthernet0/0/0"]), ("Te0/1/0", ["TenGigE0/1/0"]),
     ("BE1", ["Bundle-Ether1"]), ("ge-0/0/0", ["ge-0/0/0.0", "ge-0/0/0.7"]), ("G0/0/0", []), ("Gi0/0/9", []),

@@ -34,12 +34,12 @@ def run(arguments: argparse.Namespace) -> int:
         print(line_of(error.finding), file=sys.stderr)
         return 2
     for stream in streams:
-        print(_line(stream, arguments.out))
+        print(_line(stream))
     report = Report(findings)
     print(report.text(), end="", file=sys.stdout if streams else sys.stderr)
     return report.status
 
 
-def _line(stream: Stream, folder: Path) -> str:
+def _line(stream: Stream) -> str:
     part = stream.part
-    return printable(f"wrote {folder / stream.name}: {stream.ends}, messages {part.messages}, records {part.records}")
+    return printable(f"wrote {stream.name}: {stream.ends}, messages {part.messages}, records {part.records}")

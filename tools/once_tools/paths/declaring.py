@@ -13,7 +13,8 @@ from once_tools.paths.regions import Span, cut, span_of, whole
 from once_tools.paths.setup import tables_of, topology_of
 from once_tools.paths.routes import Tables
 from once_tools.paths.topology import Node, Topology
-from once_tools.paths.ways import Path, Search, Walker, crossing, simple_paths
+from once_tools.paths.tunnels import outer_pieces
+from once_tools.paths.ways import Path, Search, Target, Walker, crossing, simple_paths
 from once_tools.project import Project, Traffic
 from once_tools.toml_table import nearest
 
@@ -27,7 +28,7 @@ class _Declaring:
 
     project: Project
     topology: Topology
-    tables: dict[str, Tables]
+    tables: dict[str, list[Tables]]
     findings: list[Finding] = field(default_factory=list)
     pieces: list[Piece] = field(default_factory=list)
     uses_tables: bool = False
@@ -157,7 +158,8 @@ class _Declaring:
                 continue
             self._remember(starting, part, starts)
             for target in targets:
-                paths = [path for start in starts for path in walker.paths(start, target.first, str(target), one.place)]
+                goal = Target(target.first, str(target), one.place)
+                paths = [path for start in starts for path in walker.paths(start, goal)]
                 if one.merge == "paths":
                     united |= dict.fromkeys(paths)
                 else:
@@ -186,11 +188,10 @@ class _Declaring:
     def _cuts(self, span: Span) -> list[int]:
         """Returns where routes of any table begin or end within a span."""
         found: set[int] = set()
-        for tables in self.tables.values():
-            for table in tables.by_vrf.values():
-                for version, length, low in table.routes:
-                    if version == span.version:
-                        found |= {low, low + (1 << ((32 if version == 4 else 128) - length))}
+        tables = [table for moments in self.tables.values() for each in moments for table in each.by_vrf.values()]
+        for version, length, low in (key for table in tables for key in table.routes):
+            if version == span.version:
+                found |= {low, low + (1 << ((32 if version == 4 else 128) - length))}
         return [at for at in found if span.low < at <= span.high]
 
 
@@ -225,6 +226,7 @@ def declare(devices: list[Device], project: Project) -> Declaration:
     making = _Declaring(project, topology, tables_of(project, topology))
     for one in project.traffic:
         making.traffic(one)
+    making.pieces += outer_pieces(topology, making.tables, project, making.pieces)
     if project.paths.control:
         making.pieces += control_pieces(topology, Place(project.file))
     metered = metered_by(devices)
@@ -235,7 +237,7 @@ def declare(devices: list[Device], project: Project) -> Declaration:
             pieces.append(replace(piece, paths=beginnings(paths) if project.paths.may_drop else paths))
         except Unusable as error:
             making.findings.append(error.finding)
-    findings = topology.findings + [each for tables in making.tables.values() for each in tables.findings]
+    findings = topology.findings + [each for moments in making.tables.values() for tables in moments for each in tables.findings]
     findings += making.findings + _premises(devices, project, pieces)
     return Declaration(pieces, topology, list(dict.fromkeys(findings)), _meaning(making))
 

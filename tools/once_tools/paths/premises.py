@@ -36,8 +36,8 @@ PATTERNS = [
              Topic.NAT),
     _pattern(r"^\s*tunnel source |^\s*crypto map |^\s*tunnel protection |^set interfaces (gr|ip|st0|vxlan|tunnel|wireguard)|"
              r"^\s*vxlan source-interface ", Grade.PREMISE,
-             "a tunnel: the outer packets that it makes are in no class, and meters that see them count them too",
-             "declare the outer packets (protocol 47 or 50, or the tunnel's port) as an exempt class"),
+             "a tunnel: its outer packets are packets of their own, and a meter that sees both counts both",
+             "see that an exempt class has the outer packets (protocol 47 or 50, or the tunnel's port)"),
     _pattern(r"^\s*mpls (ip|ldp|traffic-eng)|^set protocols (mpls|ldp|rsvp)", Grade.PREMISE,
              "MPLS: core interfaces are crossed by labelled packets, which meters of IP may not see",
              "meter at interfaces where packets have no labels", Topic.MPLS),

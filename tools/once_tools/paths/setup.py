@@ -8,6 +8,7 @@ from once_tools.paths import links
 from once_tools.paths.interfaces import read_interfaces
 from once_tools.paths.routes import Hop, Route, Table, Tables, read_routes
 from once_tools.paths.topology import Node, Topology
+from once_tools.paths.tunnels import join_tunnels
 from once_tools.project import DeviceEntry, Project
 
 
@@ -55,6 +56,7 @@ def _add_links(topology: Topology, project: Project) -> None:
     except Unusable as error:
         topology.findings.append(error.finding)
     _join_pairs(topology)
+    join_tunnels(topology)
     said: dict[Node, tuple[Node, Place]] = {}
     for device, files, place in [*((entry.name, entry.lldp, entry.place) for entry in project.devices),
                                  ("", project.links.lldp, project.links.place)]:
@@ -86,20 +88,20 @@ def _join_pairs(topology: Topology) -> None:
                     topology.add_peers((device, name), (device, other))
 
 
-def tables_of(project: Project, topology: Topology) -> dict[str, Tables]:
-    """Returns the routing tables of the devices that have some; their interfaces are brought to the names in use."""
-    found = {}
+def tables_of(project: Project, topology: Topology) -> dict[str, list[Tables]]:
+    """Returns the routing tables of the devices that have some, those of each file apart: files may be of several moments.
+    Their interfaces are brought to the names in use."""
+    found: dict[str, list[Tables]] = {}
     for entry in project.devices:
-        tables = Tables()
         try:
             for source in project.sources(entry.routes, entry.place):
+                tables = Tables()
+                found.setdefault(entry.name, []).append(tables)
                 read_routes(source, tables)
+                for table in tables.by_vrf.values():
+                    _rename(entry.name, table, topology)
         except Unusable as error:
             topology.findings.append(error.finding)
-        if entry.routes:
-            found[entry.name] = tables
-            for table in tables.by_vrf.values():
-                _rename(entry.name, table, topology)
     return found
 
 
