@@ -1,15 +1,19 @@
 """The program once-import: its commands, what they print, and their exit statuses."""
 from __future__ import annotations
 
+import contextlib
+import io
 import json
 import shutil
 import subprocess
 import sys
+from dataclasses import dataclass
 from pathlib import Path
 
 import pytest
 
 from conftest import TESTS
+from once_tools.import_main import COMMANDS, main
 from projects import BOTH_WAYS, COLLECTOR, DEVICE, RECORD, REPORT, TRAFFIC
 
 PROGRAM = TESTS.parent / "once-import"
@@ -18,9 +22,24 @@ SAMPLED = IN.replace("ip flow monitor M input", "ip flow monitor M sampler S inp
 PROJECT = REPORT + DEVICE + COLLECTOR + TRAFFIC
 
 
-def run(*arguments: str | Path, cwd: Path) -> subprocess.CompletedProcess[str]:
-    return subprocess.run([sys.executable, "-B", str(PROGRAM), *map(str, arguments)], cwd=cwd, capture_output=True, text=True,
-                          timeout=60)
+@dataclass
+class Ran:
+    """What a command printed, and its exit status."""
+
+    returncode: int
+    stdout: str
+    stderr: str
+
+
+def run(*arguments: str | Path, cwd: Path) -> Ran:
+    """Runs the program in this process."""
+    out, err = io.StringIO(), io.StringIO()
+    with contextlib.chdir(cwd), contextlib.redirect_stdout(out), contextlib.redirect_stderr(err):
+        try:
+            status = main([str(one) for one in arguments])
+        except SystemExit as end:
+            status = int(end.code or 0)
+    return Ran(status, out.getvalue(), err.getvalue())
 
 
 def project(folder: Path, text: str, config: str = IN) -> None:
@@ -146,8 +165,12 @@ def test_a_new_project_is_audited_as_it_is(once: str, tmp_path: Path) -> None:
     assert "certificate of IPv4, checked" in found.stdout and "refutation of IPv6, confirmed" in found.stdout
 
 
-def test_output_that_is_closed(tmp_path: Path) -> None:
-    project(tmp_path, PROJECT)
-    found = subprocess.run(f"{sys.executable} -B {PROGRAM} kinds | true; echo ${{PIPESTATUS[0]}}", cwd=tmp_path, shell=True,
-                           executable="/bin/bash", capture_output=True, text=True)
+def test_the_program_in_a_pipe_that_is_closed(tmp_path: Path) -> None:
+    found = subprocess.run(f"{sys.executable} {PROGRAM} kinds | true", cwd=tmp_path, shell=True, capture_output=True, text=True)
     assert "Traceback" not in found.stderr
+
+
+def test_help_lists_all_commands(tmp_path: Path) -> None:
+    found = run("--help", cwd=tmp_path)
+    assert found.returncode == 0
+    assert all(f"    {name} " in found.stdout for name in COMMANDS)
