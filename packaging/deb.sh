@@ -35,7 +35,9 @@ mkdir -p "$tree/DEBIAN"
 (cd "$tree" && find usr -type f | LC_ALL=C sort | xargs md5sum > DEBIAN/md5sums)
 size=$(du -sk --apparent-size "$tree/usr" | cut -f1)
 sed -e "s/@VERSION@/$version/" -e "s/@DEPENDS@/$depends/" -e "s/@SIZE@/$size/" "$here/control.in" > "$tree/DEBIAN/control"
+printf '#!/bin/sh\nset -e\n[ "$1" != configure ] || py3compile -p once /usr/share/once\n' > "$tree/DEBIAN/postinst"
+printf '#!/bin/sh\nset -e\npy3clean -p once /usr/share/once\n' > "$tree/DEBIAN/prerm"
 find "$tree" -type d -exec chmod 755 {} +
 find "$tree" -type f -exec chmod 644 {} +
-chmod 755 "$tree/usr/bin/once" "$tree/usr/bin/once-import"
+chmod 755 "$tree/usr/bin/once" "$tree/usr/bin/once-import" "$tree/DEBIAN/postinst" "$tree/DEBIAN/prerm"
 dpkg-deb --root-owner-group --build "$tree" "once_${version}_amd64.deb"

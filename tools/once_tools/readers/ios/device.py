@@ -93,7 +93,7 @@ class Running:
         record = monitor.record or Record("", monitor.place)
         names = list(dict.fromkeys(bearing))
         self.device.caches.append(Cache(monitor.name, monitor.kind, list(record.fields), names, monitor.place,
-                                        dict(monitor.settings)))
+                                        dict(monitor.settings), list(record.other_keys)))
         for name, place in monitor.exporters:
             if name not in self.flow_exporters:
                 monitor.notes.wrong(place, f"there is no flow exporter {name}", nearest(name, self.flow_exporters)
@@ -139,7 +139,8 @@ class Running:
         exporters = [one.name for one in self.classic.exporters if not self.is_aggregation(one)]
         if self.classic.aggregations and family == 4:
             exporters.append(WITHIN)
-        self.device.caches.append(Cache(name, "timeout", record.fields, exporters, place, dict(self.classic.settings)))
+        self.device.caches.append(Cache(name, "timeout", record.fields, exporters, place, dict(self.classic.settings),
+                                        ["ingressInterface"]))
         return name
 
     def is_aggregation(self, exporter: Exporter) -> bool:
