@@ -191,6 +191,30 @@ O        10.2.0.0 [110/20] via 172.31.0.4, 00:01:02, GigabitEthernet0/0
                   [110/20] via 172.31.0.6, 00:01:02, GigabitEthernet0/1
 O E2     10.3.0.0 [110/20] via 172.31.0.4, 3d04h, GigabitEthernet0/0
 """
+IOS_6 = """IPv6 Routing Table - default - 4 entries
+Codes: C - Connected, L - Local, S - Static, O - OSPF Intra
+S   ::/0 [1/0]
+     via 2001:DB8:F::1
+O   2001:DB8:1::/48 [110/20]
+     via FE80::1, GigabitEthernet0/0
+     via FE80::2, GigabitEthernet0/1
+C   2001:DB8:A::/48 [0/0]
+     via GigabitEthernet0/0/0, directly connected
+L   2001:DB8:A::1/128 [0/0]
+     via GigabitEthernet0/0/0, receive
+"""
+XR = """Codes: C - connected, S - static, i - ISIS
+C    10.1.0.0/16 is directly connected, 1w2d, GigabitEthernet0/0/0/0
+L    10.1.0.1/32 is directly connected, 1w2d, GigabitEthernet0/0/0/0
+i L2 10.2.0.0/16 [115/20] via 172.31.0.4, 1w2d, Bundle-Ether1
+                 [115/20] via 172.31.0.6, 1w2d, Bundle-Ether2
+"""
+EOS_TEXT = """VRF: default
+Codes: C - connected, S - static, B E - eBGP
+ C        10.1.0.0/16 is directly connected, Ethernet1
+ B E      10.2.0.0/16 [200/0] via 172.31.0.4, Ethernet2
+                              via 172.31.0.6, Ethernet3
+"""
 CEF = """Prefix               Next Hop             Interface
 0.0.0.0/0            203.0.113.254        GigabitEthernet0/2
 10.2.0.0/16          172.31.0.4           GigabitEthernet0/0
@@ -235,6 +259,10 @@ FRR = {"default": {"10.2.0.0/16": [{"selected": True, "installed": True, "vrfNam
 @pytest.mark.parametrize("text, expected", [
     (IOS, {"0.0.0.0/0": ["/203.0.113.254"], "10.2.0.0/16": ["GigabitEthernet0/0/172.31.0.4", "GigabitEthernet0/1/172.31.0.6"],
            "10.3.0.0/16": ["GigabitEthernet0/0/172.31.0.4"]}),
+    (IOS_6, {"::/0": ["/2001:db8:f::1"], "2001:db8:1::/48": ["GigabitEthernet0/0/fe80::1", "GigabitEthernet0/1/fe80::2"],
+             "2001:db8:a::/48": ["GigabitEthernet0/0/0/None"]}),
+    (XR, {"10.1.0.0/16": ["GigabitEthernet0/0/0/0/None"], "10.2.0.0/16": ["Bundle-Ether1/172.31.0.4", "Bundle-Ether2/172.31.0.6"]}),
+    (EOS_TEXT, {"10.1.0.0/16": ["Ethernet1/None"], "10.2.0.0/16": ["Ethernet2/172.31.0.4", "Ethernet3/172.31.0.6"]}),
     (CEF, {"0.0.0.0/0": ["GigabitEthernet0/2/203.0.113.254"], "10.2.0.0/16":
            ["GigabitEthernet0/0/172.31.0.4", "GigabitEthernet0/1/172.31.0.6"],
            "10.3.0.0/16": ["GigabitEthernet0/3/None"], "10.4.0.0/16": []}),
@@ -250,6 +278,8 @@ def test_forms_of_routing_tables(text: str, expected: dict[str, list[str]]) -> N
     found = {f"{vrf} {route.prefix}".strip(): [f"{hop.interface}/{hop.gateway}" for hop in route.hops]
              for vrf, table in tables.by_vrf.items() for route in table.routes.values()}
     assert found == expected
+    is_junos = "xe-0/0/1.0" in text
+    assert [(one.grade, "each is a path" in one.says) for one in tables.findings] == [(Grade.NOTE, True)] * is_junos
 
 
 def test_lines_that_are_no_routes_are_reported() -> None:
@@ -351,6 +381,45 @@ def test_neighbours_that_disagree_are_wrong(tmp_path: Path) -> None:
     pair = [device("a", "x 172.31.0.0/31", "y 172.31.0.2/31"), device("b", "x 172.31.0.1/31")]
     declaration = declared(tmp_path, pair, TRAFFIC + 'from = ["a:y"]\nto = ["b:x"]\n', a='lldp = "a.json"', b='lldp = "b.json"')
     assert any("leads to" in says and "a.json" in says for says in wrongs(declaration))
+
+
+def neighbour(folder: Path, system: str, port: dict[str, Any]) -> str:
+    found = {"lldp": {"interface": [{"TenGigabitEthernet0/1/0": {"chassis": {system: {}}, "port": port}}]}}
+    (folder / "lldp.json").write_text(json.dumps(found))
+    return 'lldp = "lldp.json"'
+
+
+def test_a_neighbour_without_an_interface_name_is_wrong(tmp_path: Path) -> None:
+    member = neighbour(tmp_path, "b", {"id": {"type": "mac", "value": "02:00:00:00:00:01"}})
+    pair = [EDGE, device("b", "x 172.31.0.9/24", "up 203.0.113.1/24")]
+    declaration = declared(tmp_path, pair, TRAFFIC + 'from = ["edge-1:Gi0/0/0"]\nto = ["b:up"]\n', edge_1=member)
+    assert any("names its port by no interface" in says for says in wrongs(declaration))
+
+
+def test_a_neighbour_that_may_be_either_of_two_is_wrong(tmp_path: Path) -> None:
+    member = neighbour(tmp_path, "CORE.example.net", {"id": {"type": "ifname", "value": "x"}})
+    three = [EDGE, device("core.north", "x 172.31.0.9/24"), device("core.south", "x 172.31.0.10/24")]
+    declaration = declared(tmp_path, three, TRAFFIC + 'from = ["edge-1:Gi0/0/0"]\nto = ["edge-1:Te0/1/0"]\n', edge_1=member)
+    assert any("may be any of core.north, core.south" in says for says in wrongs(declaration))
+
+
+def test_a_full_table_asks_for_merged_paths(tmp_path: Path) -> None:
+    found = [{"dst": f"20.{number // 128}.{number % 128 * 2}.0/24", "gateway": "172.31.0.9", "dev": "x"} for number in range(5100)]
+    one = device("a", "lan 10.0.0.1/24", "x 172.31.0.8/24")
+    member = routes(tmp_path, "a.json", found)
+    rest = TRAFFIC + 'destination = "0.0.0.0/0"\ningress = ["a:lan"]\n'
+    declaration = declared(tmp_path, [one], rest, a=member)
+    assert any("into 10201 pieces" in says for says in wrongs(declaration))
+    merged = declared(tmp_path, [one], rest + 'merge = "paths"\n', a=member)
+    assert not wrongs(merged) and sorted(ways(merged)) == ["a:lan:in", "a:lan:in a:x:eg"]
+    assert merged.classes[0].region == {"sourceIPv4Address": "10.0.0.0/8", "ipVersion": "4"}
+
+
+def test_traffic_without_ingress_is_wrong(tmp_path: Path) -> None:
+    one = device("a", "lan 10.0.0.1/24", "x 172.31.0.8/24")
+    member = routes(tmp_path, "a.json", [{"dst": "198.51.100.0/24", "gateway": "172.31.0.9", "dev": "x"}])
+    declaration = declared(tmp_path, [one], TRAFFIC + 'destination = "198.51.100.0/24"\n', a=member)
+    assert any("no ingress is found" in says for says in wrongs(declaration)) and not declaration.classes
 
 
 def test_premises_of_configurations(tmp_path: Path) -> None:

@@ -31,10 +31,10 @@ def received(listener: socket.socket, exporter: "subprocess.Popen[bytes]") -> li
     return found
 
 
-def start_capture(path: Path, port: int) -> "subprocess.Popen[bytes]":
+def start_capture(path: Path, port: int, transport: str = "udp") -> "subprocess.Popen[bytes]":
     """Starts dumpcap at the loopback, and returns when it captures."""
     dumpcap = need("dumpcap")
-    process = subprocess.Popen([dumpcap, "-q", "-i", "lo", "-f", f"udp port {port}", "-w", str(path)],
+    process = subprocess.Popen([dumpcap, "-q", "-i", "lo", "-f", f"{transport} port {port}", "-w", str(path)],
                                stderr=subprocess.PIPE)
     deadline = time.monotonic() + 10
     while time.monotonic() < deadline and process.poll() is None:
@@ -81,3 +81,25 @@ def test_stream_is_what_the_socket_received(tmp_path: Path, name: str) -> None:
     assert messages
     streams, _ = read_capture(path)
     assert [bytes(one.part.octets) for one in streams] == [b"".join(messages)]
+
+
+def test_a_tcp_stream_of_the_kernel(tmp_path: Path) -> None:
+    octets = (ROWS / "stream-of-pmacctd" / "stream.ipfix").read_bytes() * 40
+    path = tmp_path / "export.pcapng"
+    with socket.create_server(("127.0.0.1", 0)) as server:
+        port = server.getsockname()[1]
+        capture = start_capture(path, port, "tcp")
+        try:
+            with socket.create_connection(("127.0.0.1", port)) as exporter, server.accept()[0] as collector:
+                got = 0
+                for at in range(0, len(octets), 30_000):
+                    exporter.sendall(octets[at:at + 30_000])
+                    while got < min(at + 30_000, len(octets)):
+                        got += len(collector.recv(1 << 16))
+            time.sleep(0.5)
+        finally:
+            capture.terminate()
+            capture.wait(timeout=10)
+    streams, findings = read_capture(path)
+    assert [bytes(one.part.octets) for one in streams] == [octets]
+    assert streams[0].ends.transport == "tcp" and not any("octets (" in one.says for one in findings)

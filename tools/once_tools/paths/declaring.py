@@ -8,7 +8,7 @@ from once_tools.paths.batfish import batfish_paths
 from once_tools.paths.control import control_pieces
 from once_tools.paths.layers import layered, metered_by
 from once_tools.paths.pieces import Declaration, Piece, beginnings
-from once_tools.paths.premises import MEANING, premises
+from once_tools.paths.premises import meaning, premises
 from once_tools.paths.regions import Span, cut, span_of, whole
 from once_tools.paths.setup import tables_of, topology_of
 from once_tools.paths.routes import Tables
@@ -261,4 +261,4 @@ def _meaning(making: _Declaring) -> list[str]:
                      "meet no device twice.")
     if making.uses_tables:
         found.append("Packets take the paths of the routing tables that were given: that they take no others is not shown.")
-    return found + MEANING
+    return found + meaning(making.project.paths.may_drop)

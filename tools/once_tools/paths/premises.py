@@ -73,9 +73,16 @@ def premises(device: Device, sources: Iterable[Source]) -> list[Finding]:
     return list(found.values())
 
 
-MEANING = [
-    "No packet is fragmented, and none has its addresses changed, between two crossings of its path.",
-    "Each packet makes all crossings of its path: one that dies on the way is not declared, unless may_drop says so.",
-    "Meters see each packet that crosses their interfaces, are not ended before they have exported, and each message "
-    "reaches its collector.",
-]
+TO_THE_END = "Each packet makes all crossings of its path: one that dies on the way is not declared, unless may_drop says so."
+MAY_DROP = "A packet may die after any crossing of its path: that is declared, too."
+
+
+def meaning(may_drop: bool) -> list[str]:
+    """Returns in sentences what every declaration of paths presumes."""
+    return [
+        "No packet is fragmented, and none has its addresses changed, between two crossings of its path.",
+        MAY_DROP if may_drop else TO_THE_END,
+        "A path has no branches: multicast and flooded packets are not described.",
+        "Meters see each packet that crosses their interfaces, are not ended before they have exported, and each message "
+        "reaches its collector.",
+    ]

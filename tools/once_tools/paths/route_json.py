@@ -100,7 +100,15 @@ def _data(value: Any, key: str) -> str:
     return found if isinstance(found, str) else ""
 
 
+def note_several_hops(most: int, place: Place, tables: Tables) -> None:
+    """Notes that each next hop of a Junos route is taken for a path."""
+    if most > 1:
+        tables.note(Grade.NOTE, place, "routes have several next hops, and each is a path: whether the device uses all of them "
+                    "(load balancing) or the selected one alone, this table does not say")
+
+
 def _junos(found: Mapping[str, Any], place: Place, tables: Tables) -> None:
+    most = 0
     for table in (one for each in found["route-information"] for one in each.get("route-table", [])):
         vrf, is_unicast = junos_instance(_data(table, "table-name"))
         for route in table.get("rt", []) if is_unicast else []:
@@ -110,6 +118,8 @@ def _junos(found: Mapping[str, Any], place: Place, tables: Tables) -> None:
                     hops = [Hop(_data(hop, "via"), gateway_of(_data(hop, "to"))) for hop in entry.get("nh", [])
                             if _data(hop, "via")]
                     tables.add(vrf, prefix, hops, place)
+                    most = max(most, len(hops))
+    note_several_hops(most, place, tables)
 
 
 def junos_instance(table: str) -> tuple[str, bool]:

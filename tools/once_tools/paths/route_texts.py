@@ -4,7 +4,7 @@ from __future__ import annotations
 import re
 
 from once_tools.model import Grade, Place, Unusable
-from once_tools.paths.route_json import junos_instance
+from once_tools.paths.route_json import junos_instance, note_several_hops
 from once_tools.paths.routes import Hop, Tables, gateway_of
 from once_tools.source import Source
 
@@ -61,7 +61,7 @@ def _ios(source: Source, tables: Tables) -> None:
     for number, line in enumerate(source.lines(), 1):
         instance = re.match(r"Routing Table: (\S+)", line) or re.match(r"VRF: (\S+)", line)
         subnetted = re.match(r"\s+\S+/(\d+) is subnetted", line)
-        begun = re.match(rf"([A-Z][A-Za-z0-9*%+& ]{{0,8}}?)\s+({PREFIX}|\d+\.\d+\.\d+\.\d+)(?:\s+(\S.*))?$", line)
+        begun = re.match(rf" ?([A-Za-z][A-Za-z0-9*%+& ]{{0,8}}?)\s+({PREFIX}|\d+\.\d+\.\d+\.\d+)(?:\s+(\S.*))?$", line)
         if instance:
             vrf = "" if instance[1] == "default" else instance[1]
         elif subnetted:
@@ -93,7 +93,8 @@ def _ios_hop(text: str, hops: list[Hop]) -> None:
         rest = [one.strip() for one in via[3].split(",") if one.strip()]
         interface = rest[-1] if rest and re.match(r"[A-Za-z][\w-]*\d", rest[-1]) else ""
         if interface not in DROPS:
-            hops.append(Hop(interface, gateway_of(via[1].rstrip(",")), via[2]))
+            vrf = "" if via[2] in ("default", "global", "GLOBAL") else via[2]
+            hops.append(Hop(interface, gateway_of(via[1].rstrip(",")), vrf))
     elif interface_only := re.search(r"via (?:directly connected, )?([A-Za-z]\S*\d)", text):
         if interface_only[1] not in DROPS:
             hops.append(Hop(interface_only[1]))
@@ -124,5 +125,6 @@ def _junos(source: Source, tables: Tables) -> None:
         if leak and is_active:
             tables.note(Grade.PREMISE, source.place(number), "leads to another routing instance: what is routed there is "
                         "taken to leave the network here", "declare this traffic with 'paths'")
+    note_several_hops(max((len(route[2]) for route in routes), default=0), Place(source.name), tables)
     for route in routes:
         tables.add(*route)

@@ -30,8 +30,13 @@ class Topology:
     def add_interface(self, device: str, interface: Interface) -> None:
         """Adds an interface, or what is new of one that is known."""
         known = self.interfaces.setdefault(device, {}).setdefault(interface.name, interface)
-        known.addresses = list(dict.fromkeys([*known.addresses, *interface.addresses]))
+        readable = [text for text in interface.addresses if is_interface_address(text)]
         for text in interface.addresses:
+            if text not in readable and re.search(r"\d", text):
+                self.findings.append(Finding(Grade.NOT_CARRIED_OVER, interface.place, f"'{text}' of {device} {interface.name} is no "
+                                             "address with a length: links and paths do not know of it", "correct the address"))
+        known.addresses = [text for text in dict.fromkeys([*known.addresses, *readable]) if is_interface_address(text)]
+        for text in readable:
             address = address_of(text)
             if address and not interface.is_shut:
                 nodes = self.owners.setdefault(address, [])
@@ -115,6 +120,15 @@ class Topology:
             return ends
         owned = [end for end in ends if end in self.owners.get(gateway, [])]
         return owned or ([] if gateway in self.owners or not is_link_local(gateway) else ends)
+
+
+def is_interface_address(text: str) -> bool:
+    """Whether a text is an address with a length, or an address alone."""
+    try:
+        ipaddress.ip_interface(text)
+    except ValueError:
+        return False
+    return True
 
 
 def is_link_local(address: Address) -> bool:

@@ -156,6 +156,9 @@ class Session:
         return kept, records, unknown
 
     def _is_duplicate(self, message: Message, expected: int | None) -> bool:
+        """Whether a datagram came before. TCP and SCTP deliver each message once: there an equal one is another one."""
+        if self.ends.transport != "udp":
+            return False
         digest = hashlib.blake2b(message.octets, digest_size=16).digest()
         if digest in self._seen and message.sequence != expected:
             return True
