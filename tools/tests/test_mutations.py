@@ -21,7 +21,7 @@ from once_tools.source import Source, read_source
 COUNT = 300
 FILES = {"pmacctd": "pmacct/pmacctd.conf", "softflowd": "pmacct/softflowd.service", "nfacctd": "pmacct/nfacctd.conf",
          "nfcapd": "pmacct/nfcapd.args", "openvswitch": "openvswitch/hv-1.ovsdb.json", "junos": "juniper-junos/mx-1.set",
-         "cisco-xr": "cisco-ios-xr/core-1.cfg", "vyos": "vyos/gw-1.set", "arista-eos": "arista-eos/leaf-1.cfg"}
+         "cisco-ios": "cisco-ios-xe/edge-1.cfg", "cisco-xr": "cisco-ios-xr/core-1.cfg", "vyos": "vyos/gw-1.set", "arista-eos": "arista-eos/leaf-1.cfg"}
 OTHERS = {"nfacctd": ["pmacct/tee_receivers.lst"]}
 # Lines whose change may go unheard: comments, and what does not bear on which packets are counted in which record.
 HARMLESS = {
@@ -32,6 +32,7 @@ HARMLESS = {
     "openvswitch": r"$^",
     "junos": r"\s*#.*|\s*$|.*(description|template-refresh-rate|flow-table-size|static route|host-name).*"
              r"|.*xe-0/0/3 unit 0 family inet sampling( input)?|.*(term management then accept|customers then accept|rest then accept)",
+    "cisco-ios": r"\s*!.*|\s*$|\s*(version|hostname|description|collect (interface|timestamp)|template data).*|end",
     "cisco-xr": r"\s*!.*|\s*$|\s*(options interface-table|template|description|hostname).*|end|\s*cache timeout.*|\s*source Loop.*"
                 r"|\s*shutdown|\s*interface Loop.*| ipv4 address 198.51.100.2.*",
     "vyos": r"\s*#.*|\s*$|.*(description|disable-imt|expiry-interval|protocols static|host-name|translation).*",
