@@ -138,7 +138,7 @@ def key_fields(value: object) -> list[KeyField]:
 
 
 def record_fields(cache: Json) -> list[KeyField]:
-    """Returns the fields of a cache's records that can be told apart by."""
+    """Returns the fields of a cache's records that can be distinguished by."""
     for kind, value in cache.items():
         layout = table(table(value).get("cacheLayout"))
         if layout:
