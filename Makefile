@@ -1,10 +1,10 @@
 # The gate and the program. All of it needs the Rattle kit's command `rt` on the PATH; wrong bodies, rows and examples
-# need python3.
+# need python3, the tests of once-import python3 3.11 with pytest and mypy (Debian: python3-pytest, mypy).
 
 SHELL := /bin/bash
 .DEFAULT_GOAL := help
 .PHONY: help kit replay once test proofs run-wrong wrong rows examples run-rows run-examples pictures torture clean \
-	install uninstall deb manual
+	install uninstall deb manual tools run-tools
 
 # Prints what the part took when it ends.
 part = TIMEFORMAT='part $(1): %0R s, %0U and %0S s of processor time'; time
@@ -20,6 +20,7 @@ help:
 	@echo 'make wrong NAME=CRATE  tries the wrong bodies of one crate; NAME=CRATE/WORD those with WORD in their names'
 	@echo 'make rows              proves and builds the program, and runs it over the worked rows'
 	@echo 'make examples          the same over the examples'
+	@echo 'make tools             checks the types of once-import and runs its tests, over ./once or ONCE=PROGRAM'
 	@echo 'make pictures          draws the pictures of the examples anew (needs Graphviz)'
 	@echo 'make torture           the same over inputs that are made to do harm, for an hour or more'
 	@echo 'make clean             removes what was built'
@@ -45,6 +46,7 @@ test: kit
 	@$(call part,proofs and tests) $(MAKE) --no-print-directory proofs
 	@$(call part,wrong bodies) $(MAKE) --no-print-directory run-wrong
 	@$(call part,rows and examples) $(MAKE) --no-print-directory run-rows run-examples
+	@$(call part,once-import) $(MAKE) --no-print-directory run-tools
 
 # Proves every crate and its tests from nothing, and runs the tests and the program, which two compilers build.
 proofs:
@@ -120,6 +122,18 @@ run-examples:
 	python3 tests/generated_networks.py ./once --examples
 	ONCE=./once bash examples/scale/try.sh turn
 
+# Checks the types of once-import and runs its tests, with the first Python that has pytest.
+tools: run-tools
+
+PYTHON = $(shell for python in python3 /usr/bin/python3; do $$python -c 'import pytest' 2> /dev/null && echo $$python && break; done)
+ONCE = $(abspath ./once)
+
+run-tools:
+	@[ -n "$(PYTHON)" ] || { echo 'pytest not found: install it (Debian: python3-pytest)'; exit 2; }
+	@command -v mypy > /dev/null || { echo 'mypy not found: install it (Debian: mypy)'; exit 2; }
+	cd tools && mypy --strict --cache-dir=/dev/null once_tools
+	cd tools && ONCE=$(ONCE) $(PYTHON) -B -m pytest -q -p no:cacheprovider tests
+
 # Draws the pictures of the examples anew, with Graphviz's dot: each network with its traffic and its certificate or
 # refutation.
 pictures: once
@@ -161,8 +175,15 @@ install:
 	install -D -m 644 -t $(SHARE)/doc/once/docs $(DOCUMENTS)
 	install -D -m 644 -t $(SHARE)/doc/once/docs/schemas docs/schemas/*
 	cd examples && find . -type f ! -name '*.pyc' -exec install -D -m 644 {} "$(abspath $(SHARE))/doc/once/examples/{}" \;
+	install -D -m 755 tools/once-import $(BIN)/once-import
+	cd tools && find once_tools -name '*.py' -exec install -D -m 644 {} "$(abspath $(SHARE))/once/{}" \;
+	install -D -m 644 packaging/once-import.1 $(SHARE)/man/man1/once-import.1
+	install -D -m 644 -t $(SHARE)/doc/once/tools tools/README.md
+	install -D -m 644 -t $(SHARE)/doc/once/tools/examples tools/examples/*
 
 uninstall:
+	rm -f $(BIN)/once-import $(SHARE)/man/man1/once-import.1
+	rm -rf $(SHARE)/once
 	rm -f $(BIN)/once $(SHARE)/man/man1/once.1 $(SHARE)/bash-completion/completions/once $(ZSH)/_once
 	rm -rf $(SHARE)/doc/once
 

@@ -6,7 +6,7 @@ from typing import Mapping, Sequence
 from once_tools.answers import Refutation, refusal_of, refutation_of
 from once_tools.elements import ADDRESSES
 from once_tools.model import Finding, Grade, Place
-from once_tools.network_view import Json, NetworkView, Sighting, entries, texts
+from once_tools.network_view import DeviceView, Json, NetworkView, Sighting, entries, texts
 
 
 def packet_words(packet: Mapping[str, str]) -> str:
@@ -27,7 +27,12 @@ def finding(one: Sighting, says: str, todo: str) -> Finding:
     return Finding(Grade.WARNING, one.device.place(one.pointer), says, todo, device=one.device.name)
 
 
-def counted_twice(counted: list[Sighting], name: str) -> list[Finding]:
+def way(path: Sequence[Json]) -> str:
+    """Returns the crossings of a path in words."""
+    return ", ".join(f"{one.get('device')} {one.get('interface')} {one.get('direction')}" for one in path)
+
+
+def counted_twice(counted: list[Sighting], name: str, path: Sequence[Json]) -> list[Finding]:
     """Returns what is to be said of a packet that is counted more than once."""
     first = counted[0]
     if len(counted) == 1:
@@ -36,30 +41,47 @@ def counted_twice(counted: list[Sighting], name: str) -> list[Finding]:
     found = []
     for other in counted[1:]:
         other_line = other.device.describe(other.pointer)
+        between = path[first.crossing - 1:other.crossing]
         how = f"{metered_at(first)} and {metered_at(other)}" if first.crossing != other.crossing else \
             f"{metered_at(first)}, where both take it"
+        how += f" ({way(between)})" if len(between) > 2 else ""
+        turned = first.device is other.device and first.direction != other.direction
         found.append(finding(first, f"this and {other_line} meter the same packets: '{name}' {how}, so each counts twice",
-                             "meter where packets come into the network, once"))
+                             "meter input on all interfaces and output on none" if turned else
+                             "meter where packets come into the network, and nowhere behind it"))
+    return found
+
+
+def points_at(device: DeviceView, interface: str) -> list[str]:
+    """Returns the pointers of a device's points at an interface."""
+    found = []
+    for number, point in enumerate(device.list("observationPoint")):
+        names = texts(point.get("ifName"))
+        if interface in names:
+            found.append(f"/observationPoint/{number}/ifName/{names.index(interface)}")
     return found
 
 
 def nowhere(view: NetworkView, path: Sequence[Json], name: str, packet: Mapping[str, str]) -> list[Finding]:
-    """Returns what is to be said of a packet that nothing meters."""
-    seen = []
+    """Returns what is to be said of a packet that nothing meters: at the first point of another kind on its path, or the
+    first interface of a device that meters in the direction of the crossing."""
+    seen: list[str] = []
+    places: list[tuple[int, Place]] = []
     for crossing in path:
+        interface, direction = str(crossing.get("interface")), str(crossing.get("direction"))
         device = next((one for one in view.devices if one.name == crossing.get("device")), None)
-        points = [] if device is None else [
-            (number, texts(point.get("ifName")).index(str(crossing["interface"])), point.get("direction", "both"))
-            for number, point in enumerate(device.list("observationPoint"))
-            if crossing.get("interface") in texts(point.get("ifName"))]
-        where_it_is = f"{crossing.get('device')} {crossing.get('interface')} {crossing.get('direction')}"
-        if device is None or not points:
-            seen.append(f"{where_it_is} has no monitor")
+        at = f"{crossing.get('device')} {interface} {direction}"
+        pointers = points_at(device, interface) if device else []
+        if device is None or not pointers:
+            seen.append(f"{at} has no monitor")
+            places += [(1 if device.meters(direction) else 2, device.interface_place(interface))] if device else []
         else:
-            lines = " and ".join(device.describe(f"/observationPoint/{number}/ifName/{at}") for number, at, _ in points)
-            seen.append(f"{where_it_is} has {lines}, which does not take it")
+            seen.append(f"{at} has {' and '.join(device.describe(one) for one in pointers)}, which does not take it")
+            places.append((0, device.place(pointers[0])))
+    known = sorted([one for one in places if one[1].file], key=lambda one: one[0])
     says = f"'{name}': {packet_words(packet)} is metered nowhere: {'; '.join(seen) or 'its path has no crossing'}"
-    return [Finding(Grade.WARNING, Place(""), says, "add a monitor of its version of IP and direction at one of these")]
+    return [Finding(Grade.WARNING, known[0][1] if known else Place(""), says,
+                    "add a monitor of its version of IP and direction at one of these")]
 
 
 def judged(view: NetworkView, sightings: list[Sighting], path: Sequence[Json], name: str, exempt: bool,
@@ -74,7 +96,7 @@ def judged(view: NetworkView, sightings: list[Sighting], path: Sequence[Json], n
         return [finding(one, f"records of '{name}' come to the report without its key (unassigned): {line} made them", "keep "
                         "the key of the report, or ask for another report") for one in unassigned for line in one.unread]
     if sum(one.ways for one in counted) > 1:
-        return counted_twice(counted, name)
+        return counted_twice(counted, name, path)
     if not sightings:
         return nowhere(view, path, name, packet)
     return [finding(one, f"'{name}' is metered here, and lost: {lost}", "send it to a collector that leads to the report")

@@ -10,7 +10,9 @@ from typing import NoReturn, Sequence
 from once_tools.model import Unusable
 from once_tools.report import line_of
 
-COMMANDS = ["convert", "audit", "blame", "new", "show", "kinds", "table", "exporter", "streams", "template"]
+# The commands, with their modules.
+COMMANDS = {"import": "convert", "audit": "audit", "blame": "blame", "new": "new", "show": "show", "kinds": "kinds",
+            "table": "table", "exporter": "exporter", "streams": "streams", "template": "template"}
 WRONG_ARGUMENTS, FAILED, NO_DOCUMENT, OUT_OF_MEMORY = 6, 5, 2, 4
 DESCRIPTION = """Reads the configurations of routers, probes and collectors, and writes the network and traffic documents
 that `once` audits. Everything that bears on the count and is not carried over is reported with its file and line."""
@@ -27,33 +29,27 @@ class Parser(argparse.ArgumentParser):
         self.exit(WRONG_ARGUMENTS, f"{self.prog}: {message}\n")
 
 
-def make_parser() -> tuple[Parser, list[str]]:
-    """Returns the parser of all commands, and their names."""
+def make_parser(commands: Sequence[str]) -> Parser:
+    """Returns the parser of some commands; the modules of others are not loaded."""
     parser = Parser(prog="once-import", description=DESCRIPTION, epilog=EPILOG)
     subparsers = parser.add_subparsers(metavar="COMMAND", required=True, parser_class=Parser)
-    for name in COMMANDS:
-        try:
-            module = importlib.import_module(f"once_tools.commands.{name}")
-        except ModuleNotFoundError as error:
-            if error.name != f"once_tools.commands.{name}":
-                raise
-            continue
-        module.add_parser(subparsers)
-    return parser, list(subparsers.choices)
+    for name in commands:
+        importlib.import_module(f"once_tools.commands.{COMMANDS[name]}").add_parser(subparsers)
+    return parser
 
 
-def with_command(words: Sequence[str], names: list[str]) -> list[str]:
+def with_command(words: Sequence[str]) -> list[str]:
     """Returns the arguments with the command `import` before a project that stands without one."""
     first = next((word for word in words if not word.startswith("-")), None)
-    if first is None or first in names or words[0] in ("-h", "--help"):
+    if first is None or first in COMMANDS or words[0] in ("-h", "--help"):
         return list(words)
     return ["import", *words]
 
 
 def main(words: Sequence[str] | None = None) -> int:
     """Runs a command; returns its exit status."""
-    parser, names = make_parser()
-    arguments = parser.parse_args(with_command(sys.argv[1:] if words is None else words, names))
+    words = with_command(sys.argv[1:] if words is None else words)
+    arguments = make_parser([words[0]] if words and words[0] in COMMANDS else list(COMMANDS)).parse_args(words)
     try:
         status: int = arguments.run(arguments)
         sys.stdout.flush()

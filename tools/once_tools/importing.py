@@ -1,21 +1,25 @@
 """From a project to its documents and its report."""
 from __future__ import annotations
 
+import os
 from dataclasses import dataclass, field, replace
 from pathlib import Path
 
+from once_tools.coverage import uncrossed
 from once_tools.documents import Json, network_document, text_of, traffic_document
+from once_tools.keys import KeyField
 from once_tools.leads import report_destinations, report_keys
 from once_tools.load import load_devices
 from once_tools.meaning import meaning_of
 from once_tools.merge import all_findings, merge
 from once_tools.model import Device, Finding, Grade, TrafficClass
 from once_tools.network import Network
-from once_tools.paths import declare
+from once_tools.paths import cut_to_metered, declare, limit_findings
 from once_tools.project import PathOptions, Project
 from once_tools.report import Report
+from once_tools.report_key import with_key
 from once_tools.rest import cut_others
-from once_tools.versions import Edition, classes_of, editions_of
+from once_tools.versions import Edition, classes_of, editions_of, versions_of
 
 
 @dataclass(frozen=True)
@@ -35,6 +39,7 @@ class Pair:
     network: Json
     traffic: Json
     classes: list[TrafficClass] = field(default_factory=list)
+    key: tuple[KeyField, ...] = ()
 
 
 @dataclass
@@ -83,9 +88,10 @@ def pairs_of(network: Network, classes: list[TrafficClass], editions: list[Editi
                                     "nothing is said about its packets") if edition.version else
                             Finding(Grade.WRONG, project.report.place, "no traffic is declared", "add [[traffic]]"))
             continue
-        report_keys(network, list(edition.key), edition.version)
+        findings += limit_findings(mine, project.report.place)
+        report_keys(network, list(edition.key), {version for one in mine for version in versions_of(one)})
         found.append(Pair(edition.folder, network_document(network, list(edition.key), mine, options.faithful),
-                          traffic_document(mine), mine))
+                          traffic_document(mine), mine, edition.key))
     if not found and len(editions) > 1:
         findings.append(Finding(Grade.WRONG, project.report.place, "no traffic is declared", "add [[traffic]]"))
     return found
@@ -101,36 +107,43 @@ def import_project(project: Project, options: Options = Options()) -> Imported:
     project = with_options(project, options)
     devices, collectors, findings = load_devices(project)
     findings = project.findings + findings + check_accepts(project)
+    project = replace(project, report=with_key(project.report, collectors, findings))
     editions = editions_of(project.report, findings)
     if is_wrong(findings):
         read = [one for device in [*devices, *collectors] for one in device.findings]
         return Imported([], Report(findings + read, project.accept), devices)
     network = merge(project, devices, collectors)
     declaration = declare(devices, project)
+    if not project.paths.full:
+        declaration = cut_to_metered(declaration, network.devices)
     findings += declaration.findings
     others = {one.place for one in project.traffic if one.others}
     classes = cut_others(declaration.classes, others, findings)
     report_destinations(network)
+    findings += uncrossed(network, classes)
     pairs = pairs_of(network, classes, editions, options, findings, project)
     findings = all_findings(network) + findings
     if is_wrong(findings):
         return Imported([], Report(findings, project.accept), devices, network)
-    keys = [one.key for one in editions if any(pair.folder == one.folder for pair in pairs)]
-    return Imported(pairs, Report(findings, project.accept, meaning_of(network, classes, keys, findings)), devices, network)
+    meaning = meaning_of(network, [(pair.key, pair.classes) for pair in pairs], declaration.meaning, findings)
+    return Imported(pairs, Report(findings, project.accept, meaning), devices, network)
 
 
 def write_texts(texts: dict[str, str], folder: Path) -> None:
-    """Writes texts into a folder, each completely or not at all; raises OSError."""
-    written: list[tuple[Path, Path]] = []
+    """Writes texts into a folder, all of them completely or none; what is no regular file is written to as it is."""
+    parts: list[tuple[Path, Path]] = []
     try:
         for name, text in texts.items():
-            target = folder / name
+            target = Path(os.path.realpath(folder / name))
             target.parent.mkdir(parents=True, exist_ok=True)
+            if target.exists() and not target.is_file():
+                target.write_text(text, encoding="utf-8", errors="backslashreplace")
+                continue
             part = target.with_name(f".{target.name}.part")
-            written.append((part, target))
+            parts.append((part, target))
             part.write_text(text, encoding="utf-8", errors="backslashreplace")
-        for part, target in written:
+        for part, target in parts:
             part.replace(target)
     finally:
-        for part, _ in written:
+        for part, _ in parts:
             part.unlink(missing_ok=True)

@@ -44,7 +44,8 @@ def report_destination(network: Network, device: Device, exporter: Exporter, to:
         add(network, Grade.WARNING, to.place, says, todo, device, ())
     elif link is None:
         says = f"port {to.port} of this address is no collector of the project"
-        if others_lead(device, exporter, leads) or (device.name, exporter.name) in leads:
+        copies = any(exporter.name in exporters_of_listener(one) for one in device.listeners)
+        if copies or others_lead(device, exporter, leads) or (device.name, exporter.name) in leads:
             add(network, Grade.NOTE, to.place, f"{says}: there is no link. Known are {known_ends(network, to)}", "", device,
                 ())
         else:
@@ -74,21 +75,22 @@ def record_key(cache: Cache) -> list[KeyField]:
     return [(one.element, None) for one in cache.fields if one.is_key or cache.kind == "immediate"]
 
 
-def is_of(point: Point, cache: str, version: int | None) -> bool:
-    """Returns whether a point's packets of a version come to a cache."""
-    return any(one.cache == cache and (version is None or one.match.get("ipVersion", str(version)) == str(version))
+def is_of(point: Point, cache: str, versions: set[int]) -> bool:
+    """Returns whether a point's packets of one of these versions come to a cache."""
+    spelled = {str(one) for one in versions}
+    return any(one.cache == cache and ("ipVersion" not in one.match or one.match["ipVersion"] in spelled)
                for one in point.selections)
 
 
-def report_keys(network: Network, key: list[KeyField], version: int | None) -> None:
-    """Reports caches and aggregations from whose records the report's key cannot be read."""
+def report_keys(network: Network, key: list[KeyField], versions: set[int]) -> None:
+    """Reports caches and aggregations of packets of these versions from whose records the report's key cannot be read."""
     leads = leading_exporters(network)
     for device in network.devices:
         within = {name for one in device.listeners for name in one.local_exporters}
         for cache in device.caches:
             direct = [name for name in cache.exporters if (device.name, name) in leads and name not in within]
             lacks = missing(key, record_key(cache))
-            if direct and lacks and any(is_of(point, cache.name, version) for point in device.points):
+            if direct and lacks and any(is_of(point, cache.name, versions) for point in device.points):
                 says = f"records of {cache.name} do not have {spelled(lacks)} as a key, and the report is by it: packets " \
                        "are counted under no key (unassigned)"
                 add(network, Grade.WARNING, cache.place, says, "add the field to the keys of the record, or ask for another "

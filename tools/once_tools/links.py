@@ -94,19 +94,12 @@ class Linker:
         """Links all destinations that have an address, and what is within a device."""
         for device in self.network.devices:
             for exporter in device.exporters:
+                inner = next((one for one in device.listeners if exporter.name in one.local_exporters), None)
                 for to in exporter.destinations:
-                    if to.address:
+                    if inner:
+                        self.network.links.append(Link(device.name, exporter.name, to.name, device.name, inner.name, to.place))
+                    elif to.address:
                         self.link(device, exporter, to)
-            self.link_within(device)
-
-    def link_within(self, device: Device) -> None:
-        """Links exporters of a device to the listeners of the same device that take their records."""
-        for listener in device.listeners:
-            for exporter in device.exporters:
-                if exporter.name in listener.local_exporters:
-                    first = exporter.destinations[0]
-                    self.network.links.append(Link(device.name, exporter.name, first.name, device.name, listener.name,
-                                                   first.place))
 
     def link(self, device: Device, exporter: Exporter, to: Destination) -> None:
         """Links a destination to the one listener there is, and reports what is to be known."""

@@ -3,6 +3,7 @@ from __future__ import annotations
 
 from dataclasses import replace
 
+from once_tools.choosing import choose
 from once_tools.endpoints import endpoint_of
 from once_tools.keys import key_of
 from once_tools.leads import lowered, prune
@@ -146,6 +147,9 @@ def merge(project: Project, devices: list[Device], collectors: list[Device]) -> 
         split_points(device)
     report_listener(project, network, by_name)
     Linker(network, addresses).link_all()
+    for entry in project.collectors:
+        if entry.directions or entry.interfaces:
+            choose(network, entry)
     check_limits(network, Place(project.file))
     leading = leading_exporters(network)
     for device in network.devices:

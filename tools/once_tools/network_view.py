@@ -47,16 +47,29 @@ class DeviceView:
         """Returns an entry of a list by its name, with its number from 0."""
         return next(((number, one) for number, one in enumerate(self.list(kind)) if one.get("name") == name), None)
 
+    def _placed(self, value: object) -> Place | None:
+        if isinstance(value, list) and len(value) >= 2 and isinstance(value[0], int) and isinstance(value[1], int):
+            files = texts(self.origin.get("files"))
+            file = files[value[0]] if 0 <= value[0] < len(files) else ""
+            return Place(file, value[1], str(value[2]) if len(value) > 2 else "")
+        return None
+
     def place(self, pointer: str) -> Place:
         """Returns the place of a part, or of what it is part of."""
         while pointer:
-            value = self.origin.get(pointer)
-            if isinstance(value, list) and len(value) >= 2 and isinstance(value[0], int) and isinstance(value[1], int):
-                files = texts(self.origin.get("files"))
-                file = files[value[0]] if 0 <= value[0] < len(files) else ""
-                return Place(file, value[1], str(value[2]) if len(value) > 2 else "")
+            found = self._placed(self.origin.get(pointer))
+            if found:
+                return found
             pointer = pointer.rpartition("/")[0]
         return Place("")
+
+    def interface_place(self, name: str) -> Place:
+        """Returns the place of an interface, an empty one if it is not known."""
+        return self._placed(table(self.origin.get("interfaces")).get(name)) or Place("")
+
+    def meters(self, direction: str) -> bool:
+        """Returns whether the device has a point of this direction."""
+        return any(one.get("direction", "both") in ("both", direction) for one in self.list("observationPoint"))
 
     def describe(self, pointer: str) -> str:
         """Returns `FILE:LINE: 'WORDS'`, or the device's name if nothing was kept."""

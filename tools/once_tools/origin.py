@@ -1,6 +1,7 @@
 """Where each part of a device's configuration was read from, kept in the document beside the module.
 
-The member has the files, and for a JSON Pointer below the module the number of a file, a line and the line's words.
+The member has the files, and for a JSON Pointer below the module the number of a file, a line and the line's words; and
+for the interfaces by their names.
 """
 from __future__ import annotations
 
@@ -35,9 +36,14 @@ def places_of(device: Device, selections: list[Selection]) -> dict[str, Place]:
 def origin_of(device: Device, selections: list[Selection]) -> dict[str, object]:
     """Returns the member of a device, empty if nothing was read from files."""
     places = places_of(device, selections)
-    files = list(dict.fromkeys([*device.files, *(one.file for one in places.values() if one.file)]))
+    interfaces = {one.name: one.place for one in device.interfaces if one.place.line}
+    files = list(dict.fromkeys([*device.files, *(one.file for one in [*places.values(), *interfaces.values()] if one.file)]))
+
+    def entry(place: Place) -> list[object]:
+        return [files.index(place.file), place.line, place.text]
+
     found: dict[str, object] = {"files": files}
-    for pointer, place in places.items():
-        if place.file:
-            found[pointer] = [files.index(place.file), place.line, place.text]
+    if interfaces:
+        found["interfaces"] = {name: entry(place) for name, place in interfaces.items()}
+    found |= {pointer: entry(place) for pointer, place in places.items() if place.file}
     return found if len(found) > 1 else {}

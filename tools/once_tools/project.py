@@ -1,6 +1,7 @@
 """The project file: a TOML text that names the devices, the collectors, the report and the traffic."""
 from __future__ import annotations
 
+import os
 import tomllib
 from dataclasses import dataclass, field
 from pathlib import Path
@@ -164,7 +165,7 @@ class Project:
         """Returns the texts of files; they are cited by their paths from the project's folder."""
         found = []
         for path in self.files(patterns, place):
-            name = str(path.relative_to(self.folder)) if path.is_relative_to(self.folder) else str(path)
+            name = os.path.relpath(path, self.folder)
             try:
                 found.append(read_source(path, name))
             except Unusable as why:
@@ -264,7 +265,7 @@ def _accepts(table: Table) -> list[Accept]:
 
 
 def _report(table: Table) -> Report:
-    return Report(table.text("collector", True), table.texts("key", True), table.place(), table.text("process"),
+    return Report(table.text("collector", True), table.texts("key"), table.place(), table.text("process"),
                   table.text("plugin"))
 
 

@@ -2,6 +2,7 @@
 from __future__ import annotations
 
 import json
+import os
 from dataclasses import replace
 from typing import Iterable, Sequence
 
@@ -80,11 +81,12 @@ def also(lines: list[int]) -> str:
 LEVELS = {Grade.WRONG: "error", Grade.NOT_CARRIED_OVER: "error", Grade.WARNING: "warning"}
 
 
-def annotation_of(finding: Finding, accepted: bool) -> str:
-    """Returns a finding as a workflow command of GitHub."""
+def annotation_of(finding: Finding, accepted: bool, folder: str = "") -> str:
+    """Returns a finding as a workflow command of GitHub; files are cited from `folder`."""
     level = "notice" if accepted else LEVELS.get(finding.grade, "notice")
     message = line_of(finding, accepted).replace("%", "%25")
-    file = printable(finding.place.file).replace("%", "%25").replace(",", "%2C").replace(":", "%3A")
+    file = os.path.normpath(os.path.join(folder, finding.place.file)) if finding.place.file else ""
+    file = printable(file).replace("%", "%25").replace(",", "%2C").replace(":", "%3A")
     place = f" file={file},line={finding.place.line or 1}" if file else ""
     return f"::{level}{place}::{message}"
 
@@ -110,7 +112,8 @@ class Report:
 
     def lines(self) -> list[str]:
         """Returns a line for each finding; equal lines of a file are one line, with their numbers."""
-        return [line_of(one, self.accepted(one)) + also(others) for one, others in folded(self.findings)]
+        lines = [line_of(one, self.accepted(one)) + also(others) for one, others in folded(self.findings)]
+        return list(dict.fromkeys(lines))
 
     def text(self) -> str:
         """Returns the report as text."""
@@ -125,13 +128,15 @@ class Report:
         document = {"status": self.status, "findings": findings, "meaning": list(self.meaning)}
         return json.dumps(document, indent=1, ensure_ascii=False) + "\n"
 
-    def github(self) -> str:
-        """Returns the report as workflow commands of GitHub."""
-        return "".join(annotation_of(one, self.accepted(one)) + "\n" for one in self.findings)
+    def github(self, folder: str = "") -> str:
+        """Returns the report as workflow commands of GitHub; files are cited from `folder`, that of the project."""
+        return "".join(annotation_of(one, self.accepted(one), folder) + "\n" for one in self.findings)
 
-    def form(self, name: str) -> str:
+    def form(self, name: str, folder: str = "") -> str:
         """Returns the report in one of `FORMATS`."""
-        return {"text": self.text, "json": self.json, "github": self.github}[name]()
+        if name == "github":
+            return self.github(folder)
+        return self.json() if name == "json" else self.text()
 
 
 def of_device(findings: Iterable[Finding], device: str) -> list[Finding]:

@@ -7,8 +7,6 @@ from once_tools.boxes import Box, TooManyBoxes, difference, joined, read_region,
 from once_tools.model import Finding, Grade, Place, TrafficClass
 from once_tools.versions import versions_of
 
-MOST_CLASSES = 256
-
 
 def boxes_of(one: TrafficClass) -> list[Box]:
     """Returns the packets of a class as boxes, one for each version of IP that they may have."""
@@ -42,8 +40,4 @@ def cut_others(classes: list[TrafficClass], others: set[Place], findings: list[F
             findings.append(Finding(Grade.NOTE, one.place, f"classes above '{one.name}' hold all its packets: it is left "
                                     "out"))
         found += parts
-    if len(found) > MOST_CLASSES:
-        place = next((one.place for one in found if one.place in others), found[0].place)
-        findings.append(Finding(Grade.WRONG, place, f"the traffic has {len(found)} classes, and a document holds "
-                                f"{MOST_CLASSES}", "declare fewer classes"))
     return found

@@ -245,7 +245,7 @@ const CAPTURE: OtherFile = OtherFile {
 const TABLE: OtherFile = OtherFile {
     mark: b"",
     name: "a table of a network",
-    next: "examples/tools/network_from_table.py makes a network document and a traffic declaration of it",
+    next: "once-import table makes a network document and a traffic declaration of it",
 };
 
 /// A page in HTML.

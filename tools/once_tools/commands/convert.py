@@ -23,5 +23,5 @@ def run(arguments: argparse.Namespace) -> int:
     imported = import_project(read_project(arguments.project), options_of(arguments))
     if imported.pairs and arguments.out:
         write_texts(imported.texts(), arguments.out)
-    print_report(imported.report, arguments.format)
+    print_report(imported.report, arguments.format, arguments.project.parent)
     return imported.report.status

@@ -32,6 +32,6 @@ def options_of(arguments: argparse.Namespace) -> Options:
     return Options(arguments.faithful, arguments.full, arguments.may_drop)
 
 
-def print_report(report: Report, form: str) -> None:
-    """Prints a report on standard output."""
-    sys.stdout.write(report.form(form))
+def print_report(report: Report, form: str, folder: Path = Path(".")) -> None:
+    """Prints a report on standard output; `folder` is that of the project."""
+    sys.stdout.write(report.form(form, str(folder)))

@@ -151,7 +151,7 @@ def read_aggregation(classic: Classic, name: str, node: Node) -> None:
                                               "minimum' the document leaves them out of the key",
                                   f"write 'mask {side} minimum N'")
     classic.aggregations.append(Aggregation(name, key, [name], node.place))
-    classic.exporters.append(Exporter(name, destinations, node.place, "parallel"))
+    classic.exporters.append(Exporter(name, destinations, node.place))
 
 
 def name_exports(classic: Classic) -> None:

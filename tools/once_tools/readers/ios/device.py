@@ -2,7 +2,7 @@
 from __future__ import annotations
 
 from once_tools.elements import COUNTERS
-from once_tools.model import Cache, Destination, Device, Exporter, Finding, Listener, Place, Topic
+from once_tools.model import Cache, Destination, Device, Exporter, Finding, Listener, Place
 from once_tools.readers.ios.classic import CACHE, read_classic
 from once_tools.readers.ios.exporters import read_exporter
 from once_tools.readers.ios.interfaces import Attachment, read_interfaces
@@ -93,7 +93,7 @@ class Running:
         record = monitor.record or Record("", monitor.place)
         names = list(dict.fromkeys(bearing))
         self.device.caches.append(Cache(monitor.name, monitor.kind, list(record.fields), names, monitor.place,
-                                        dict(monitor.settings)))
+                                        dict(monitor.settings), list(record.other_keys)))
         for name, place in monitor.exporters:
             if name not in self.flow_exporters:
                 monitor.notes.wrong(place, f"there is no flow exporter {name}", nearest(name, self.flow_exporters)
@@ -139,7 +139,8 @@ class Running:
         exporters = [one.name for one in self.classic.exporters if not self.is_aggregation(one)]
         if self.classic.aggregations and family == 4:
             exporters.append(WITHIN)
-        self.device.caches.append(Cache(name, "timeout", record.fields, exporters, place, dict(self.classic.settings)))
+        self.device.caches.append(Cache(name, "timeout", record.fields, exporters, place, dict(self.classic.settings),
+                                        ["ingressInterface"]))
         return name
 
     def is_aggregation(self, exporter: Exporter) -> bool:
@@ -151,7 +152,7 @@ class Running:
         for one in classic.exporters:
             one.source = self.address_of(classic.source)
             for to in one.destinations:
-                to.version = classic.version
+                to.version = 8 if self.is_aggregation(one) else classic.version
         if classic.aggregations:
             inner = Destination("aggregation", "", 0, classic.aggregations[0].place, "tcp")
             self.device.exporters.append(Exporter(WITHIN, [inner], inner.place))
@@ -161,8 +162,10 @@ class Running:
         where = classic.version_place or (classic.exporters[0].place if classic.exporters else place)
         classic.notes.premise(where, "records of classic NetFlow have counters of 4 octets, which once refuses (110); the "
                                      "document has 8, so it speaks of records whose sums stay below 4,294,967,296", "", 110)
-        classic.notes.note(where, f"NetFlow version {classic.version}: the audit is the same, and `once collect` refuses its "
-                                  "messages (611)")
+        versions = sorted({str(to.version) for one in classic.exporters for to in one.destinations})
+        if versions:
+            classic.notes.note(where, f"NetFlow version {' and '.join(versions)}: the audit is the same, and `once collect` "
+                                      "refuses its messages (611)")
         if not classic.exporters:
             classic.notes.note(where, "there is no 'ip flow-export destination': what is metered is sent nowhere")
         self.add(classic.notes.bearing_on(self.exporters_of("")))
@@ -197,18 +200,13 @@ class Running:
             self.add(notes.bearing_on(tuple(each for use in uses for each in self.exporters_of(use.monitor))))
 
     def report_unknown(self) -> None:
-        """Reports sections about flows, translation of addresses and the like that are not read."""
+        """Reports sections about flows that are not read."""
         for node in self.nodes:
             words = node.words
             known = any(words[: len(one)] == one for one in HARMLESS)
             is_flow = words[0] in ("flow", "netflow") or words[0] == "ip" and words[1:2] and words[1].startswith("flow")
             if is_flow and not known or words[:2] in (("mls", "netflow"), ("mls", "nde"), ("mls", "flow")):
                 self.notes.unknown(node.place, "the configuration of flows")
-            elif words[:2] == ("ip", "nat") and len(words) > 3 and words[2] in ("inside", "outside") and words[3] in (
-                    "source", "destination"):
-                self.notes.lost(node.place, "packets have other addresses behind the translation: whether one packet is "
-                                            "counted on both sides is not seen by the audit", "declare traffic by the "
-                                            "addresses that it has where it is metered", Topic.NAT)
 
     def add_interfaces(self) -> None:
         for port in self.ports.ports.values():

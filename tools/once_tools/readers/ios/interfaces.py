@@ -187,19 +187,7 @@ def read_flow(ports: Ports, port: Port, line: Node) -> bool:
 
 def read_line(ports: Ports, port: Port, line: Node) -> None:
     """Reads a line of an interface; what is neither about metering nor about paths is passed over."""
-    words = line.words
-    if read_plain(port, line) or read_flow(ports, port, line):
-        return
-    if words[:2] == ("ip", "policy") or words[:2] == ("ipv6", "policy"):
-        ports.notes.premise(line.place, "packets that the policy routes elsewhere are not on paths found by routing tables",
-                            "declare traffic that comes in here by 'from' and 'to'")
-    elif words[:2] == ("crypto", "map"):
-        ports.notes.premise(line.place, "packets that are encrypted here have other addresses and sizes outside; the "
-                                        "document meters what is declared", "declare the encrypted packets as a class")
-    elif words[:2] == ("ip", "access-group") or words[:2] == ("ipv6", "traffic-filter"):
-        ports.notes.premise(line.place, "packets that the access list drops end here, on a path that is not declared",
-                            "declare such paths by --may-drop")
-    else:
+    if not read_plain(port, line) and not read_flow(ports, port, line):
         read_layers(ports, port, line)
 
 

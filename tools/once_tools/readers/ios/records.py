@@ -34,6 +34,10 @@ OTHER_MATCHES: list[Words] = [
     ("transport", "icmp"), ("transport", "igmp"), ("transport", "rtp"), ("transport", "packets"),
 ]
 
+# Keys that are no axes, by which collectors choose records.
+CHOSEN_BY: dict[Words, str] = {("interface", "input"): "ingressInterface", ("interface", "output"): "egressInterface",
+                               ("flow", "direction"): "flowDirection"}
+
 # Fields that hold part of an axis, with the report that they do not suffice for.
 PARTS: list[tuple[Words, str]] = [
     (("ipv4", "dscp"), "class of service"),
@@ -77,6 +81,7 @@ class Record:
     place: Place
     fields: list[CacheField] = field(default_factory=list)
     notes: Notes = field(default_factory=Notes)
+    other_keys: list[str] = field(default_factory=list)
 
     def add(self, element: str, is_key: bool, place: Place, octets: int | None = None) -> None:
         """Adds a field; a key goes before a field that is merely collected."""
@@ -113,6 +118,7 @@ def read_match(record: Record, node: Node) -> None:
                                  "read from these records")
     elif starts_with(words, OTHER_MATCHES):
         record.notes.note(place, "this is no axis and left out of the keys: records are finer, their sums the same")
+        record.other_keys += [CHOSEN_BY[words]] if words in CHOSEN_BY else []
     else:
         record.notes.unknown(place, "a flow record")
 
