@@ -85,6 +85,7 @@ class Collector:
 
     def __init__(self, log: Log) -> None:
         self.log, self.config = log, Config()
+        self.sampled: set[tuple[str, ...]] = set()
 
     def take(self, one: Statement) -> None:
         words = one.words
@@ -179,12 +180,16 @@ class Collector:
     def sampling(self, unit: str, family: str, words: list[str], place: Place) -> None:
         for word in words or [""]:
             if word in ("input", "output"):
-                one = Sampling(unit, family, word, place)
-                if not any((other.unit, other.family, other.direction, other.filters) == (unit, family, word, [])
-                           for other in self.config.samplings):
-                    self.config.samplings.append(one)
+                self.add(Sampling(unit, family, word, place))
             else:
                 self.log.unknown(place, f"sampling {word}".strip(), ["sampling input", "sampling output"])
+
+    def add(self, one: Sampling) -> None:
+        """Adds what samples at a unit, unless the same statement was there before."""
+        key = (one.unit, one.family, one.direction, *one.filters)
+        if key not in self.sampled:
+            self.sampled.add(key)
+            self.config.samplings.append(one)
 
     def filter_use(self, unit: str, family: str, words: list[str], place: Place) -> None:
         if not words:
@@ -199,7 +204,7 @@ class Collector:
         if words[0].endswith("-list") and last and (last.unit, last.family, last.direction) == (unit, family, direction) and last.filters:
             last.filters += names
         else:
-            self.config.samplings.append(Sampling(unit, family, direction, place, names))
+            self.add(Sampling(unit, family, direction, place, names))
 
     def services(self, words: Words, place: Place) -> None:
         if words[:1] != ("flow-monitoring",):
@@ -301,8 +306,8 @@ class Collector:
 
     def term(self, one: TermText, words: list[str], key: tuple[str, str], place: Place) -> None:
         if words[:1] == ["from"] and len(words) > 1:
-            one.conditions.append((words[1:], place))
+            one.add(one.conditions, words[1:], place)
         elif words[:1] == ["then"] and len(words) > 1:
-            one.actions.append((words[1:], place))
+            one.add(one.actions, words[1:], place)
         elif words:
             self.config.filter_faults.setdefault(key, place)

@@ -45,6 +45,14 @@ class TermText:
     place: Place
     conditions: list[tuple[list[str], Place]] = field(default_factory=list)
     actions: list[tuple[list[str], Place]] = field(default_factory=list)
+    seen: set[tuple[int, tuple[str, ...]]] = field(default_factory=set)
+
+    def add(self, statements: list[tuple[list[str], Place]], words: list[str], place: Place) -> None:
+        """Adds a condition or an action, unless the same one was there before."""
+        key = (id(statements), tuple(words))
+        if key not in self.seen:
+            self.seen.add(key)
+            statements.append((words, place))
 
 
 def region_of(term: TermText, version: int, lists: dict[str, list[str]], premises: list[tuple[Place, str]]) -> list[Box]:

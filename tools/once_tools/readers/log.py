@@ -10,18 +10,25 @@ SAMPLES = ("the document meters all packets: a certificate then says that each p
            "times {rate} are estimates")
 
 
+# Near names are looked up for so many unknown statements; a text with more is not what it should be.
+MOST_NEAR = 200
+
+
 class Log:
     """Collects the findings of one device, in the order of reading and each once."""
 
     def __init__(self, device: str) -> None:
         self.device = device
         self.findings: list[Finding] = []
+        self.known: set[Finding] = set()
+        self.unknowns = 0
 
     def add(self, grade: Grade, place: Place, says: str, todo: str = "", topic: Topic = Topic.OTHER,
             number: int | None = None, exporters: Iterable[str] = ()) -> None:
         """Adds a finding."""
         one = Finding(grade, place, says, todo, topic, number, self.device, tuple(exporters))
-        if one not in self.findings:
+        if one not in self.known:
+            self.known.add(one)
             self.findings.append(one)
 
     def note(self, place: Place, says: str, todo: str = "", number: int | None = None, exporters: Iterable[str] = ()) -> None:
@@ -44,7 +51,8 @@ class Log:
 
     def unknown(self, place: Place, what: str, known: Sequence[str] = (), exporters: Iterable[str] = ()) -> None:
         """Adds a statement that is not known here, with the nearest known one."""
-        near = difflib.get_close_matches(what.lower(), known, 1)
+        self.unknowns += 1
+        near = difflib.get_close_matches(what.lower()[:80], known, 1) if self.unknowns <= MOST_NEAR else []
         todo = f"correct it to `{near[0]}` if it is misspelled, " if near else "correct it if it is misspelled, "
         self.lost(place, f"`{what}` is not known here, so whether it bears on what is metered is not known either",
                   todo + "or accept it", Topic.UNKNOWN, None, exporters)

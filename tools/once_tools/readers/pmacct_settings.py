@@ -121,10 +121,15 @@ def report_unknown(found: Settings, plugins: Sequence[Plugin], known: set[str], 
 
 def report_repeated(found: Settings, log: Log) -> None:
     """Notes lines that a later line of the same key overrides."""
-    for place, one in enumerate(found.lines):
-        later = [other for other in found.lines[place + 1:] if other.key == one.key and other.plugin in ("", one.plugin)]
-        if later and not HARMLESS.fullmatch(one.key):
-            log.note(one.place, f"line {later[-1].place.line} sets the same key and is in force, since the last line counts")
+    later: dict[tuple[str, str], int] = {}
+    repeated = []
+    for one in reversed(found.lines):
+        line = max(later.get((one.key, ""), 0), later.get((one.key, one.plugin), 0))
+        if line and not HARMLESS.fullmatch(one.key):
+            repeated.append((one.place, line))
+        later[(one.key, one.plugin)] = max(one.place.line, later.get((one.key, one.plugin), 0))
+    for place, line in reversed(repeated):
+        log.note(place, f"line {line} sets the same key and is in force, since the last line counts")
 
 
 def other_source(sources: Sequence[Source], path: str) -> Source | None:
