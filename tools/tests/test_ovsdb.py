@@ -42,7 +42,8 @@ def socket(tmp_path_factory: pytest.TempPathFactory) -> Iterator[str]:
 
 
 def test_a_dump_of_a_running_server_is_read_as_the_sample(socket: str) -> None:
-    done = subprocess.run([program("ovsdb-client"), "--format=json", "dump", socket, "Open_vSwitch"], check=True, timeout=30,
+    done = subprocess.run([program("ovsdb-client"), "--format=json", "dump", socket, "Open_vSwitch"], check=True,
+                          timeout=30,
                           capture_output=True, text=True)
     device = READERS["openvswitch"].read("hv-1", [Source("dump", done.stdout)], {})
     assert shape(device) == shape(read("openvswitch", SAMPLES / "openvswitch/hv-1.ovsdb.json"))
@@ -52,7 +53,8 @@ def test_lists_of_a_running_server_are_read_as_the_sample(socket: str) -> None:
     sources = []
     for table, columns in PRINTED.items():
         chosen = [f"--columns={columns}"] if columns else []
-        done = subprocess.run([program("ovs-vsctl"), f"--db={socket}", "--format=json", *chosen, "list", table], check=True, timeout=30,
+        done = subprocess.run([program("ovs-vsctl"), f"--db={socket}", "--format=json", *chosen, "list", table],
+                              check=True, timeout=30,
                               capture_output=True, text=True)
         sources.append(Source(f"{table}.json", done.stdout))
     device = READERS["openvswitch"].read("hv-1", sources, {})

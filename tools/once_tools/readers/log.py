@@ -6,7 +6,8 @@ from typing import Iterable, Sequence
 
 from once_tools.model import Finding, Grade, Place, Topic
 
-SAMPLES = ("the document meters all packets: a certificate then says that each packet is offered to one sampler, and totals "
+SAMPLES = ("the document meters all packets: a certificate then says that each packet is offered to one sampler, and "
+           "totals "
            "times {rate} are estimates")
 
 
@@ -31,7 +32,8 @@ class Log:
             self.known.add(one)
             self.findings.append(one)
 
-    def note(self, place: Place, says: str, todo: str = "", number: int | None = None, exporters: Iterable[str] = ()) -> None:
+    def note(self, place: Place, says: str, todo: str = "", number: int | None = None,
+             exporters: Iterable[str] = ()) -> None:
         self.add(Grade.NOTE, place, says, todo, Topic.OTHER, number, exporters)
 
     def premise(self, place: Place, says: str, todo: str = "", topic: Topic = Topic.OTHER, number: int | None = None,

@@ -49,7 +49,8 @@ class Settings:
     def last(self, key: str, plugin: str | None = None) -> Setting | None:
         """Returns the line of a key that is in force for a plugin, or for the daemon."""
         for one in reversed(self.lines):
-            if one.key == key and (not one.plugin or plugin is not None and one.plugin in (plugin, f"default_{plugin}")):
+            if one.key == key and (not one.plugin or plugin is not None
+                                   and one.plugin in (plugin, f"default_{plugin}")):
                 return one
         return None
 
@@ -81,7 +82,8 @@ def settings_of(source: Source, wanted: re.Pattern[str], title: str) -> Settings
     """Returns the settings of a text. Raises Unusable if none of them is of the kind that is wanted."""
     found = Settings(*settings(source))
     if not any(wanted.fullmatch(one.key) for one in found.lines):
-        raise Unusable(source.place(0), f"has no setting of {title}", "give the file that the daemon is started with (-f)")
+        raise Unusable(source.place(0), f"has no setting of {title}",
+                       "give the file that the daemon is started with (-f)")
     return found
 
 
@@ -92,7 +94,8 @@ def plugins_of(found: Settings) -> list[Plugin]:
     for text in line.value.split(",") if line else []:
         match = PLUGIN.fullmatch(text)
         if match is None and text.strip():
-            raise Unusable(line.place if line else Place(""), f"{text.strip()!r} is no plugin", "write KIND or KIND[NAME]")
+            raise Unusable(line.place if line else Place(""), f"{text.strip()!r} is no plugin",
+                           "write KIND or KIND[NAME]")
         if match:
             plugins.append(Plugin(match[1], match[2] or match[1]))
     names = [one.name for one in plugins]
