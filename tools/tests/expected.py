@@ -44,7 +44,8 @@ def shape(device: Device) -> dict[str, Any]:
         "points": sorted((one.name, sorted(one.interfaces), one.direction.value, [each.name for each in one.selections])
                          for one in device.points),
         "selections": {each.name: (dict(each.match), each.cache) for one in device.points for each in one.selections},
-        "caches": {one.name: (one.kind, [each.element for each in one.fields if each.is_key], one.exporters) for one in device.caches},
+        "caches": {one.name: (one.kind, [each.element for each in one.fields if each.is_key], one.exporters)
+                   for one in device.caches},
         "exporters": {one.name: (one.mode, [(each.name, each.address, each.port) for each in one.destinations])
                       for one in device.exporters},
         "listeners": {one.name: one.forwards for one in device.listeners},
@@ -72,4 +73,5 @@ def expected(path: Path, name: str) -> dict[str, Any]:
     points = sorted((one["name"], sorted(one["ifName"]), one["direction"], one["selectionProcess"])
                     for one in config.get("observationPoint", []))
     listeners = {one["name"]: one.get("exportingProcess", []) for one in config.get("collectingProcess", [])}
-    return {"points": points, "selections": selections, "caches": caches, "exporters": exporters, "listeners": listeners}
+    return {"points": points, "selections": selections, "caches": caches, "exporters": exporters,
+            "listeners": listeners}

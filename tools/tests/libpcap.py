@@ -28,7 +28,8 @@ class Packet:
         source, destination = ipaddress.ip_address(self.source), ipaddress.ip_address(self.destination)
         rest = struct.pack(">HHHH", self.source_port, self.destination_port, 8, 0)
         if source.version == 4:
-            return struct.pack(">BBHHHBBH", 0x45, 0, 28, 0, 0, 64, self.protocol, 0) + source.packed + destination.packed + rest
+            return struct.pack(">BBHHHBBH", 0x45, 0, 28, 0, 0, 64, self.protocol,
+                               0) + source.packed + destination.packed + rest
         return struct.pack(">IHBB", 0x60000000, 8, self.protocol, 64) + source.packed + destination.packed + rest
 
 
@@ -52,7 +53,8 @@ def library() -> ctypes.CDLL:
     found.pcap_open_dead.restype = ctypes.c_void_p
     found.pcap_geterr.restype = ctypes.c_char_p
     found.pcap_geterr.argtypes = [ctypes.c_void_p]
-    found.pcap_compile.argtypes = [ctypes.c_void_p, ctypes.POINTER(_Program), ctypes.c_char_p, ctypes.c_int, ctypes.c_uint32]
+    found.pcap_compile.argtypes = [ctypes.c_void_p, ctypes.POINTER(_Program), ctypes.c_char_p, ctypes.c_int,
+                                   ctypes.c_uint32]
     found.pcap_offline_filter.argtypes = [ctypes.POINTER(_Program), ctypes.POINTER(_Header), ctypes.c_char_p]
     return found
 

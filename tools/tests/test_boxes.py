@@ -50,7 +50,8 @@ def test_operations_hold_the_points_of_sets(seed: int) -> None:
 
 
 @pytest.mark.parametrize("low,high", [("0.0.0.0", "10.10.255.255"), ("10.12.0.0", "255.255.255.255"),
-                                      ("10.4.0.0", "10.4.254.255"), ("1.2.3.4", "1.2.3.4"), ("0.0.0.1", "255.255.255.254")])
+                                      ("10.4.0.0", "10.4.254.255"), ("1.2.3.4", "1.2.3.4"),
+                                      ("0.0.0.1", "255.255.255.254")])
 def test_prefixes_are_those_of_ipaddress(low: str, high: str) -> None:
     expected = [str(one) for one in ipaddress.summarize_address_range(ipaddress.IPv4Address(low),
                                                                      ipaddress.IPv4Address(high))]
@@ -84,10 +85,14 @@ def test_matches_name_values_and_prefixes() -> None:
     one = boxes.read_region({"ipVersion": "4", "sourceIPv4Address": "10.0.0.1", "protocolIdentifier": "6-7",
                              "destinationIPv4Address": "10.4.0.0-10.4.2.255"})
     assert boxes.matches([one]) == [
-        {"ipVersion": "4", "sourceIPv4Address": "10.0.0.1", "destinationIPv4Prefix": "10.4.0.0/23", "protocolIdentifier": "6"},
-        {"ipVersion": "4", "sourceIPv4Address": "10.0.0.1", "destinationIPv4Prefix": "10.4.0.0/23", "protocolIdentifier": "7"},
-        {"ipVersion": "4", "sourceIPv4Address": "10.0.0.1", "destinationIPv4Prefix": "10.4.2.0/24", "protocolIdentifier": "6"},
-        {"ipVersion": "4", "sourceIPv4Address": "10.0.0.1", "destinationIPv4Prefix": "10.4.2.0/24", "protocolIdentifier": "7"}]
+        {"ipVersion": "4", "sourceIPv4Address": "10.0.0.1", "destinationIPv4Prefix": "10.4.0.0/23",
+         "protocolIdentifier": "6"},
+        {"ipVersion": "4", "sourceIPv4Address": "10.0.0.1", "destinationIPv4Prefix": "10.4.0.0/23",
+         "protocolIdentifier": "7"},
+        {"ipVersion": "4", "sourceIPv4Address": "10.0.0.1", "destinationIPv4Prefix": "10.4.2.0/24",
+         "protocolIdentifier": "6"},
+        {"ipVersion": "4", "sourceIPv4Address": "10.0.0.1", "destinationIPv4Prefix": "10.4.2.0/24",
+         "protocolIdentifier": "7"}]
 
 
 def test_more_than_the_limit_is_counted() -> None:

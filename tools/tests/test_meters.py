@@ -53,10 +53,12 @@ def regions(device: Device) -> dict[str, list[Box]]:
 
 def udp_packets(seed: int) -> list[Packet]:
     """Packets of UDP, which no meter takes for fragments or for other headers."""
-    return [Packet(one.source, one.destination, 17, one.source_port, one.destination_port) for one in packets(seed)[:200]]
+    return [Packet(one.source, one.destination, 17, one.source_port, one.destination_port)
+            for one in packets(seed)[:200]]
 
 
-FILTERS = ["", "ip", "src net 10.0.0.0/8", "net 10.11.0.0/16", "not net 10.0.0.0/8", "udp dst port 53 or src host 10.0.0.1",
+FILTERS = ["", "ip", "src net 10.0.0.0/8", "net 10.11.0.0/16", "not net 10.0.0.0/8",
+           "udp dst port 53 or src host 10.0.0.1",
            "net 2001:db8::/32 or net 192.168", "src net 10.0.0.0/8 and not src net 10.1.0.0/16"]
 
 
@@ -65,7 +67,8 @@ def test_softflowd_tracks_the_packets_that_its_document_selects(tmp_path: Path, 
     wanted = udp_packets(FILTERS.index(expression))
     write_capture(tmp_path / "a.pcap", wanted)
     arguments = ["-r", str(tmp_path / "a.pcap"), "-n", "127.0.0.1:9", "-v", "10", "-m", "100000"]
-    done = subprocess.run([program("softflowd"), *arguments, *expression.split()], capture_output=True, text=True, timeout=30, cwd=tmp_path)
+    done = subprocess.run([program("softflowd"), *arguments, *expression.split()], capture_output=True, text=True,
+                          timeout=30, cwd=tmp_path)
     counted = re.search(r"Packets processed: (\d+)", done.stdout + done.stderr)
     assert counted, done.stderr
     device = read_text("softflowd", f"softflowd -i eth0 -n 127.0.0.1:9 -v 10 {expression}\n")
@@ -82,7 +85,8 @@ def test_pmacctd_counts_the_packets_that_its_document_selects(tmp_path: Path) ->
                 f"print_output_file: {tmp_path}/counted.csv\nprint_output: csv\nnfprobe_receiver: 127.0.0.1:9\n"
                 f"pcap_filter: icmp\npcap_filter[a]: {expression}\ndaemonize: false\n")
     (tmp_path / "pmacctd.conf").write_text(settings)
-    subprocess.run([program("pmacctd"), "-f", str(tmp_path / "pmacctd.conf")], capture_output=True, timeout=60, cwd=tmp_path)
+    subprocess.run([program("pmacctd"), "-f", str(tmp_path / "pmacctd.conf")], capture_output=True, timeout=60,
+                   cwd=tmp_path)
     rows = [line.split(",") for line in (tmp_path / "counted.csv").read_text().splitlines()[1:]]
     device = read_text("pmacctd", settings)
     found = regions(device)

@@ -20,8 +20,10 @@ from once_tools.source import Source, read_source
 
 COUNT = 300
 FILES = {"pmacctd": "pmacct/pmacctd.conf", "softflowd": "pmacct/softflowd.service", "nfacctd": "pmacct/nfacctd.conf",
-         "nfcapd": "pmacct/nfcapd.args", "openvswitch": "openvswitch/hv-1.ovsdb.json", "junos": "juniper-junos/mx-1.set",
-         "cisco-ios": "cisco-ios-xe/edge-1.cfg", "cisco-xr": "cisco-ios-xr/core-1.cfg", "vyos": "vyos/gw-1.set", "arista-eos": "arista-eos/leaf-1.cfg"}
+         "nfcapd": "pmacct/nfcapd.args", "openvswitch": "openvswitch/hv-1.ovsdb.json",
+         "junos": "juniper-junos/mx-1.set",
+         "cisco-ios": "cisco-ios-xe/edge-1.cfg", "cisco-xr": "cisco-ios-xr/core-1.cfg",
+         "vyos": "vyos/gw-1.set", "arista-eos": "arista-eos/leaf-1.cfg"}
 OTHERS = {"nfacctd": ["pmacct/tee_receivers.lst"]}
 # Lines whose change may go unheard: comments, and what does not bear on which packets are counted in which record.
 HARMLESS = {
@@ -31,7 +33,8 @@ HARMLESS = {
     "nfcapd": r"$^",
     "openvswitch": r"$^",
     "junos": r"\s*#.*|\s*$|.*(description|template-refresh-rate|flow-table-size|static route|host-name).*"
-             r"|.*xe-0/0/3 unit 0 family inet sampling( input)?|.*(term management then accept|customers then accept|rest then accept)",
+             r"|.*xe-0/0/3 unit 0 family inet sampling( input)?|.*(term management then accept|customers then "
+            r"accept|rest then accept)",
     "cisco-ios": r"\s*!.*|\s*$|\s*(version|hostname|description|collect (interface|timestamp)|template data).*|end",
     "cisco-xr": r"\s*!.*|\s*$|\s*(options interface-table|template|description|hostname).*|end|\s*cache timeout.*|\s*source Loop.*"
                 r"|\s*shutdown|\s*interface Loop.*| ipv4 address 198.51.100.2.*",
@@ -49,7 +52,8 @@ def sources(kind: str) -> list[Source]:
 
 def values(device: Device) -> str:
     """Returns all of a device but the places of its parts, which move with its lines."""
-    text = re.sub(r"'place': \{.*?\}|'interface_places': \[.*?\]|'?line'?[:=] ?\d+", "", str(asdict(device)), flags=re.S)
+    text = re.sub(r"'place': \{.*?\}|'interface_places': \[.*?\]|'?line'?[:=] ?\d+", "", str(asdict(device)),
+                  flags=re.S)
     return re.sub(r"'findings': \[.*?\](, 'hostname')", r"\1", text, flags=re.S)
 
 
@@ -107,7 +111,8 @@ def test_no_change_is_passed_over_in_silence(kind: str) -> None:
         text, what, place = mutate(first.text, chance)
         found = heard(kind, [Source(first.name, text), *others])
         if found == usual and not is_silent_by_right(kind, what, first.text, text, place):
-            silent.append((what, first.text.split("\n")[place], text.split("\n")[place] if place < len(text.split("\n")) else ""))
+            silent.append((what, first.text.split("\n")[place], text.split("\n")[place] if place < len(text.split("\n"))
+                           else ""))
     assert not silent
 
 
@@ -164,7 +169,8 @@ def test_carriage_returns_and_pagers_change_nothing(kind: str) -> None:
 def test_a_comment_moves_line_numbers_alone(kind: str) -> None:
     first, *others = sources(kind)
     mark = "!" if kind in ("pmacctd", "nfacctd", "cisco-xr", "arista-eos") else "#"
-    assert heard(kind, [Source(first.name, f"{mark} a comment\n{first.text}"), *others]) == heard(kind, [first, *others])
+    assert heard(kind, [Source(first.name, f"{mark} a comment\n{first.text}"),
+                        *others]) == heard(kind, [first, *others])
 
 
 @pytest.mark.parametrize("kind", FILES)
@@ -173,4 +179,5 @@ def test_a_text_of_another_kind_is_refused(kind: str) -> None:
     for other in FILES:
         if other != kind and {other, kind} != {"pmacctd", "nfacctd"} and {other, kind} != {"junos", "vyos"}:
             what, says = heard(kind, [Source("config", (SAMPLES / FILES[other]).read_text())])
-            assert what == "unusable" or kind in ("cisco-xr", "arista-eos") and other in ("cisco-xr", "arista-eos"), (other, what[:200])
+            assert what == "unusable" or kind in ("cisco-xr", "arista-eos") and other in ("cisco-xr",
+                                                                                          "arista-eos"), (other, what[:200])

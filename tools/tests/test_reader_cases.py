@@ -10,7 +10,8 @@ from expected import SAMPLES, finding, lines, read_text, shape
 from once_tools.model import Direction, Grade, Topic, Unusable
 
 PROBE = "pcap_interface: eth0\npromisc: false\nplugins: nfprobe[a]\nnfprobe_receiver: 192.0.2.10:4739\n"
-SIX = ["sourceIPv4Address", "destinationIPv4Address", "protocolIdentifier", "sourceTransportPort", "destinationTransportPort",
+SIX = ["sourceIPv4Address", "destinationIPv4Address", "protocolIdentifier", "sourceTransportPort",
+       "destinationTransportPort",
        "ipClassOfService"]
 
 
@@ -36,14 +37,18 @@ def test_pmacctd_with_a_negated_network_takes_64_selections_and_one() -> None:
 
 
 def test_pmacctd_with_a_map_of_two_directions_has_two_points_and_one_cache() -> None:
-    text = PROBE.replace("pcap_interface: eth0", "pcap_interfaces_map: /etc/pmacct/interfaces.map") + "nfprobe_version: 5\n"
-    device = read_text("pmacctd", text, interfaces_map="ifindex=2 ifname=eth0 direction=in\nifindex=3 ifname=eth1 direction=out\n")
-    assert [(one.interfaces, one.direction) for one in device.points] == [(["eth0"], Direction.INGRESS), (["eth1"], Direction.EGRESS)]
+    text = PROBE.replace("pcap_interface: eth0",
+                         "pcap_interfaces_map: /etc/pmacct/interfaces.map") + "nfprobe_version: 5\n"
+    device = read_text("pmacctd", text,
+                       interfaces_map="ifindex=2 ifname=eth0 direction=in\nifindex=3 ifname=eth1 direction=out\n")
+    assert [(one.interfaces, one.direction) for one in device.points] == [(["eth0"], Direction.INGRESS),
+                                                                          (["eth1"], Direction.EGRESS)]
     assert [one.name for one in device.caches] == ["a IPv4"]
 
 
 def test_pmacctd_applies_the_last_line_of_a_key() -> None:
-    device = read_text("pmacctd", PROBE.replace("nfprobe_receiver", "nfprobe_receiver[a]") + "nfprobe_receiver: 192.0.2.99:2055\n")
+    device = read_text("pmacctd", PROBE.replace("nfprobe_receiver",
+                                                "nfprobe_receiver[a]") + "nfprobe_receiver: 192.0.2.99:2055\n")
     assert device.exporters[0].destinations[0].address == "192.0.2.99"
     assert "last line counts" in finding(device, "nfprobe_receiver[a]").says
 
@@ -83,23 +88,28 @@ def test_pmacctd_settings_that_make_no_probe_are_refused(text: str, words: str) 
 def test_a_statement_that_is_not_known_is_not_carried_over() -> None:
     cases = {
         "pmacctd": PROBE + "flow_frobnicate: 3\n",
-        "cisco-xr": (SAMPLES / "cisco-ios-xr/core-1.cfg").read_text().replace(" record ipv4\n", " record ipv4\n frobnicate 3\n"),
+        "cisco-xr": (SAMPLES / "cisco-ios-xr/core-1.cfg").read_text().replace(" record ipv4\n",
+                                                                              " record ipv4\n frobnicate 3\n"),
         "junos": (SAMPLES / "juniper-junos/mx-1.set").read_text() + "set forwarding-options sampling instance BILL frobnicate 3\n",
-        "arista-eos": (SAMPLES / "arista-eos/leaf-1.cfg").read_text().replace("   tracker ALL\n", "   tracker ALL\n      frobnicate 3\n"),
+        "arista-eos": (SAMPLES / "arista-eos/leaf-1.cfg").read_text().replace("   tracker ALL\n",
+                                                                              "   tracker ALL\n      frobnicate 3\n"),
         "vyos": (SAMPLES / "vyos/gw-1.set").read_text() + "set system flow-accounting netflow frobnicate 3\n",
-        "nokia-sros": (SAMPLES / "nokia-sros/pe-1.cfg").read_text().replace("        rate 1\n", "        rate 1\n        frobnicate 3\n"),
+        "nokia-sros": (SAMPLES / "nokia-sros/pe-1.cfg").read_text().replace("        rate 1\n",
+                                                                            "        rate 1\n        frobnicate 3\n"),
         "huawei": (SAMPLES / "huawei-vrp/ne-1.cfg").read_text() + "ip netstream frobnicate 3\n",
         "mikrotik": (SAMPLES / "mikrotik/gw-6.rsc").read_text().replace("enabled=yes", "enabled=yes frobnicate=3"),
     }
     for kind, text in cases.items():
-        one = finding(read_text(kind, text), "frobnicate 3` is" if kind not in ("pmacctd", "mikrotik") else "frobnicate` is")
+        one = finding(read_text(kind, text), "frobnicate 3` is" if kind not in ("pmacctd", "mikrotik")
+                      else "frobnicate` is")
         assert (one.grade, one.topic) == (Grade.NOT_CARRIED_OVER, Topic.UNKNOWN), kind
 
 
 def test_softflowd_balances_over_destinations_with_l() -> None:
     device = read_text("softflowd", "softflowd -i eth0 -N -v 10 -l -n 192.0.2.10:4739,[2001:db8::1]:2055\n")
     assert shape(device)["exporters"]["softflowd"] == ("loadBalancing", [("192.0.2.10 port 4739", "192.0.2.10", 4739),
-                                                                         ("2001:db8::1 port 2055", "2001:db8::1", 2055)])
+                                                                         ("2001:db8::1 port 2055", "2001:db8::1",
+                                                                          2055)])
 
 
 def test_softflowd_sends_version_5_of_ipv4_alone_where_nothing_is_said() -> None:
@@ -107,8 +117,10 @@ def test_softflowd_sends_version_5_of_ipv4_alone_where_nothing_is_said() -> None
     assert [one.name for one in device.caches] == ["softflowd IPv4"] and device.points[0].interfaces == ["eth0"]
 
 
-@pytest.mark.parametrize("words", ["-i eth0", "-n 192.0.2.10:4739", "-i eth0 -n host", "-i eth0 -n a:1 -T all", "-i eth0 -n a:1 -v 7",
-                                   "-i eth0 -n a:1 -t maxlife=x", "-i eth0 -n a:1 -q", "-i eth0 -n a:1,a:1", "-R 1 -n a:1", "-i 'eth0"])
+@pytest.mark.parametrize("words", ["-i eth0", "-n 192.0.2.10:4739", "-i eth0 -n host", "-i eth0 -n a:1 -T all",
+                                   "-i eth0 -n a:1 -v 7",
+                                   "-i eth0 -n a:1 -t maxlife=x", "-i eth0 -n a:1 -q", "-i eth0 -n a:1,a:1",
+                                   "-R 1 -n a:1", "-i 'eth0"])
 def test_softflowd_arguments_that_make_no_probe_are_refused(words: str) -> None:
     with pytest.raises(Unusable):
         read_text("softflowd", f"softflowd {words}\n")
@@ -116,7 +128,8 @@ def test_softflowd_arguments_that_make_no_probe_are_refused(words: str) -> None:
 
 def test_nfacctd_forwards_by_balancing_pools_and_takes_allowed_senders() -> None:
     text = "plugins: tee[t]\ntee_receivers: r.lst\nnfacctd_allow_file: /etc/a.lst\ntee_transparent: true\n"
-    device = read_text("nfacctd", text, r_lst="id=1 ip=192.0.2.1:1,192.0.2.2:2 balance-alg=rr\n", a_lst="192.0.2.7\nip=198.51.100.0/24\n")
+    device = read_text("nfacctd", text, r_lst="id=1 ip=192.0.2.1:1,192.0.2.2:2 balance-alg=rr\n",
+                       a_lst="192.0.2.7\nip=198.51.100.0/24\n")
     assert device.listeners[0].listens == [("*", 2100, "udp")]
     assert device.listeners[0].accepts == ["192.0.2.7", "198.51.100.0/24"]
     assert shape(device)["exporters"]["t"][0] == "loadBalancing"
@@ -135,10 +148,12 @@ def test_nfcapd_listens_at_its_usual_port_and_takes_named_senders() -> None:
 
 def database(change: dict[str, Any], version: str = "3.1.0", bridge: str = "i1") -> str:
     """Returns a database of one bridge with one port and one row of IPFIX."""
-    row = {"_uuid": ["uuid", "i1"], "targets": "192.0.2.10:4739", "sampling": 1, "other_config": ["map", []], "obs_domain_id": 1}
+    row = {"_uuid": ["uuid", "i1"], "targets": "192.0.2.10:4739", "sampling": 1, "other_config": ["map", []],
+           "obs_domain_id": 1}
     row.update(change)
     tables: dict[str, dict[str, Any]] = {
-        "Bridge": {"_uuid": ["uuid", "b"], "name": "br0", "ports": ["uuid", "p"], "ipfix": ["uuid", bridge] if bridge else ["set", []]},
+        "Bridge": {"_uuid": ["uuid", "b"], "name": "br0", "ports": ["uuid", "p"], "ipfix": ["uuid", bridge] if bridge
+                   else ["set", []]},
         "Port": {"_uuid": ["uuid", "p"], "name": "eth0", "interfaces": ["uuid", "e"]},
         "Interface": {"_uuid": ["uuid", "e"], "name": "eth0", "type": ""},
         "IPFIX": row, "Open_vSwitch": {"_uuid": ["uuid", "o"], "ovs_version": version}}
@@ -197,8 +212,10 @@ TERM = "set firewall family inet filter BILL-D term customers from source-addres
 
 def test_junos_prefix_list_of_three_prefixes_is_three_selections() -> None:
     text = JUNOS.replace(TERM, TERM.replace("source-address 10.4.0.0/16", "source-prefix-list L"))
-    text += "".join(f"set policy-options prefix-list L {one}\n" for one in ("10.1.0.0/16", "10.3.0.0/16", "10.5.0.0/16"))
-    found = [match for name, (match, _) in shape(read_text("junos", text))["selections"].items() if name.startswith("BILL-D")]
+    text += "".join(f"set policy-options prefix-list L {one}\n" for one in ("10.1.0.0/16", "10.3.0.0/16",
+                                                                            "10.5.0.0/16"))
+    found = [match for name, (match, _) in shape(read_text("junos", text))["selections"].items()
+             if name.startswith("BILL-D")]
     assert [one["sourceIPv4Prefix"] for one in found] == ["10.1.0.0/16", "10.3.0.0/16", "10.5.0.0/16"]
 
 
@@ -209,8 +226,11 @@ def test_junos_ports_above_1023_are_too_many() -> None:
 
 
 def test_junos_prefix_with_except_alone_is_its_complement() -> None:
-    text = JUNOS.replace(TERM, TERM.replace("10.4.0.0/16", "10.0.0.0/8 except")).replace("term management from source-address 10.4.255.0/24",
-                                                                                       "term management from protocol ospf")
+    text = JUNOS.replace(TERM, TERM.replace("10.4.0.0/16",
+                                            "10.0.0.0/8 except")).replace("term management from source-address "
+                                                                          "10.4.255.0/24",
+                                                                                       "term management from protocol "
+                                                                          "ospf")
     text = text.replace("term management from protocol ospf", "term management from source-address 10.0.0.0/8")
     device = read_text("junos", text)
     found = [one for one in shape(device)["selections"] if one.startswith("BILL-D")]
@@ -228,7 +248,8 @@ def test_junos_next_term_goes_on() -> None:
     """A packet that both terms sample is sampled once."""
     text = JUNOS.replace("term management then accept", "term management then next term") \
         + "set firewall family inet filter BILL-D term management then sample\n"
-    found = [match["sourceIPv4Prefix"] for name, (match, _) in shape(read_text("junos", text))["selections"].items() if name.startswith("BILL-D")]
+    found = [match["sourceIPv4Prefix"] for name, (match, _) in shape(read_text("junos", text))["selections"].items()
+             if name.startswith("BILL-D")]
     assert found[0] == "10.4.255.0/24" and len(found) == 9
 
 
@@ -241,7 +262,8 @@ def test_junos_without_a_rate_or_an_fpc_is_told() -> None:
     text = JUNOS.replace("set forwarding-options sampling instance BILL input rate 1\n", "")
     assert finding(read_text("junos", text), "`input rate` is not set").grade is Grade.NOT_CARRIED_OVER
     device = read_text("junos", JUNOS.replace("chassis fpc 0 sampling", "chassis fpc 1 sampling"))
-    assert not device.points and len([one for one in lines(device, Grade.WARNING) if "no sampling instance" in one]) == 3
+    assert not device.points and len([one for one in lines(device, Grade.WARNING)
+                                      if "no sampling instance" in one]) == 3
 
 
 def test_xr_without_a_sampler_is_a_premise() -> None:

@@ -63,7 +63,8 @@ class _Reading:
         for source in sources:
             for one in statements(source):
                 self.take(one)
-        if not self.sections and not any(re.search(r"(?m)^interface (Ethernet|Port-Channel|Management)", source.text) for source in sources):
+        if not self.sections and not any(re.search(r"(?m)^interface (Ethernet|Port-Channel|Management)", source.text)
+                                         for source in sources):
             raise Unusable(sources[0].place(0), "has no statement of EOS", "give the output of `show running-config`")
 
     def take(self, one: Statement) -> None:
@@ -93,9 +94,11 @@ class _Reading:
     def tracker(self, kind: str, name: str, one: Tracker, words: list[str], place: Place) -> None:
         exporter = match(words, "exporter *")
         if exporter:
-            self.exporter(f"{kind} {name}", one.exporters.setdefault(exporter[0], Collector(exporter[0], place)), exporter[1:], place)
+            self.exporter(f"{kind} {name}", one.exporters.setdefault(exporter[0], Collector(exporter[0], place)),
+                          exporter[1:], place)
         elif words and not " ".join(words).startswith(HARMLESS):
-            self.log.unknown(place, " ".join(words), ["exporter", *HARMLESS], [f"{kind} {name} {one}" for one in one.exporters])
+            self.log.unknown(place, " ".join(words), ["exporter", *HARMLESS],
+                             [f"{kind} {name} {one}" for one in one.exporters])
 
     def exporter(self, tracker: str, one: Collector, words: list[str], place: Place) -> None:
         collector = match(words, "collector *")
@@ -104,7 +107,8 @@ class _Reading:
             port = collector[2] if collector[1:2] == ["port"] and len(collector) == 3 else ""
             if len(collector) > 1 and not (port.isdigit() and 0 < int(port) < 65536):
                 self.log.unknown(place, " ".join(words), ["collector ADDRESS port PORT"], bears_on)
-            one.destinations.append((collector[0], int(port) if port.isdigit() and 0 < int(port) < 65536 else None, place))
+            one.destinations.append((collector[0], int(port) if port.isdigit() and 0 < int(port) < 65536 else None,
+                                     place))
         elif words[:2] == ["local", "interface"] and len(words) == 3:
             one.source = words[2]
         elif words and not " ".join(words).startswith(HARMLESS_EXPORTER):
@@ -175,10 +179,13 @@ class _Reading:
         for name, tracker in section.trackers.items():
             every += self.meter(f"{kind} {name}", tracker, section)
         if kind == "hardware" and every:
-            self.log.premise(section.place, "flows beyond what the hardware's tables hold are tracked too", "", Topic.OTHER, None, every)
+            self.log.premise(section.place, "flows beyond what the hardware's tables hold are tracked too", "",
+                             Topic.OTHER, None, every)
         if every:
-            self.log.premise(section.place, "packets are metered where they come in, and records have addresses, protocol and ports as flow keys but no "
-                             "class of service", "look at its templates with `once-import template`", Topic.OTHER, None, every)
+            self.log.premise(section.place, "packets are metered where they come in, and records have addresses, "
+                             "protocol and ports as flow keys but no "
+                             "class of service", "look at its templates with `once-import template`", Topic.OTHER, None,
+                             every)
 
     def meter(self, title: str, tracker: Tracker, section: Section) -> list[str]:
         """Adds the exporters, caches and point of a tracker; returns the exporters' names."""
@@ -192,11 +199,13 @@ class _Reading:
         selections = []
         for version in (4, 6):
             cache = f"{title} IPv{version}"
-            self.device.caches.append(Cache(cache, "timeout", fields(KEYS, version, tracker.place), names, tracker.place))
+            self.device.caches.append(Cache(cache, "timeout", fields(KEYS, version, tracker.place), names,
+                                            tracker.place))
             selections.append(filters.whole_family(cache, version, cache, tracker.place))
         rate = self.rate(title, section, names)
         if tracker.uses:
-            self.device.points.append(Point(title, [name for name, _ in tracker.uses], Direction.INGRESS, selections, tracker.uses[0][1],
+            self.device.points.append(Point(title, [name for name, _ in tracker.uses], Direction.INGRESS, selections,
+                                            tracker.uses[0][1],
                                             [place for _, place in tracker.uses], sampling(rate) if rate > 1 else None))
         else:
             self.log.note(tracker.place, f"tracker {title} is at no interface: it meters nothing")
@@ -209,7 +218,8 @@ class _Reading:
         if not title.startswith("sampled"):
             return 1
         if section.sample is None:
-            self.log.lost(section.place, "`flow tracking sampled` has no sample, and its default is not known here; the document meters all packets",
+            self.log.lost(section.place, "`flow tracking sampled` has no sample, and its default is not known here; "
+                          "the document meters all packets",
                           "set `sample 1`", Topic.SAMPLER, 108, names)
             return 2
         return section.sample[0]

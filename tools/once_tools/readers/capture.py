@@ -40,14 +40,15 @@ def captures_of(settings: Settings, sources: Sequence[Source], options: Mapping[
         log.note(place, "packets come from a file; the document calls their interface `capture`")
         found = [(direction, "capture", place)]
     elif options.get("interfaces"):
-        found = [(direction, name, Place(sources[0].name)) for name in _named("any", Place(sources[0].name), options, log)]
+        whole = Place(sources[0].name)
+        found = [(direction, name, whole) for name in _named("any", whole, options, log)]
     else:
         raise Unusable(sources[0].place(0), "has no pcap_interface, and pmacctd chooses one",
                        "write pcap_interface: NAME, or name it as `interfaces` of the device in the project")
-    if direction is Direction.BOTH and settings.last("pcap_direction") is None and any(one[0] is direction for one in found):
-        names = ", ".join(name for where, name, _ in found if where is direction)
-        log.note(Place(sources[0].name), f"no pcap_direction: packets that come in at {names} and packets that leave there are "
-                 "metered")
+    names = ", ".join(name for where, name, _ in found if where is Direction.BOTH)
+    if names and settings.last("pcap_direction") is None:
+        log.note(Place(sources[0].name),
+                 f"no pcap_direction: packets that come in at {names} and packets that leave there are metered")
     return _grouped(found)
 
 
@@ -67,7 +68,8 @@ def _named(text: str, place: Place, options: Mapping[str, str], log: Log) -> lis
     if names != [""]:
         log.note(place, f"the project names the interfaces: {', '.join(names)}")
         return names
-    log.lost(place, "which interfaces `any` stands for is not in this file; the document has one named `any`, which no path "
+    log.lost(place, "which interfaces `any` stands for is not in this file; the document has one named `any`, which no "
+             "path "
              "crosses", "name them with pcap_interfaces_map, or as `interfaces` of the device in the project")
     return ["any"]
 

@@ -23,7 +23,8 @@ DIRECTIONS = {"ingress": Direction.INGRESS, "egress": Direction.EGRESS}
 HARMLESS_EXPORTER = ("dscp", "packet-length", "df-bit", "version")
 MOST_INTERFACES = 256
 # What only a text of IOS-XR has.
-OWN = re.compile(r"(?m)^(!! IOS XR|interface (Bundle-Ether|TenGigE|HundredGigE|FortyGigE|MgmtEth|GigabitEthernet\d+/\d+/\d+/\d))")
+OWN = re.compile(r"(?m)^(!! IOS XR|interface (Bundle-Ether|TenGigE|HundredGigE|FortyGigE|MgmtEth)"
+                 r"|interface GigabitEthernet\d+/\d+/\d+/\d)")
 
 
 @dataclass
@@ -72,12 +73,14 @@ class _Reading:
             for one in statements(source):
                 self.take(one)
         if not self.found and not any(OWN.search(source.text) for source in sources):
-            raise Unusable(sources[0].place(0), "has no statement of IOS-XR", "give the output of `show running-config formal`")
+            raise Unusable(sources[0].place(0), "has no statement of IOS-XR",
+                           "give the output of `show running-config formal`")
 
     def take(self, one: Statement) -> None:
         """Takes a statement into the map or interface that it belongs to."""
         words, place = one.words, one.place
-        handlers = [("flow exporter-map *", self.exporter_map), ("flow monitor-map *", self.monitor_map), ("sampler-map *", self.sampler_map),
+        handlers = [("flow exporter-map *", self.exporter_map), ("flow monitor-map *", self.monitor_map),
+                    ("sampler-map *", self.sampler_map),
                     ("interface preconfigure *", self.interface), ("interface *", self.interface)]
         for pattern, handler in handlers:
             found = match(words, pattern)
@@ -97,7 +100,8 @@ class _Reading:
 
     def exporter_map(self, name: str, words: list[str], place: Place) -> None:
         one = self.exporters.setdefault(name, ExporterMap(place))
-        destination, port, version = match(words, "destination *"), match(words, "transport udp *"), match(words, "version *")
+        destination, port = match(words, "destination *"), match(words, "transport udp *")
+        version = match(words, "version *")
         if destination and destination[1:2] in ([], ["vrf"]):
             one.destination = (destination[0], destination[2] if len(destination) > 2 else "", place)
         elif port and len(port) == 1 and port[0].isdigit() and 0 < int(port[0]) < 65536:
@@ -110,7 +114,8 @@ class _Reading:
         elif words[:1] in (["source"], ["source-address"]) and len(words) > 1:
             one.source = words[1]
         elif words and words[0] not in HARMLESS_EXPORTER or version:
-            self.log.unknown(place, " ".join(words), ["destination", "transport udp", "version ipfix", "version v9", "source"], (name,))
+            self.log.unknown(place, " ".join(words), ["destination", "transport udp", "version ipfix", "version v9",
+                                                      "source"], (name,))
 
     def monitor_map(self, name: str, words: list[str], place: Place) -> None:
         one = self.monitors.setdefault(name, MonitorMap(place))
@@ -125,9 +130,12 @@ class _Reading:
             one.settings["maxFlows"] = int(words[2])
         elif words in (["cache", "permanent"], ["cache", "immediate"]):
             one.kind = words[1]
-        elif words and words[:3] not in (["cache", "timeout", "update"], ["cache", "timeout", "rate-limit"]) and words[0] != "option":
-            self.log.unknown(place, " ".join(words), ["record ipv4", "record ipv6", "exporter", "cache entries", "cache timeout active",
-                                                      "cache timeout inactive"], [exporter for exporter, _ in one.exporters])
+        elif words and words[:3] not in (["cache", "timeout", "update"],
+                                         ["cache", "timeout", "rate-limit"]) and words[0] != "option":
+            self.log.unknown(place, " ".join(words), ["record ipv4", "record ipv6", "exporter", "cache entries",
+                                                      "cache timeout active",
+                                                      "cache timeout inactive"],
+                             [exporter for exporter, _ in one.exporters])
 
     def sampler_map(self, name: str, words: list[str], place: Place) -> None:
         found = match(words, "random * out-of *")
@@ -196,18 +204,24 @@ class _Reading:
             return
         address, vrf, place = one.destination
         if one.port is None:
-            self.log.wrong(place, f"exporter-map {name} has no `transport udp PORT`, so it is not known where it sends", "add the port")
+            self.log.wrong(place, f"exporter-map {name} has no `transport udp PORT`, so it is not known where it sends",
+                           "add the port")
             return
         if vrf:
             self.log.note(place, f"the vrf {vrf} of the exporter is not followed", exporters=(name,))
         version, at = one.version or ("", one.place)
         if not version:
-            self.log.premise(at, f"{name} has no version: it is taken to send NetFlow 9", "add `version ipfix`", Topic.OTHER, None, (name,))
+            self.log.premise(at, f"{name} has no version: it is taken to send NetFlow 9", "add `version ipfix`",
+                             Topic.OTHER, None, (name,))
         elif version == "v9":
-            self.log.note(at, "NetFlow 9 is not IPFIX: the audit is the same, but `once collect` refuses its messages", "", 611, (name,))
-        self.log.premise(at, "the length of its counters depends on platform and release: `once collect` refuses counters of 4 octets (618), and "
-                         "the document has 8", "look at its templates with `once-import template`", Topic.COUNTERS, 618, (name,))
-        where = Destination(destination_name(address, one.port), address, one.port, place, "udp", vrf, 10 if version == "ipfix" else 9)
+            self.log.note(at, "NetFlow 9 is not IPFIX: the audit is the same, but `once collect` refuses its messages",
+                          "", 611, (name,))
+        self.log.premise(at, "the length of its counters depends on platform and release: `once collect` refuses "
+                         "counters of 4 octets (618), and "
+                         "the document has 8", "look at its templates with `once-import template`", Topic.COUNTERS, 618,
+                         (name,))
+        where = Destination(destination_name(address, one.port), address, one.port, place, "udp", vrf, 10
+                            if version == "ipfix" else 9)
         self.device.exporters.append(Exporter(name, [where], one.place, "parallel", self.source(one.source)))
 
     def source(self, text: str) -> str:
@@ -229,23 +243,29 @@ class _Reading:
             return
         if kind[0] not in VERSIONS:
             if kind[0] != "mpls":
-                self.log.unknown(one.record[1], f"record {' '.join(kind)}", ["record ipv4", "record ipv6", "record mpls"], exporters)
+                self.log.unknown(one.record[1], f"record {' '.join(kind)}",
+                                 ["record ipv4", "record ipv6", "record mpls"], exporters)
             return
         if len(kind) > 1:
-            self.log.lost(one.record[1], f"which flow keys `record {' '.join(kind)}` has is not known; the document has those of `record {kind[0]}`",
+            self.log.lost(one.record[1], f"which flow keys `record {' '.join(kind)}` has is not known; the document "
+                          f"has those of `record {kind[0]}`",
                           f"use `record {kind[0]}`", Topic.UNKNOWN, None, exporters)
         if not exporters:
             self.log.note(one.place, f"{name} has no exporter: what it meters is exported nowhere")
         if one.kind == "permanent":
-            self.log.premise(one.place, f"the counters of the permanent cache {name} begin anew after each export", "", Topic.COUNTERS, None, exporters)
-        self.device.caches.append(Cache(name, one.kind, fields(KEYS, VERSIONS[kind[0]], one.record[1]), [one for one in exporters if one in known],
+            self.log.premise(one.place, f"the counters of the permanent cache {name} begin anew after each export", "",
+                             Topic.COUNTERS, None, exporters)
+        self.device.caches.append(Cache(name, one.kind, fields(KEYS, VERSIONS[kind[0]], one.record[1]),
+                                        [one for one in exporters if one in known],
                                         one.place, one.settings))
-        self.log.premise(one.record[1], f"the flow keys of `record {kind[0]}` are taken to be addresses, ports, protocol and class of service, and "
+        self.log.premise(one.record[1], f"the flow keys of `record {kind[0]}` are taken to be addresses, ports, "
+                         f"protocol and class of service, and "
                          "the interfaces, which are no axes", "", Topic.OTHER, None, exporters)
 
     def missing(self, place: Place, what: str, name: str, known: list[str]) -> None:
         near = difflib.get_close_matches(name, known, 1)
-        self.log.wrong(place, f"there is no {what} {name}", f"is {near[0]} meant?" if near else f"add the {what}, or take the line out")
+        self.log.wrong(place, f"there is no {what} {name}", f"is {near[0]} meant?" if near
+                       else f"add the {what}, or take the line out")
 
     def points(self) -> None:
         groups: dict[tuple[str, str], list[Use]] = {}
@@ -259,8 +279,10 @@ class _Reading:
                 part = found[start:start + MOST_INTERFACES]
                 suffix = f" {start // MOST_INTERFACES + 1}" if start else ""
                 rate = max(self.samplers.get(one.sampler, (1, one.place))[0] or 1 for one in part)
-                self.device.points.append(Point(f"{monitor} {direction}{suffix}", [one.interface for one in part], DIRECTIONS[direction], [selection],
-                                                part[0].place, [one.place for one in part], sampling(rate) if rate > 1 else None))
+                self.device.points.append(Point(f"{monitor} {direction}{suffix}", [one.interface for one in part],
+                                                DIRECTIONS[direction], [selection],
+                                                part[0].place, [one.place for one in part], sampling(rate) if rate > 1
+                                                else None))
 
     def is_usable(self, one: Use) -> bool:
         """Reports what is to be said about a monitor at an interface; returns whether it makes a point."""
@@ -274,11 +296,13 @@ class _Reading:
             return False
         kind = monitor.record[0][0] if monitor.record else ""
         if one.family == "mpls" or kind == "mpls":
-            self.log.lost(one.place, "packets with labels: the document does not meter them", "meter where packets have no labels yet", Topic.MPLS,
+            self.log.lost(one.place, "packets with labels: the document does not meter them",
+                          "meter where packets have no labels yet", Topic.MPLS,
                           None, exporters)
             return False
         if kind != one.family:
-            self.log.wrong(one.place, f"monitor-map {one.monitor} has a record of {kind or 'nothing'}, not of {one.family}",
+            self.log.wrong(one.place, f"monitor-map {one.monitor} has a record of {kind or 'nothing'}, not of "
+                           f"{one.family}",
                            "name a monitor of the family")
             return False
         self.sampler(one, exporters)
@@ -286,11 +310,13 @@ class _Reading:
 
     def sampler(self, one: Use, exporters: list[str]) -> None:
         if not one.sampler:
-            self.log.premise(one.place, "without a sampler every packet is metered, where the platform allows it", "", Topic.SAMPLER, None, exporters)
+            self.log.premise(one.place, "without a sampler every packet is metered, where the platform allows it", "",
+                             Topic.SAMPLER, None, exporters)
         elif one.sampler not in self.samplers:
             self.missing(one.place, "sampler-map", one.sampler, list(self.samplers))
         elif self.samplers[one.sampler][0] == 1:
-            self.log.note(one.place, f"the sampler takes 1 out of 1 (line {self.samplers[one.sampler][1].line}): all packets", exporters=exporters)
+            self.log.note(one.place, f"the sampler takes 1 out of 1 (line {self.samplers[one.sampler][1].line}): all "
+                          f"packets", exporters=exporters)
         else:
             rate, place = self.samplers[one.sampler]
             self.log.sampler(one.place, str(rate) if rate else "N", exporters)

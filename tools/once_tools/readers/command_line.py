@@ -47,7 +47,8 @@ def variables_of(sources: Sequence[Source]) -> dict[str, str]:
             match = ASSIGNMENT.match(line)
             if match and not line.startswith("Exec"):
                 try:
-                    found[match[1]] = " ".join(shlex.split(match[2].strip('"') if match[2].count('"') == 1 else match[2]))
+                    found[match[1]] = " ".join(shlex.split(match[2].strip('"') if match[2].count('"') == 1
+                                                           else match[2]))
                 except ValueError:
                     continue
     return found
@@ -78,6 +79,7 @@ def _words(line: str, variables: dict[str, str], place: Place) -> list[str]:
     try:
         words = shlex.split(VARIABLE.sub(value, line), comments=False)
     except ValueError as error:
-        raise Unusable(place, f"the command line cannot be split into words ({error})", "close each quotation mark") from None
+        raise Unusable(place, f"the command line cannot be split into words ({error})",
+                       "close each quotation mark") from None
     program = next((index for index, word in enumerate(words) if not word.startswith("-") and "=" not in word), 0)
     return words[program:]

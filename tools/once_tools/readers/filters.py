@@ -15,8 +15,8 @@ from once_tools.model import Place, Selection
 
 @dataclass
 class Term:
-    """A term of an ordered filter. `boxes` are the packets that its conditions hold for, and may overlap. `samples` says
-    that it meters them, `ends` that later terms do not see them."""
+    """A term of an ordered filter. `boxes` are the packets that its conditions hold for; they may overlap. `samples`
+    says that it meters them, `ends` that later terms do not see them."""
 
     name: str
     boxes: list[Box]
@@ -28,8 +28,8 @@ class Term:
 
 @dataclass
 class Sampled:
-    """What a term meters: its own packets that no earlier term has taken or metered. `cut_by` are the earlier terms that
-    took some of them."""
+    """What a term meters: its own packets that no earlier term has taken or metered. `cut_by` are the earlier terms
+    that took some of them."""
 
     term: Term
     region: list[Box]
@@ -60,7 +60,8 @@ def _took(earlier: Term, term: Term) -> bool:
     return earlier.ends and bool(boxes.common(earlier.boxes, boxes.disjoint(term.boxes)))
 
 
-def selections(name: str, region: Sequence[Box], cache: str, place: Place, most: int = MOST_SELECTIONS) -> list[Selection]:
+def selections(name: str, region: Sequence[Box], cache: str, place: Place,
+               most: int = MOST_SELECTIONS) -> list[Selection]:
     """Returns the selection processes of a region, named `NAME 1`, `NAME 2`, .., in the order of the region.
 
     Raises TooManyBoxes if they are more than `most`.
@@ -83,6 +84,7 @@ def _fewest(region: Sequence[Box]) -> Sequence[Box]:
 
 def too_many(error: TooManyBoxes) -> tuple[str, str]:
     """Returns what to say, and what to do, about a filter that takes too many selection processes."""
-    says = (f"the filter would take {error.count} selection processes, and at most {MOST_SELECTIONS} are written; the document "
+    says = (f"the filter would take {error.count} selection processes, and at most {MOST_SELECTIONS} are written; the "
+            f"document "
             "meters all packets of the family, so it counts packets that the device leaves out")
-    return says, "filter by single values and prefixes, or accept this and restrict the traffic declaration to the filter"
+    return says, "filter by single values and prefixes, or accept this and declare only traffic that passes the filter"

@@ -20,7 +20,8 @@ FAMILIES = {"ip": 4, "ipv6": 6}
 DIRECTIONS = {"inbound": Direction.INGRESS, "outbound": Direction.EGRESS}
 SAMPLERS = ("fix-packets", "random-packets", "fix-time", "random-time")
 HARMLESS = ("timeout", "tcp-flag", "as-mode", "index-switch")
-KNOWN = ["ip netstream inbound", "ip netstream outbound", "ip netstream sampler fix-packets", "ip netstream export host",
+KNOWN = ["ip netstream inbound", "ip netstream outbound", "ip netstream sampler fix-packets",
+         "ip netstream export host",
          "ip netstream export version", "ip netstream export source", "ip netstream timeout"]
 Sampler = tuple[str, int, Place]
 
@@ -39,7 +40,8 @@ class _Reading:
         self.hosts: dict[str, list[Destination]] = {"ip": [], "ipv6": []}
         found = [one for source in sources for one in statements(source)]
         if not any(one.words[0] in ("sysname", "interface") or "netstream" in one.words for one in found):
-            raise Unusable(sources[0].place(0), "has no statement of VRP", "give the output of `display current-configuration`")
+            raise Unusable(sources[0].place(0), "has no statement of VRP",
+                           "give the output of `display current-configuration`")
         for one in found:
             self.take(one)
 
@@ -93,7 +95,8 @@ class _Reading:
         elif words[:1] == ["export"]:
             self.export(family, words[1:], place)
         elif words[:1] == ["aggregation"] or words[:1] == ["record"]:
-            self.log.lost(place, f"{family} netstream {words[0]}: records of other keys are sent, which the document does not have",
+            self.log.lost(place, f"{family} netstream {words[0]}: records of other keys are sent, which the document "
+                          f"does not have",
                           "export original flows", Topic.MASK)
         elif not words or words[0] not in HARMLESS:
             self.log.unknown(place, " ".join([family, "netstream", *words]), KNOWN)
@@ -102,7 +105,8 @@ class _Reading:
         host = match(words, "host * *")
         if host and host[1].isdigit() and 0 < int(host[1]) < 65536 and host[2:3] in ([], ["vpn-instance"], ["version"]):
             vrf = host[3] if host[2:3] == ["vpn-instance"] and len(host) > 3 else ""
-            self.hosts[family].append(Destination(destination_name(host[0], int(host[1])), host[0], int(host[1]), place, "udp", vrf))
+            self.hosts[family].append(Destination(destination_name(host[0], int(host[1])), host[0], int(host[1]), place,
+                                                  "udp", vrf))
         elif words[:1] == ["version"] and len(words) > 1 and words[1] in ("5", "9", "ipfix"):
             self.versions[family] = (words[1], place)
         elif words[:1] == ["source"] and len(words) > 1:
@@ -128,23 +132,29 @@ class _Reading:
         if hosts:
             for one in hosts:
                 one.version = protocol
-            self.device.exporters.append(Exporter(name, hosts, hosts[0].place, "parallel", self.sources.get(family, "")))
+            self.device.exporters.append(Exporter(name, hosts, hosts[0].place, "parallel",
+                                                  self.sources.get(family, "")))
             for one in hosts[1:]:
-                self.log.premise(one.place, f"this host and that of line {hosts[0].place.line} both get each record", "", Topic.OTHER, None, exporters)
+                self.log.premise(one.place, f"this host and that of line {hosts[0].place.line} both get each record",
+                                 "", Topic.OTHER, None, exporters)
         else:
             self.log.note(found[0][3], f"no `{family} netstream export host`: what is metered is exported nowhere")
         if not number:
-            self.log.premise(place, "no export version is set: NetFlow 9 is taken to be sent", f"set {family} netstream export version", Topic.OTHER, None,
+            self.log.premise(place, "no export version is set: NetFlow 9 is taken to be sent",
+                             f"set {family} netstream export version", Topic.OTHER, None,
                              exporters)
         elif number != "ipfix":
-            self.log.note(place, f"NetFlow {number} is not IPFIX: the audit is the same, but `once collect` refuses its messages", "", 611, exporters)
-        self.log.premise(place, "the flow keys are addresses, ports, protocol and class of service; counters may have 4 octets, and the document has 8",
+            self.log.note(place, f"NetFlow {number} is not IPFIX: the audit is the same, but `once collect` refuses "
+                          f"its messages", "", 611, exporters)
+        self.log.premise(place, "the flow keys are addresses, ports, protocol and class of service; counters may have "
+                         "4 octets, and the document has 8",
                          "look at its templates with `once-import template`", Topic.COUNTERS, 618, exporters)
         self.device.caches.append(Cache(name, "timeout", fields(KEYS, version, place), exporters, place))
         for direction in DIRECTIONS:
             self.point(name, version, direction, [one for one in found if one[2] == direction], exporters)
 
-    def point(self, name: str, version: int, direction: str, found: list[tuple[str, str, str, Place]], exporters: list[str]) -> None:
+    def point(self, name: str, version: int, direction: str, found: list[tuple[str, str, str, Place]],
+              exporters: list[str]) -> None:
         open_ones = []
         for one in found:
             if self.interfaces[one[0]].is_shut:
@@ -154,7 +164,8 @@ class _Reading:
         rates = [self.sampler(one, exporters) for one in open_ones]
         if open_ones:
             self.device.points.append(Point(f"{name} {direction}", [one[0] for one in open_ones], DIRECTIONS[direction],
-                                            [filters.whole_family(name, version, name, open_ones[0][3])], open_ones[0][3], [one[3] for one in open_ones],
+                                            [filters.whole_family(name, version, name, open_ones[0][3])],
+                                            open_ones[0][3], [one[3] for one in open_ones],
                                             sampling(max(rates)) if max(rates) > 1 else None))
 
     def sampler(self, one: tuple[str, str, str, Place], exporters: list[str]) -> int:
@@ -162,7 +173,8 @@ class _Reading:
         interface, family, direction, place = one
         found = self.samplers.get((interface, family, direction)) or self.samplers.get(("", family, direction))
         if found is None:
-            self.log.lost(place, "no sampler is set, and its default is not known here; the document meters all packets",
+            self.log.lost(place, "no sampler is set, and its default is not known here; the document meters all "
+                          "packets",
                           f"set {family} netstream sampler fix-packets 1 {direction}", Topic.SAMPLER, 108, exporters)
             return 1
         if found[0] == "fix-packets" and found[1] == 1:

@@ -85,6 +85,7 @@ class Collector:
 
     def __init__(self, log: Log) -> None:
         self.log, self.config = log, Config()
+        self.sampled: set[tuple[str, ...]] = set()
 
     def take(self, one: Statement) -> None:
         words = one.words
@@ -92,12 +93,14 @@ class Collector:
             if FLOW_WORDS & set(words) or words[:1] == ("firewall",):
                 self.log.note(one.place, "this is deactivated: not in force, and left out")
             return
-        handler = {"system": self.system, "interfaces": self.interface, "chassis": self.chassis, "services": self.services,
+        handler = {"system": self.system, "interfaces": self.interface, "chassis": self.chassis,
+                   "services": self.services,
                    "forwarding-options": self.forwarding, "firewall": self.firewall, "policy-options": self.policy,
                    "routing-instances": self.routing}.get(words[0])
         if "apply-groups" in words or words[0] == "groups" or words[:2] == ("interfaces", "interface-range"):
             if words[0] != "groups" or FLOW_WORDS & set(words):
-                self.log.lost(one.place, "groups and ranges are not resolved, so what they bring is not in the document", INHERITANCE)
+                self.log.lost(one.place, "groups and ranges are not resolved, so what they bring is not in the "
+                              "document", INHERITANCE)
         elif handler is not None:
             handler(words[1:], one.place)
         elif FLOW_WORDS & set(words):
@@ -115,7 +118,8 @@ class Collector:
     def policy(self, words: Words, place: Place) -> None:
         found = match(words, "prefix-list *")
         if found and len(found) > 1:
-            self.config.prefix_lists.setdefault(found[0], []).append(found[1] if found[1] != "apply-path" else "apply-path")
+            self.config.prefix_lists.setdefault(found[0], []).append(found[1] if found[1] != "apply-path"
+                                                                     else "apply-path")
 
     def chassis(self, words: Words, place: Place) -> None:
         if "sampling-instance" not in words:
@@ -179,12 +183,16 @@ class Collector:
     def sampling(self, unit: str, family: str, words: list[str], place: Place) -> None:
         for word in words or [""]:
             if word in ("input", "output"):
-                one = Sampling(unit, family, word, place)
-                if not any((other.unit, other.family, other.direction, other.filters) == (unit, family, word, [])
-                           for other in self.config.samplings):
-                    self.config.samplings.append(one)
+                self.add(Sampling(unit, family, word, place))
             else:
                 self.log.unknown(place, f"sampling {word}".strip(), ["sampling input", "sampling output"])
+
+    def add(self, one: Sampling) -> None:
+        """Adds what samples at a unit, unless the same statement was there before."""
+        key = (one.unit, one.family, one.direction, *one.filters)
+        if key not in self.sampled:
+            self.sampled.add(key)
+            self.config.samplings.append(one)
 
     def filter_use(self, unit: str, family: str, words: list[str], place: Place) -> None:
         if not words:
@@ -192,14 +200,16 @@ class Collector:
         direction = words[0].removesuffix("-list")
         if direction not in ("input", "output") or len(words) < 2:
             return
-        names = [word for word in words[1:] if word not in ("precedence",)] if words[0].endswith("-list") else words[1:2]
+        names = [word for word in words[1:] if word not in ("precedence",
+                                                            )] if words[0].endswith("-list") else words[1:2]
         if words[1:2] == ["filter-name"]:
             names = words[2:3]
         last = self.config.samplings[-1] if self.config.samplings else None
-        if words[0].endswith("-list") and last and (last.unit, last.family, last.direction) == (unit, family, direction) and last.filters:
+        is_same = last is not None and (last.unit, last.family, last.direction) == (unit, family, direction)
+        if last and is_same and last.filters and words[0].endswith("-list"):
             last.filters += names
         else:
-            self.config.samplings.append(Sampling(unit, family, direction, place, names))
+            self.add(Sampling(unit, family, direction, place, names))
 
     def services(self, words: Words, place: Place) -> None:
         if words[:1] != ("flow-monitoring",):
@@ -208,7 +218,8 @@ class Collector:
             return
         found = match(words, "flow-monitoring version-ipfix|version9 template *")
         if not found:
-            self.log.unknown(place, " ".join(words[:3]), ["flow-monitoring version-ipfix template", "flow-monitoring version9 template"])
+            self.log.unknown(place, " ".join(words[:3]), ["flow-monitoring version-ipfix template",
+                                                          "flow-monitoring version9 template"])
             return
         version = 10 if found[0] == "version-ipfix" else 9
         one = self.config.templates.setdefault((version, found[1]), Template(found[1], place, version))
@@ -216,17 +227,22 @@ class Collector:
 
     def template(self, one: Template, words: list[str], place: Place) -> None:
         word = words[0] if words else ""
-        families = {"ipv4-template": "inet", "ipv6-template": "inet6", "mpls-template": "mpls", "mpls-ipv4-template": "mpls",
-                    "mpls-ipv6-template": "mpls", "vpls-template": "vpls", "bridge-template": "bridge", "peer-as-billing-template": "as"}
+        families = {"ipv4-template": "inet", "ipv6-template": "inet6", "mpls-template": "mpls",
+                    "mpls-ipv4-template": "mpls",
+                    "mpls-ipv6-template": "mpls", "vpls-template": "vpls", "bridge-template": "bridge",
+                    "peer-as-billing-template": "as"}
         timeouts = {"flow-active-timeout": "activeTimeout", "flow-inactive-timeout": "idleTimeout"}
         if word in families:
             one.family = families[word]
         elif word in timeouts and len(words) == 2 and words[1].isdigit():
             one.timeouts[timeouts[word]] = int(words[1])
         elif word == "flow-key":
-            self.log.note(place, f"{' '.join(words[1:])} is no axis and is left out of the flow keys: records are finer, their sums the same")
-        elif word and word not in ("template-refresh-rate", "option-refresh-rate", "observation-domain-id", "source-id", "template-id",
-                                   "option-template-id", "tunnel-observation", "nexthop-learning", "data-record-fields"):
+            self.log.note(place, f"{' '.join(words[1:])} is no axis and is left out of the flow keys: records are "
+                          f"finer, their sums the same")
+        elif word and word not in ("template-refresh-rate", "option-refresh-rate", "observation-domain-id", "source-id",
+                                   "template-id",
+                                   "option-template-id", "tunnel-observation", "nexthop-learning",
+                                   "data-record-fields"):
             self.log.unknown(place, word, [*families, *timeouts, "flow-key", "template-refresh-rate"])
 
     def forwarding(self, words: Words, place: Place) -> None:
@@ -242,7 +258,8 @@ class Collector:
         rate, family = match(words, "input rate *"), match(words, "family *")
         if rate and rate[0].isdigit():
             one.rate = (int(rate[0]), place)
-        elif words[:1] == ["input"] and words[1:2] and words[1] in ("run-length", "max-packets-per-second", "maximum-packet-length"):
+        elif words[:1] == ["input"] and words[1:2] and words[1] in ("run-length", "max-packets-per-second",
+                                                                    "maximum-packet-length"):
             one.limits += [place] if words[1] == "max-packets-per-second" else []
         elif words == ["disable"]:
             one.disabled[""] = place
@@ -256,7 +273,8 @@ class Collector:
     def output(self, one: Instance, family: str, words: list[str], place: Place) -> None:
         server = match(words, "flow-server *")
         jflow = match(words, "inline-jflow source-address *")
-        known = ("flow-active-timeout", "flow-inactive-timeout", "aggregate-export-interval", "interface", "extension-service")
+        known = ("flow-active-timeout", "flow-inactive-timeout", "aggregate-export-interval", "interface",
+                 "extension-service")
         if server:
             servers = one.servers.setdefault(family, {})
             self.server(servers.setdefault(server[0], Server(server[0], place)), server[1:], place)
@@ -284,10 +302,12 @@ class Collector:
         elif words[:1] == ["routing-instance"] and len(words) == 2:
             one.routing_instance = words[1]
         elif words and words[0] not in ("autonomous-system-type", "dscp", "forwarding-class", "no-local-dump"):
-            self.log.unknown(place, " ".join(words[:2]), ["port", "version-ipfix template", "version9 template", "source-address"])
+            self.log.unknown(place, " ".join(words[:2]), ["port", "version-ipfix template", "version9 template",
+                                                          "source-address"])
 
     def firewall(self, words: Words, place: Place) -> None:
-        found = match(words, "family inet|inet6|any|mpls filter *") or (["inet", *words[1:]] if words[:1] == ("filter",) else None)
+        found = match(words, "family inet|inet6|any|mpls filter *") or (["inet", *words[1:]] if words[:1] == ("filter",)
+                                                                        else None)
         if not found or len(found) < 2:
             return
         key, rest = (found[0], found[1]), found[2:]
@@ -296,13 +316,14 @@ class Collector:
         if term:
             one = terms.setdefault(term[0], TermText(term[0], place))
             self.term(one, term[1:], key, place)
-        elif rest[:1] not in ([], ["interface-specific"], ["physical-interface-filter"], ["interface-shared"], ["enhanced-mode"]):
+        elif rest[:1] not in ([], ["interface-specific"], ["physical-interface-filter"], ["interface-shared"],
+                              ["enhanced-mode"]):
             self.config.filter_faults.setdefault(key, place)
 
     def term(self, one: TermText, words: list[str], key: tuple[str, str], place: Place) -> None:
         if words[:1] == ["from"] and len(words) > 1:
-            one.conditions.append((words[1:], place))
+            one.add(one.conditions, words[1:], place)
         elif words[:1] == ["then"] and len(words) > 1:
-            one.actions.append((words[1:], place))
+            one.add(one.actions, words[1:], place)
         elif words:
             self.config.filter_faults.setdefault(key, place)

@@ -9,22 +9,31 @@ from once_tools import boxes
 from once_tools.boxes import Box, Interval
 from once_tools.model import Place
 
-PROTOCOLS = {"ah": 51, "egp": 8, "esp": 50, "gre": 47, "icmp": 1, "icmp6": 58, "icmpv6": 58, "igmp": 2, "ipip": 4, "ipv6": 41,
+PROTOCOLS = {"ah": 51, "egp": 8, "esp": 50, "gre": 47, "icmp": 1, "icmp6": 58, "icmpv6": 58, "igmp": 2, "ipip": 4,
+             "ipv6": 41,
              "ospf": 89, "pim": 103, "rsvp": 46, "sctp": 132, "tcp": 6, "udp": 17, "vrrp": 112}
-PORTS = {"bgp": 179, "domain": 53, "ftp": 21, "ftp-data": 20, "http": 80, "https": 443, "imap": 143, "ldap": 389, "ntp": 123, "pop3": 110,
-         "radius": 1812, "smtp": 25, "snmp": 161, "snmptrap": 162, "ssh": 22, "syslog": 514, "tacacs": 49, "telnet": 23, "tftp": 69}
-CODES = {"be": 0, "ef": 46, **{f"cs{n}": 8 * n for n in range(8)}, **{f"af{c}{d}": 8 * c + 2 * d for c in range(1, 5) for d in range(1, 4)}}
-PRECEDENCES = {"routine": 0, "priority": 1, "immediate": 2, "flash": 3, "flash-override": 4, "critical-ecp": 5, "internet-control": 6,
+PORTS = {"bgp": 179, "domain": 53, "ftp": 21, "ftp-data": 20, "http": 80, "https": 443, "imap": 143, "ldap": 389,
+         "ntp": 123, "pop3": 110,
+         "radius": 1812, "smtp": 25, "snmp": 161, "snmptrap": 162, "ssh": 22, "syslog": 514, "tacacs": 49, "telnet": 23,
+         "tftp": 69}
+CODES = {"be": 0, "ef": 46, **{f"cs{n}": 8 * n for n in range(8)},
+         **{f"af{c}{d}": 8 * c + 2 * d for c in range(1, 5) for d in range(1, 4)}}
+PRECEDENCES = {"routine": 0, "priority": 1, "immediate": 2, "flash": 3, "flash-override": 4, "critical-ecp": 5,
+               "internet-control": 6,
                "net-control": 7}
 SOURCES = {"source-address": "source", "source-prefix-list": "source", "destination-address": "destination",
            "destination-prefix-list": "destination", "address": "either", "prefix-list": "either"}
 NUMBERS = {"protocol": "protocolIdentifier", "next-header": "protocolIdentifier", "source-port": "sourceTransportPort",
-           "destination-port": "destinationTransportPort", "port": "either", "dscp": "ipClassOfService", "traffic-class": "ipClassOfService",
+           "destination-port": "destinationTransportPort", "port": "either", "dscp": "ipClassOfService",
+           "traffic-class": "ipClassOfService",
            "precedence": "ipClassOfService"}
 # Actions that do not decide whether later terms see a packet, nor whether it is sampled.
-MODIFIERS = {"count", "log", "syslog", "policer", "three-color-policer", "hierarchical-policer", "loss-priority", "forwarding-class", "dscp",
-             "traffic-class", "port-mirror", "port-mirror-instance", "packet-mode", "service-accounting", "prefix-action", "accounting"}
-ENDING = {"accept", "discard", "reject", "routing-instance", "logical-system", "topology", "next-interface", "next-ip", "next-ip6", "ipsec-sa",
+MODIFIERS = {"count", "log", "syslog", "policer", "three-color-policer", "hierarchical-policer", "loss-priority",
+             "forwarding-class", "dscp",
+             "traffic-class", "port-mirror", "port-mirror-instance", "packet-mode", "service-accounting",
+             "prefix-action", "accounting"}
+ENDING = {"accept", "discard", "reject", "routing-instance", "logical-system", "topology", "next-interface", "next-ip",
+          "next-ip6", "ipsec-sa",
           "next-hop-group", "service-filter-hit", "decapsulate", "encapsulate"}
 
 
@@ -45,10 +54,19 @@ class TermText:
     place: Place
     conditions: list[tuple[list[str], Place]] = field(default_factory=list)
     actions: list[tuple[list[str], Place]] = field(default_factory=list)
+    seen: set[tuple[int, tuple[str, ...]]] = field(default_factory=set)
+
+    def add(self, statements: list[tuple[list[str], Place]], words: list[str], place: Place) -> None:
+        """Adds a condition or an action, unless the same one was there before."""
+        key = (id(statements), tuple(words))
+        if key not in self.seen:
+            self.seen.add(key)
+            statements.append((words, place))
 
 
-def region_of(term: TermText, version: int, lists: dict[str, list[str]], premises: list[tuple[Place, str]]) -> list[Box]:
-    """Returns the packets that a term's conditions hold for: one value of each kind of condition. Raises UnreadCondition."""
+def region_of(term: TermText, version: int, lists: dict[str, list[str]],
+              premises: list[tuple[Place, str]]) -> list[Box]:
+    """Returns the packets that a term's conditions hold for: one value of each kind. Raises UnreadCondition."""
     region = [boxes.family(version)]
     kinds: dict[str, list[tuple[list[str], Place]]] = {}
     for words, place in term.conditions:
@@ -139,10 +157,12 @@ def _valued(kind: str, interval: Interval, whole: Box) -> list[Box]:
 
 def _interval(kind: str, word: str, place: Place) -> Interval:
     """Returns the values that a word means on its axis: a number, a range or a name."""
-    names = {"dscp": CODES, "traffic-class": CODES, "precedence": PRECEDENCES}.get(kind, PORTS if "port" in kind else PROTOCOLS)
+    usual = PORTS if "port" in kind else PROTOCOLS
+    names = {"dscp": CODES, "traffic-class": CODES, "precedence": PRECEDENCES}.get(kind, usual)
     most = {"dscp": 63, "traffic-class": 63, "precedence": 7}.get(kind, 65535 if "port" in kind else 255)
     low, hyphen, high = (word, "", "") if word in names else word.partition("-")
-    values = [names[one] if one in names else int(one) if re.fullmatch("[0-9]{1,5}", one) else -1 for one in (low, high or low)]
+    values = [names[one] if one in names else int(one) if re.fullmatch("[0-9]{1,5}", one) else -1
+              for one in (low, high or low)]
     if not 0 <= values[0] <= values[1] <= most:
         raise UnreadCondition(place, f"`{word}` is no value of {kind} that is known here")
     shift = {"dscp": 2, "traffic-class": 2, "precedence": 5}.get(kind, 0)

@@ -6,8 +6,13 @@ from typing import Iterable, Sequence
 
 from once_tools.model import Finding, Grade, Place, Topic
 
-SAMPLES = ("the document meters all packets: a certificate then says that each packet is offered to one sampler, and totals "
+SAMPLES = ("the document meters all packets: a certificate then says that each packet is offered to one sampler, and "
+           "totals "
            "times {rate} are estimates")
+
+
+# Near names are looked up for so many unknown statements; a text with more is not what it should be.
+MOST_NEAR = 200
 
 
 class Log:
@@ -16,15 +21,19 @@ class Log:
     def __init__(self, device: str) -> None:
         self.device = device
         self.findings: list[Finding] = []
+        self.known: set[Finding] = set()
+        self.unknowns = 0
 
     def add(self, grade: Grade, place: Place, says: str, todo: str = "", topic: Topic = Topic.OTHER,
             number: int | None = None, exporters: Iterable[str] = ()) -> None:
         """Adds a finding."""
         one = Finding(grade, place, says, todo, topic, number, self.device, tuple(exporters))
-        if one not in self.findings:
+        if one not in self.known:
+            self.known.add(one)
             self.findings.append(one)
 
-    def note(self, place: Place, says: str, todo: str = "", number: int | None = None, exporters: Iterable[str] = ()) -> None:
+    def note(self, place: Place, says: str, todo: str = "", number: int | None = None,
+             exporters: Iterable[str] = ()) -> None:
         self.add(Grade.NOTE, place, says, todo, Topic.OTHER, number, exporters)
 
     def premise(self, place: Place, says: str, todo: str = "", topic: Topic = Topic.OTHER, number: int | None = None,
@@ -44,7 +53,8 @@ class Log:
 
     def unknown(self, place: Place, what: str, known: Sequence[str] = (), exporters: Iterable[str] = ()) -> None:
         """Adds a statement that is not known here, with the nearest known one."""
-        near = difflib.get_close_matches(what.lower(), known, 1)
+        self.unknowns += 1
+        near = difflib.get_close_matches(what.lower()[:80], known, 1) if self.unknowns <= MOST_NEAR else []
         todo = f"correct it to `{near[0]}` if it is misspelled, " if near else "correct it if it is misspelled, "
         self.lost(place, f"`{what}` is not known here, so whether it bears on what is metered is not known either",
                   todo + "or accept it", Topic.UNKNOWN, None, exporters)

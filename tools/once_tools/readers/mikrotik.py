@@ -18,11 +18,14 @@ from once_tools.readers.records import SEVEN, destination_name, fields
 from once_tools.source import Source
 
 VERBS = ("add", "set", "remove", "disable", "enable")
-FLOW = {"enabled", "interfaces", "active-flow-timeout", "inactive-flow-timeout", "cache-entries", "packet-sampling", "sampling-interval",
+FLOW = {"enabled", "interfaces", "active-flow-timeout", "inactive-flow-timeout", "cache-entries", "packet-sampling",
+        "sampling-interval",
         "sampling-space"}
-TARGET = {"dst-address", "port", "version", "src-address", "v9-template-refresh", "v9-template-timeout", "address", "disabled", "vrf"}
+TARGET = {"dst-address", "port", "version", "src-address", "v9-template-refresh", "v9-template-timeout", "address",
+          "disabled", "vrf"}
 # Fields of IPFIX records that a router may leave out.
-FIELDS = {"src-address": "sourceAddress", "dst-address": "destinationAddress", "protocol": "protocolIdentifier", "src-port": "sourceTransportPort",
+FIELDS = {"src-address": "sourceAddress", "dst-address": "destinationAddress", "protocol": "protocolIdentifier",
+          "src-port": "sourceTransportPort",
           "dst-port": "destinationTransportPort", "tos": "ipClassOfService"}
 VERSIONS = {"1": 1, "5": 5, "9": 9, "ipfix": 10}
 COUNTS = {"ingress": Direction.INGRESS, "both": Direction.BOTH}
@@ -53,7 +56,8 @@ def commands_of(source: Source) -> Iterator[Line]:
             menu = words[:verb]
         if verb < len(words):
             pairs = [word.partition("=") for word in words[verb + 1:]]
-            yield Line(" ".join(menu).lstrip("/").replace("/", " "), words[verb], {key: value for key, _, value in pairs}, place)
+            yield Line(" ".join(menu).lstrip("/").replace("/", " "), words[verb],
+                       {key: value for key, _, value in pairs}, place)
 
 
 class _Reading:
@@ -117,12 +121,15 @@ class _Reading:
         if not address or not re.fullmatch("[0-9]{1,5}", port) or not 0 < int(port) < 65536 or version is None:
             raise Unusable(one.place, "is no target: it has no address, or a port or version that there is not",
                            "write dst-address=ADDRESS port=PORT version=ipfix")
-        where = Destination(destination_name(address, int(port)), address, int(port), one.place, "udp", one.values.get("vrf", ""), version)
+        where = Destination(destination_name(address, int(port)), address, int(port), one.place, "udp",
+                            one.values.get("vrf", ""), version)
         name = f"{address}:{port}"
         if name not in [other.name for other in self.device.exporters]:
-            self.device.exporters.append(Exporter(name, [where], one.place, "parallel", one.values.get("src-address", "")))
+            self.device.exporters.append(Exporter(name, [where], one.place, "parallel",
+                                                  one.values.get("src-address", "")))
         if version != 10:
-            self.log.note(one.place, f"NetFlow {version} is not IPFIX: the audit is the same, but `once collect` refuses its messages",
+            self.log.note(one.place, f"NetFlow {version} is not IPFIX: the audit is the same, but `once collect` "
+                          f"refuses its messages",
                           "set version=ipfix", 611, (name,))
 
     def meter(self) -> None:
@@ -136,10 +143,12 @@ class _Reading:
             self.device.caches.append(Cache(cache, "timeout", fields(keys, version, self.place), able, self.place))
             selections.append(filters.whole_family(cache, version, cache, self.place))
         names = self.names(exporters)
-        self.device.points.append(Point(NAME, names, self.direction(exporters), selections, self.place, [self.place] * len(names)))
+        self.device.points.append(Point(NAME, names, self.direction(exporters), selections, self.place,
+                                        [self.place] * len(names)))
 
     def is_left_out(self, axis: str) -> bool:
-        return any(self.records.get(name, ("yes", self.place))[0] == "no" for name, other in FIELDS.items() if other == axis)
+        return any(self.records.get(name, ("yes", self.place))[0] == "no" for name, other in FIELDS.items()
+                   if other == axis)
 
     def names(self, exporters: list[str]) -> list[str]:
         text = self.settings.get("interfaces", "all")
@@ -150,15 +159,18 @@ class _Reading:
             self.device.interfaces = list(self.interfaces.values())
             return names
         names = [one.name for one in self.interfaces.values() if not one.is_shut]
-        self.log.premise(self.place, f"`interfaces` is all; the export names {', '.join(names) or 'none'}", "name the interfaces", Topic.OTHER, None,
+        self.log.premise(self.place, f"`interfaces` is all; the export names {', '.join(names) or 'none'}",
+                         "name the interfaces", Topic.OTHER, None,
                          exporters)
         return names or ["all"]
 
     def direction(self, exporters: list[str]) -> Direction:
         found = COUNTS.get(self.options.get("counts", ""))
         if found is None:
-            self.log.premise(self.place, "packets are metered where they come in: whether a packet between two of the interfaces counts once or twice is "
-                             "not documented", "send ten packets through the router, look at the records, and set `counts` of the device in the project "
+            self.log.premise(self.place, "packets are metered where they come in: whether a packet between two of the "
+                             "interfaces counts once or twice is "
+                             "not documented", "send ten packets through the router, look at the records, and set "
+                             "`counts` of the device in the project "
                              "to ingress or both", Topic.OTHER, None, exporters)
         return found or Direction.INGRESS
 
@@ -169,17 +181,22 @@ class _Reading:
             self.log.sampler(self.place, f"N (sampling-interval={interval}, sampling-space={space})", exporters)
         for key, (value, place) in sorted(self.records.items()):
             if key in ("bytes", "packets") and value == "no":
-                self.log.lost(place, f"records have no {key}, but the document has the counter", f"set {key}=yes", Topic.COUNTERS, 114, exporters)
+                self.log.lost(place, f"records have no {key}, but the document has the counter", f"set {key}=yes",
+                              Topic.COUNTERS, 114, exporters)
             elif value == "no":
                 self.log.note(place, f"records have no {key}", exporters=exporters)
         for one in self.lines:
             if one.menu == "ip firewall nat" and one.verb == "add" and one.values.get("disabled") != "yes":
-                self.log.lost(one.place, "NAT: packets have other addresses beyond the router than where they are metered, and a report by address counts "
-                              "them under those that the meter sees", "report by addresses that are not translated, or accept this", Topic.NAT, None,
+                self.log.lost(one.place, "NAT: packets have other addresses beyond the router than where they are "
+                              "metered, and a report by address counts "
+                              "them under those that the meter sees",
+                              "report by addresses that are not translated, or accept this", Topic.NAT, None,
                               exporters)
             elif one.menu == "ip firewall filter" and one.values.get("action") == "fasttrack-connection":
-                self.log.premise(one.place, "packets of fasttracked connections are metered too", "", Topic.OTHER, None, exporters)
-        self.log.premise(self.place, "the flow keys are addresses, ports, protocol, class of service and version, and counters have 8 octets", "look at its "
+                self.log.premise(one.place, "packets of fasttracked connections are metered too", "", Topic.OTHER, None,
+                                 exporters)
+        self.log.premise(self.place, "the flow keys are addresses, ports, protocol, class of service and version, and "
+                         "counters have 8 octets", "look at its "
                          "templates with `once-import template`", Topic.COUNTERS, 618, exporters)
 
 

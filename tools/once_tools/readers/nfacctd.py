@@ -8,7 +8,8 @@ from typing import Mapping
 from once_tools.model import Destination, Device, Exporter, Listener, Place, Topic, Unusable
 from once_tools.readers.log import Log
 from once_tools.readers.pmacct_keys import PRIMITIVES, USUAL, WITHOUT_AXIS
-from once_tools.readers.pmacct_settings import (Plugin, Settings, other_source, plugins_of, report_repeated, report_unknown,
+from once_tools.readers.pmacct_settings import (Plugin, Settings, other_source, plugins_of, report_repeated,
+                                                report_unknown,
                                                 settings_of)
 from once_tools.readers.records import destination_name
 from once_tools.readers.trees import numbered
@@ -22,11 +23,16 @@ NETWORKS = {"src_net": "sourceIPv4Prefix", "dst_net": "destinationIPv4Prefix"}
 QUEUES = ("nfacctd_kafka_broker_host", "nfacctd_kafka_topic", "nfacctd_zmq_address", "pcap_savefile")
 LEAVING_OUT = ("aggregate_filter", "pre_tag_map", "pre_tag_filter", "pre_tag2_filter", "pre_tag_label_filter")
 SCALING = ("nfacctd_ext_sampling_rate", "sampling_map")
-KNOWN = {"plugins", "aggregate", "nfacctd_ip", "nfacctd_port", "nfacctd_allow_file", "nfacctd_renormalize", "nfacctd_time_new",
-         "nfacctd_time_secs", "nfacctd_pro_rating", "nfacctd_templates_file", "nfacctd_templates_receiver", "nfacctd_templates_port",
-         "nfacctd_dtls_port", "nfacctd_stitching", "nfacctd_account_options", "nfacctd_as", "nfacctd_net", "nfacctd_mcast_groups",
-         "nfacctd_disable_checks", "nfacctd_disable_opt_scope_check", "nfacctd_ipv6_only", "nfacctd_peer_as", "tee_receivers",
-         "tee_transparent", "tee_source_ip", "tee_pipe_size", "tee_ipprec", "tee_max_receivers", "tee_max_receiver_pools",
+KNOWN = {"plugins", "aggregate", "nfacctd_ip", "nfacctd_port", "nfacctd_allow_file", "nfacctd_renormalize",
+         "nfacctd_time_new",
+         "nfacctd_time_secs", "nfacctd_pro_rating", "nfacctd_templates_file", "nfacctd_templates_receiver",
+         "nfacctd_templates_port",
+         "nfacctd_dtls_port", "nfacctd_stitching", "nfacctd_account_options", "nfacctd_as", "nfacctd_net",
+         "nfacctd_mcast_groups",
+         "nfacctd_disable_checks", "nfacctd_disable_opt_scope_check", "nfacctd_ipv6_only", "nfacctd_peer_as",
+         "tee_receivers",
+         "tee_transparent", "tee_source_ip", "tee_pipe_size", "tee_ipprec", "tee_max_receivers",
+         "tee_max_receiver_pools",
          "networks_file", "networks_mask", "networks_file_filter", "networks_file_no_lpm", "networks_no_mask_if_zero",
          "networks_cache_entries", *QUEUES, *LEAVING_OUT, *SCALING}
 
@@ -83,14 +89,16 @@ class _Reading:
             try:
                 found.append(str(ipaddress.ip_network(sender)).removesuffix("/32").removesuffix("/128"))
             except ValueError:
-                self.log.lost(Place(source.name, number, text), "this is no address or prefix of a sender", "write ip=ADDRESS")
+                self.log.lost(Place(source.name, number, text), "this is no address or prefix of a sender",
+                              "write ip=ADDRESS")
         return found
 
     def tee(self, plugin: Plugin) -> Exporter:
         """Returns the exporting process of a replicator."""
         line = self.settings.last("tee_receivers", plugin.name)
         if line is None:
-            raise Unusable(self.place("plugins"), f"{plugin.name} has no tee_receivers", "name the file with its receivers")
+            raise Unusable(self.place("plugins"), f"{plugin.name} has no tee_receivers",
+                           "name the file with its receivers")
         source = other_source(self.sources, line.value)
         if source is None:
             raise Unusable(line.place, "this file with the receivers was not given",
@@ -102,12 +110,14 @@ class _Reading:
                 pools += 1
                 self.pool(found, Place(source.name, number, text.strip()))
         if found.mode != "parallel" and pools > 1:
-            self.log.lost(found.place, "one pool of several balances, and an exporting process has one mode; the document balances over "
+            self.log.lost(found.place, "one pool of several balances, and an exporting process has one mode; the "
+                          "document balances over "
                           "all receivers", "give each pool a plugin of its own", Topic.OTHER, None, (plugin.name,))
         if not found.destinations:
             raise Unusable(source.place(0), "names no receiver", "write id=N ip=ADDRESS:PORT")
         names = ", ".join(f"{one.address}:{one.port}" for one in found.destinations)
-        self.log.note(self.place("plugins"), f"tee forwards each record as it is, to {names} ({found.destinations[0].place.file}:"
+        self.log.note(self.place("plugins"), f"tee forwards each record as it is, to {names} "
+                      f"({found.destinations[0].place.file}:"
                       f"{found.destinations[0].place.line})", exporters=(plugin.name,))
         if not self.settings.is_true("tee_transparent", False, plugin.name):
             self.log.note(self.place("plugins"), "without tee_transparent the receivers see this host as the sender",
@@ -149,7 +159,8 @@ class _Reading:
             elif word in NETWORKS and mask is not None:
                 key.append((NETWORKS[word], mask))
             elif word in WITHOUT_AXIS:
-                self.log.note(place, f"{plugin.name} also stores by {word}, which is not an axis: its totals are finer than a report")
+                self.log.note(place, f"{plugin.name} also stores by {word}, which is not an axis: its totals are finer "
+                              f"than a report")
             elif word:
                 self.log.unknown(place, word, [*PRIMITIVES, *WITHOUT_AXIS])
         names = ", ".join(name if length is None else f"{name}/{length}" for name, length in key)
@@ -160,24 +171,29 @@ class _Reading:
         """Reports the settings that have no form in the document."""
         for one in self.settings.lines:
             if one.key in LEAVING_OUT:
-                self.log.lost(one.place, "the collector may store only a part of what it receives, but the document counts all of it",
+                self.log.lost(one.place, "the collector may store only a part of what it receives, but the document "
+                              "counts all of it",
                               "store all records, and filter in the report", Topic.FILTER)
             elif one.key in QUEUES:
-                self.log.lost(one.place, "records do not come in over the network, so no exporter is linked to this collector",
+                self.log.lost(one.place, "records do not come in over the network, so no exporter is linked to this "
+                              "collector",
                               "name the address and port that exporters send to as `listen` of the collector")
             elif one.key in SCALING:
-                self.log.note(one.place, "sets the sampling rate of exporters; totals are scaled by it only with nfacctd_renormalize: true")
+                self.log.note(one.place, "sets the sampling rate of exporters; totals are scaled by it only with "
+                              "nfacctd_renormalize: true")
             elif one.key == "nfacctd_renormalize" and one.value.lower() == "true":
                 self.log.note(one.place, "counters of sampled exporters are multiplied by their sampling rate")
             elif one.key == "nfacctd_mcast_groups":
-                self.log.lost(one.place, "records that are sent to a multicast group come in too, but the document has no link for them",
+                self.log.lost(one.place, "records that are sent to a multicast group come in too, but the document has "
+                              "no link for them",
                               "send to an address of the collector")
 
 
 class Nfacctd:
     kind = "nfacctd"
     title = "nfacctd (pmacct 1.7.7), also with tee"
-    how_to_get = "the file after -f, usually /etc/pmacct/nfacctd.conf, and the files it names (tee_receivers, nfacctd_allow_file)"
+    how_to_get = ("the file after -f, usually /etc/pmacct/nfacctd.conf, and the files it names (tee_receivers, "
+                  "nfacctd_allow_file)")
     certainty = "certain"
 
     def detect(self, text: str) -> int:

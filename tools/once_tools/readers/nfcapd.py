@@ -1,4 +1,4 @@
-"""nfcapd (nfdump): a collector, by its command line or unit. Both sets of options are read, those of 1.6 (-l) and 1.7 (-w)."""
+"""nfcapd (nfdump): a collector, by its command line or unit, with the options of 1.6 (-l) or of 1.7 (-w)."""
 from __future__ import annotations
 
 import getopt
@@ -41,7 +41,8 @@ class _Reading:
             raise Unusable(self.place, f"-p: {text} is no port", "write a number from 1 to 65535")
         if "-p" not in self.options:
             self.log.note(self.place, "without -p nfcapd listens at port 9995")
-        listener = Listener(f"udp {text}", [(self.options.get("-b", "*"), int(text), "udp")], self.place, self.accepts())
+        listener = Listener(f"udp {text}", [(self.options.get("-b", "*"), int(text), "udp")], self.place,
+                            self.accepts())
         if "-R" in self.options:
             self.device.exporters = [self.repeater()]
             listener.forwards = [REPEATER]
@@ -77,16 +78,19 @@ class _Reading:
     def report_rest(self) -> None:
         rate = self.options.get("-s", "1")
         if rate not in ("1", "-1", "0"):
-            self.log.lost(self.place, f"-s {rate}: nfcapd multiplies packets and octets by {rate.lstrip('-')}, but the document adds them up as "
+            self.log.lost(self.place, f"-s {rate}: nfcapd multiplies packets and octets by {rate.lstrip('-')}, but the "
+                          f"document adds them up as "
                           "they are", "leave -s out", Topic.COUNTERS)
         if "-J" in self.options:
-            self.log.lost(self.place, "-J: records that are sent to a multicast group come in too, but the document has no link for them",
+            self.log.lost(self.place, "-J: records that are sent to a multicast group come in too, but the document "
+                          "has no link for them",
                           "send to an address of the collector")
         if "-f" in self.options:
             self.log.lost(self.place, "-f: records come from a file, so no exporter is linked to this collector",
                           "name the address and port that exporters send to as `listen` of the collector")
         if "-C" in self.options and self.options["-C"] != "none":
-            self.log.lost(self.place, "-C: what the configuration file sets is not read", "give all options on the command line", Topic.UNKNOWN)
+            self.log.lost(self.place, "-C: what the configuration file sets is not read",
+                          "give all options on the command line", Topic.UNKNOWN)
 
 
 class Nfcapd:
@@ -101,7 +105,8 @@ class Nfcapd:
     def read(self, name: str, sources: list[Source], options: Mapping[str, str]) -> Device:
         commands = commands_of(sources, "nfcapd")
         if not commands:
-            raise Unusable(sources[0].place(0), "has no command line of nfcapd", "give its unit, or the line that starts it")
+            raise Unusable(sources[0].place(0), "has no command line of nfcapd",
+                           "give its unit, or the line that starts it")
         if len(commands) > 1:
             raise Unusable(commands[1].place, f"is a second nfcapd beside line {commands[0].place.line}",
                            "make each a collector of its own in the project")

@@ -17,7 +17,8 @@ from once_tools.source import Source
 KEYS = (*ADDRESSES, "protocolIdentifier", *PORTS, "ipClassOfService")
 DIRECTIONS = {"ingress-only": Direction.INGRESS, "egress-only": Direction.EGRESS, "both": Direction.BOTH}
 USUAL_RATE = 1000
-HARMLESS = ("active-timeout", "inactive-timeout", "cache-size", "overflow", "template-retransmit", "export-mode", "use-vrtr-if-index", "description",
+HARMLESS = ("active-timeout", "inactive-timeout", "cache-size", "overflow", "template-retransmit", "export-mode",
+            "use-vrtr-if-index", "description",
             "autonomous-system-type", "template-set", "exit", "analyze-gre-payload", "enhanced-distribution")
 
 
@@ -52,7 +53,8 @@ class _Reading:
         self.uses: list[Use] = []
         found = [one for source in sources for one in statements(source)]
         if not any("cflowd" in one.words or "interface" in one.words for one in found):
-            raise Unusable(sources[0].place(0), "has no statement of SR OS", "give the output of `admin display-config`")
+            raise Unusable(sources[0].place(0), "has no statement of SR OS",
+                           "give the output of `admin display-config`")
         for one in found:
             self.take(one)
 
@@ -116,7 +118,8 @@ class _Reading:
         elif words[:3] == ["cflowd-parameters", "sampling", "multicast"]:
             self.log.note(place, "multicast is not declared as traffic")
         elif words[-1] not in ("cflowd-parameters", "exit", "shutdown"):
-            self.log.unknown(place, " ".join(words), ["cflowd-parameters sampling unicast type interface direction ingress-only"])
+            self.log.unknown(place, " ".join(words), ["cflowd-parameters sampling unicast type interface direction "
+                                                      "ingress-only"])
 
     def read(self) -> Device:
         self.device.interfaces = list(self.interfaces.values())
@@ -134,7 +137,8 @@ class _Reading:
             self.device.caches.append(Cache(cache, "timeout", fields(KEYS, version, self.section), able, self.section))
         self.points(exporters)
         self.report_rate(exporters)
-        self.log.premise(self.section, "the flow keys are addresses, ports, protocol and class of service, and counters have 8 octets",
+        self.log.premise(self.section, "the flow keys are addresses, ports, protocol and class of service, and "
+                         "counters have 8 octets",
                          "look at its templates with `once-import template`", Topic.COUNTERS, 618, exporters)
         return self.device
 
@@ -142,22 +146,27 @@ class _Reading:
         if not one.is_on:
             self.log.note(one.place, "the collector has no `no shutdown`, and is left out")
             return
-        where = Destination(destination_name(one.address, one.port), one.address, one.port, one.place, "udp", "", one.version)
+        where = Destination(destination_name(one.address, one.port), one.address, one.port, one.place, "udp", "",
+                            one.version)
         self.device.exporters.append(Exporter(name, [where], one.place))
         if one.version == 8:
-            self.log.lost(one.place, "version 8 sends aggregated records, but the document has whole ones", "use version 10", Topic.MASK, None, (name,))
+            self.log.lost(one.place, "version 8 sends aggregated records, but the document has whole ones",
+                          "use version 10", Topic.MASK, None, (name,))
         elif one.version != 10:
-            self.log.note(one.place, f"NetFlow {one.version} is not IPFIX: the audit is the same, but `once collect` refuses its messages",
+            self.log.note(one.place, f"NetFlow {one.version} is not IPFIX: the audit is the same, but `once collect` "
+                          f"refuses its messages",
                           "use version 10", 611, (name,))
 
     def points(self, exporters: list[str]) -> None:
         groups: dict[str, list[Use]] = {}
         for one in self.uses:
             if one.kind == "acl":
-                self.log.lost(one.place, "filters choose which packets are sampled; the document meters all packets here",
+                self.log.lost(one.place, "filters choose which packets are sampled; the document meters all packets "
+                              "here",
                               "sample with type interface", Topic.FILTER, None, exporters)
             if not one.direction:
-                self.log.premise(one.place, "no direction is given: packets are taken to be metered where they come in", "", Topic.OTHER, None, exporters)
+                self.log.premise(one.place, "no direction is given: packets are taken to be metered where they come in",
+                                 "", Topic.OTHER, None, exporters)
             if self.interfaces[one.interface].is_shut:
                 self.log.note(one.place, f"{one.interface} is shut, and left out")
             else:
@@ -165,15 +174,19 @@ class _Reading:
         rate = self.rate[0] if self.rate else USUAL_RATE
         for direction, found in groups.items():
             if direction == "both":
-                self.log.warning(found[0].place, "packets are metered where they come in and where they leave, so each that crosses two of the interfaces "
+                self.log.warning(found[0].place, "packets are metered where they come in and where they leave, so each "
+                                 "that crosses two of the interfaces "
                                  "counts twice", "write direction ingress-only", exporters)
-            selections = [filters.whole_family(f"cflowd IPv{version}", version, f"cflowd IPv{version}", found[0].place) for version in (4, 6)]
-            self.device.points.append(Point(f"cflowd {direction}", [one.interface for one in found], DIRECTIONS[direction], selections, found[0].place,
+            selections = [filters.whole_family(f"cflowd IPv{version}", version, f"cflowd IPv{version}", found[0].place)
+                          for version in (4, 6)]
+            self.device.points.append(Point(f"cflowd {direction}", [one.interface for one in found],
+                                            DIRECTIONS[direction], selections, found[0].place,
                                             [one.place for one in found], sampling(rate) if rate > 1 else None))
 
     def report_rate(self, exporters: list[str]) -> None:
         if self.rate is None and self.section:
-            self.log.lost(self.section, f"no rate is set, so one packet out of {USUAL_RATE} is sampled, and a total over a sample is not exact; the "
+            self.log.lost(self.section, f"no rate is set, so one packet out of {USUAL_RATE} is sampled, and a total "
+                          f"over a sample is not exact; the "
                           "document meters all packets", "set rate 1", Topic.SAMPLER, 108, exporters)
         elif self.rate and self.rate[0] > 1:
             self.log.sampler(self.rate[1], str(self.rate[0]), exporters)

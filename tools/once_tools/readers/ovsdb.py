@@ -12,7 +12,8 @@ from once_tools.source import Source
 TELLING = {"Bridge": "datapath_type", "Port": "bond_mode", "Interface": "ofport_request", "IPFIX": "obs_domain_id",
            "NetFlow": "add_id_to_interface", "Open_vSwitch": "ovs_version", "Flow_Sample_Collector_Set": "bridge"}
 # Columns that tell the table of an output of `ovs-vsctl --columns=.. list`.
-PARTS = {"Bridge": {"name", "ports"}, "Port": {"name", "interfaces"}, "Interface": {"name", "type"}, "IPFIX": {"targets", "obs_domain_id"}}
+PARTS = {"Bridge": {"name", "ports"}, "Port": {"name", "interfaces"}, "Interface": {"name", "type"},
+         "IPFIX": {"targets", "obs_domain_id"}}
 
 
 @dataclass
@@ -63,7 +64,8 @@ def read_database(sources: Sequence[Source]) -> Database:
         for document, line in _documents(source):
             _add(found, document, Place(source.name, line), source)
     if "Bridge" not in found.tables:
-        raise Unusable(sources[0].place(0), "has no table Bridge", "give what `ovsdb-client --format=json dump Open_vSwitch` prints")
+        raise Unusable(sources[0].place(0), "has no table Bridge",
+                       "give what `ovsdb-client --format=json dump Open_vSwitch` prints")
     return found
 
 

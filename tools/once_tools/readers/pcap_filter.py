@@ -8,10 +8,13 @@ from dataclasses import dataclass
 from once_tools import boxes
 from once_tools.boxes import Box, Interval
 
-PROTOCOLS = {"icmp": 1, "igmp": 2, "ipip": 4, "tcp": 6, "egp": 8, "igrp": 9, "udp": 17, "rsvp": 46, "gre": 47, "esp": 50,
-             "ah": 51, "icmp6": 58, "ipv6-icmp": 58, "ospf": 89, "pim": 103, "vrrp": 112, "carp": 112, "l2tp": 115, "sctp": 132}
+PROTOCOLS = {"icmp": 1, "igmp": 2, "ipip": 4, "tcp": 6, "egp": 8, "igrp": 9, "udp": 17, "rsvp": 46, "gre": 47,
+             "esp": 50,
+             "ah": 51, "icmp6": 58, "ipv6-icmp": 58, "ospf": 89, "pim": 103, "vrrp": 112, "carp": 112, "l2tp": 115,
+             "sctp": 132}
 # The versions of IP that a keyword which stands alone speaks of.
-ALONE = {"tcp": (4, 6), "udp": (4, 6), "sctp": (4, 6), "icmp": (4,), "icmp6": (6,), "igmp": (4,), "igrp": (4,), "pim": (4, 6),
+ALONE = {"tcp": (4, 6), "udp": (4, 6), "sctp": (4, 6), "icmp": (4,), "icmp6": (6,), "igmp": (4,), "igrp": (4,),
+         "pim": (4, 6),
          "vrrp": (4,), "carp": (4,), "ah": (4, 6), "esp": (4, 6)}
 WITH_PORTS = ("tcp", "udp", "sctp")
 TYPES = ("host", "net", "port", "portrange", "proto")

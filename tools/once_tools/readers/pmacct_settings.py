@@ -49,7 +49,8 @@ class Settings:
     def last(self, key: str, plugin: str | None = None) -> Setting | None:
         """Returns the line of a key that is in force for a plugin, or for the daemon."""
         for one in reversed(self.lines):
-            if one.key == key and (not one.plugin or plugin is not None and one.plugin in (plugin, f"default_{plugin}")):
+            if one.key == key and (not one.plugin or plugin is not None
+                                   and one.plugin in (plugin, f"default_{plugin}")):
                 return one
         return None
 
@@ -81,7 +82,8 @@ def settings_of(source: Source, wanted: re.Pattern[str], title: str) -> Settings
     """Returns the settings of a text. Raises Unusable if none of them is of the kind that is wanted."""
     found = Settings(*settings(source))
     if not any(wanted.fullmatch(one.key) for one in found.lines):
-        raise Unusable(source.place(0), f"has no setting of {title}", "give the file that the daemon is started with (-f)")
+        raise Unusable(source.place(0), f"has no setting of {title}",
+                       "give the file that the daemon is started with (-f)")
     return found
 
 
@@ -92,7 +94,8 @@ def plugins_of(found: Settings) -> list[Plugin]:
     for text in line.value.split(",") if line else []:
         match = PLUGIN.fullmatch(text)
         if match is None and text.strip():
-            raise Unusable(line.place if line else Place(""), f"{text.strip()!r} is no plugin", "write KIND or KIND[NAME]")
+            raise Unusable(line.place if line else Place(""), f"{text.strip()!r} is no plugin",
+                           "write KIND or KIND[NAME]")
         if match:
             plugins.append(Plugin(match[1], match[2] or match[1]))
     names = [one.name for one in plugins]
@@ -121,10 +124,15 @@ def report_unknown(found: Settings, plugins: Sequence[Plugin], known: set[str], 
 
 def report_repeated(found: Settings, log: Log) -> None:
     """Notes lines that a later line of the same key overrides."""
-    for place, one in enumerate(found.lines):
-        later = [other for other in found.lines[place + 1:] if other.key == one.key and other.plugin in ("", one.plugin)]
-        if later and not HARMLESS.fullmatch(one.key):
-            log.note(one.place, f"line {later[-1].place.line} sets the same key and is in force, since the last line counts")
+    later: dict[tuple[str, str], int] = {}
+    repeated = []
+    for one in reversed(found.lines):
+        line = max(later.get((one.key, ""), 0), later.get((one.key, one.plugin), 0))
+        if line and not HARMLESS.fullmatch(one.key):
+            repeated.append((one.place, line))
+        later[(one.key, one.plugin)] = max(one.place.line, later.get((one.key, one.plugin), 0))
+    for place, line in reversed(repeated):
+        log.note(place, f"line {line} sets the same key and is in force, since the last line counts")
 
 
 def other_source(sources: Sequence[Source], path: str) -> Source | None:

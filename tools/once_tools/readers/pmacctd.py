@@ -12,7 +12,7 @@ from once_tools.readers.capture import Capture, captures_of
 from once_tools.readers.log import Log, sampling
 from once_tools.readers.pcap_filter import UnreadFilter, region_of
 from once_tools.readers.pmacct_keys import PRIMITIVES, USUAL, WITHOUT_AXIS
-from once_tools.readers.pmacct_settings import Plugin, Settings, plugins_of, report_repeated, report_unknown, settings_of
+from once_tools.readers.pmacct_settings import Plugin, plugins_of, report_repeated, report_unknown, settings_of
 from once_tools.readers.records import destination_name, fields
 from once_tools.readers.trees import Setting
 from once_tools.source import Source
@@ -25,9 +25,12 @@ KNOWN = {"aggregate", "plugins", "pcap_interface", "pcap_savefile", "pcap_filter
          "pcap_savefile_replay", "nfprobe_receiver", "nfprobe_version", "nfprobe_maxflows", "nfprobe_timeouts",
          "nfprobe_engine", "nfprobe_dont_cache", "nfprobe_source_ip", "nfprobe_hoplimit", "nfprobe_ipprec",
          "nfprobe_direction", "nfprobe_ifindex", "nfprobe_ifindex_override", "nfprobe_tstamp_usec", "nfprobe_dtls",
-         "nfprobe_dtls_verify_cert", "nfprobe_peer_as", "dtls_path", "snaplen", "promisc", "networks_file", "networks_mask",
-         "networks_file_filter", "networks_file_no_lpm", "networks_no_mask_if_zero", "networks_cache_entries", "pmacctd_as",
-         "pmacctd_net", "pmacctd_nonroot", "pmacctd_time_new", "pmacctd_force_frag_handling", "pmacctd_frag_buffer_size",
+         "nfprobe_dtls_verify_cert", "nfprobe_peer_as", "dtls_path", "snaplen", "promisc", "networks_file",
+         "networks_mask",
+         "networks_file_filter", "networks_file_no_lpm", "networks_no_mask_if_zero", "networks_cache_entries",
+         "pmacctd_as",
+         "pmacctd_net", "pmacctd_nonroot", "pmacctd_time_new", "pmacctd_force_frag_handling",
+         "pmacctd_frag_buffer_size",
          "pmacctd_flow_buffer_size", "pmacctd_flow_buffer_buckets", "pmacctd_renormalize", *SAMPLING, *TAGS}
 USUAL_SNAPLEN = 128
 
@@ -79,7 +82,8 @@ class _Reading:
             name = f"{len(names)} interfaces {capture.direction.value}"
         rate = self.settings.last("sampling_rate")
         population = int(rate.value) if rate and rate.value.isdigit() else 1
-        return Point(name, names, capture.direction, selections, capture.interfaces[0][1], [at for _, at in capture.interfaces],
+        return Point(name, names, capture.direction, selections, capture.interfaces[0][1],
+                     [at for _, at in capture.interfaces],
                      sampling(population) if population > 1 else None, self.domain())
 
     def domain(self) -> int:
@@ -93,7 +97,8 @@ class _Reading:
         if version not in ("5", "9", "10"):
             raise Unusable(self.place("nfprobe_version", name), f"there is no version {version}", "write 10 for IPFIX")
         if version != "10":
-            self.log.note(self.place("nfprobe_version", name), f"NetFlow {version} is not IPFIX: the audit is the same, but "
+            self.log.note(self.place("nfprobe_version", name),
+                          f"NetFlow {version} is not IPFIX: the audit is the same, but "
                           "`once collect` refuses its messages", "write 10 for IPFIX", 611, (name,))
         self.device.exporters.append(self.exporter(name, int(version)))
         keys = self.keys(name)
@@ -119,7 +124,8 @@ class _Reading:
             if word in PRIMITIVES:
                 found.append(PRIMITIVES[word])
             elif word in WITHOUT_AXIS:
-                self.log.note(place, f"{word} is not an axis and is left out of the flow keys: records are finer, their sums "
+                self.log.note(place, f"{word} is not an axis and is left out of the flow keys: records are finer, "
+                              f"their sums "
                               "the same", exporters=(name,))
             elif word:
                 self.log.unknown(place, word, [*PRIMITIVES, *WITHOUT_AXIS], (name,))
@@ -142,7 +148,8 @@ class _Reading:
     def own_filter(self, name: str) -> Setting | None:
         """Returns the filter of a plugin; pmacctd does not apply one without a plugin."""
         named = (name, f"default_{name}")
-        return next((one for one in reversed(self.settings.lines) if one.key == "aggregate_filter" and one.plugin in named), None)
+        return next((one for one in reversed(self.settings.lines) if one.key == "aggregate_filter"
+                     and one.plugin in named), None)
 
     def filtered(self, name: str, version: int, cache: str, place: Place) -> list[Selection]:
         """Returns the selection processes of the filters before a plugin."""
@@ -158,7 +165,8 @@ class _Reading:
         if not found:
             self.log.note(place, f"no IPv{version} packet passes the filter", exporters=bears_on)
         elif len(found) > 1:
-            self.log.note(place, f"the filter becomes {len(found)} selection processes of IPv{version} that do not overlap",
+            self.log.note(place, f"the filter becomes {len(found)} selection processes of IPv{version} that do not "
+                          f"overlap",
                           exporters=bears_on)
         return found
 
@@ -169,8 +177,10 @@ class _Reading:
         try:
             return region_of(line.value, version)
         except UnreadFilter as error:
-            self.log.lost(line.place, f"`{error.part}` {error.why}; the document meters all packets instead of those that pass "
-                          "the filter", "filter by protocols, addresses, networks and ports", Topic.FILTER, None, exporters)
+            self.log.lost(line.place, f"`{error.part}` {error.why}; the document meters all packets instead of those "
+                          f"that pass "
+                          "the filter", "filter by protocols, addresses, networks and ports", Topic.FILTER, None,
+                          exporters)
         except TooManyBoxes as error:
             says, todo = filters.too_many(error)
             self.log.lost(line.place, f"for IPv{version} {says}", todo, Topic.FILTER, None, exporters)
@@ -214,7 +224,8 @@ class _Reading:
         if first and second:
             todo = f"add `and not ({second.value})` to the first filter"
         receiver = next(exporter for exporter in self.device.exporters if exporter.name == one).destinations[0].name
-        self.log.warning(place, f"{one} and {other}{with_filter} take the same packets ({which}), and both plugins send to "
+        self.log.warning(place, f"{one} and {other}{with_filter} take the same packets ({which}), and both plugins "
+                         f"send to "
                          f"{receiver}: each of these packets counts twice", todo, (one, other))
 
     def box_of(self, selection: Selection) -> Box:
@@ -230,18 +241,22 @@ class _Reading:
                 self.log.lost(one.place, "whether it leaves packets out is not read; the document meters all packets",
                               "filter with aggregate_filter", Topic.FILTER, None, exporters)
             elif one.key == "aggregate_filter" and not one.plugin:
-                self.log.note(one.place, "pmacctd does not apply an aggregate_filter without a plugin, so it filters nothing",
+                self.log.note(one.place, "pmacctd does not apply an aggregate_filter without a plugin, so it filters "
+                              "nothing",
                               "write aggregate_filter[PLUGIN]", exporters=exporters)
             elif one.key == "aggregate_filter" and self.settings.last("pcap_savefile"):
-                self.log.lost(one.place, "pmacctd 1.7.7 does not apply an aggregate_filter to the packets of a file, but the document "
+                self.log.lost(one.place, "pmacctd 1.7.7 does not apply an aggregate_filter to the packets of a file, "
+                              "but the document "
                               "does", "filter with pcap_filter", Topic.FILTER, None, exporters)
             elif one.key == "snaplen" and not (one.value.isdigit() and int(one.value) >= USUAL_SNAPLEN):
                 self.log.lost(one.place, "packets are captured in part: where headers are cut, ports are not seen",
                               f"write {USUAL_SNAPLEN} or more", Topic.OTHER, None, exporters)
             elif one.key == "pmacctd_renormalize" and one.value.lower() == "true":
-                self.log.note(one.place, "counters are multiplied by a sampling rate, if there is one", exporters=exporters)
+                self.log.note(one.place, "counters are multiplied by a sampling rate, if there is one",
+                              exporters=exporters)
         if self.settings.is_true("promisc", True) and not self.settings.last("pcap_savefile"):
-            self.log.note(self.whole, "without `promisc: false` the interface is promiscuous: it also sees packets on the wire that "
+            self.log.note(self.whole, "without `promisc: false` the interface is promiscuous: it also sees packets on "
+                          "the wire that "
                           "are not for this host")
 
 

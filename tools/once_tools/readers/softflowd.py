@@ -6,7 +6,8 @@ import re
 from typing import Mapping
 
 from once_tools.boxes import TooManyBoxes
-from once_tools.model import Cache, Destination, Device, Direction, Exporter, Interface, Place, Point, Selection, Topic, Unusable
+from once_tools.model import (Cache, Destination, Device, Direction, Exporter, Interface, Place, Point, Selection, Topic,
+                              Unusable)
 from once_tools.readers import filters
 from once_tools.readers.command_line import Command, commands_of, variables_of
 from once_tools.readers.log import Log, sampling
@@ -17,7 +18,8 @@ from once_tools.source import Source
 OPTIONS = "i:r:p:c:m:n:v:L:T:t:6dDP:A:s:B:baC:lR:S:Nx:h"
 KEYS = (*ADDRESSES, "protocolIdentifier", *PORTS)
 # The flow keys of each track level, and what it tracks besides that is no axis.
-LEVELS = {"ip": (ADDRESSES, ""), "proto": (KEYS[:3], ""), "port": (KEYS, ""), "full": (KEYS, ""), "vlan": (KEYS, "the VLAN"),
+LEVELS = {"ip": (ADDRESSES, ""), "proto": (KEYS[:3], ""), "port": (KEYS, ""), "full": (KEYS, ""),
+          "vlan": (KEYS, "the VLAN"),
           "ether": (KEYS, "the VLAN and the Ethernet addresses")}
 TIMEOUTS = ("tcp", "tcp.rst", "tcp.fin", "udp", "icmp", "general", "maxlife", "expint")
 UNITS = {"": 1, "s": 1, "m": 60, "h": 3600, "d": 86400, "w": 604800}
@@ -57,7 +59,8 @@ class _Reading:
         rate = self.options.get("-s", "1")
         many = int(rate) if re.fullmatch("[0-9]{1,9}", rate) else 1
         self.device.interfaces = [Interface(name, self.place) for name in names]
-        self.device.points = [Point(" ".join(names), names, Direction.BOTH, selections, self.place, [self.place] * len(names),
+        self.device.points = [Point(" ".join(names), names, Direction.BOTH, selections, self.place,
+                                    [self.place] * len(names),
                                     sampling(many) if many > 1 else None)]
         self.report_rest()
         return self.device
@@ -73,7 +76,8 @@ class _Reading:
         if name != "any":
             return [name]
         if not named:
-            self.log.lost(self.place, "which interfaces `any` stands for is not in this file; the document has one named `any`, "
+            self.log.lost(self.place, "which interfaces `any` stands for is not in this file; the document has one "
+                          "named `any`, "
                           "which no path crosses", "name them as `interfaces` of the device in the project")
         return named or ["any"]
 
@@ -83,10 +87,12 @@ class _Reading:
             raise self.refuse("-v psamp: softflowd sends packets then, not flow records", "write -v 10")
         self.choice("-v", "5", ("1", "5", "9", "10"), "version")
         if version != "10":
-            self.log.note(self.place, f"NetFlow {version}{'' if '-v' in self.options else ' (the default)'} is not IPFIX: the audit "
+            self.log.note(self.place, f"NetFlow {version}{'' if '-v' in self.options else ' (the default)'} is not "
+                          f"IPFIX: the audit "
                           "is the same, but `once collect` refuses its messages", "write -v 10", 611, (NAME,))
         if version in ("1", "5"):
-            self.log.note(self.place, f"NetFlow {version} has no IPv6: packets of IPv6 are metered nowhere", "write -v 10",
+            self.log.note(self.place, f"NetFlow {version} has no IPv6: packets of IPv6 are metered nowhere",
+                          "write -v 10",
                           exporters=(NAME,))
         return (4, 6) if version in ("9", "10") else (4,)
 
@@ -97,7 +103,8 @@ class _Reading:
         for text in self.options["-n"].split(","):
             words = re.fullmatch(r"\[([^\]\s]+)\]:([0-9]{1,5})|([^:\[\]\s]+):([0-9]{1,5})", text.strip())
             if not words or not 0 < int(words[2] or words[4]) < 65536:
-                raise self.refuse(f"-n: {text} is no destination", "write HOST:PORT, or [ADDRESS]:PORT for IPv6, with the port's number")
+                raise self.refuse(f"-n: {text} is no destination",
+                                  "write HOST:PORT, or [ADDRESS]:PORT for IPv6, with the port's number")
             address, port = words[1] or words[3], int(words[2] or words[4])
             one = Destination(destination_name(address, port), address, port, self.place, transport, "",
                               int(version) if version.isdigit() else 10)
@@ -109,7 +116,8 @@ class _Reading:
     def family(self, version: int) -> list[Selection]:
         """Adds the cache of one version of IP, and returns its selection processes."""
         cache = f"{NAME} IPv{version}"
-        found = self.filtered(version, cache) if self.filter else [filters.whole_family(cache, version, cache, self.place)]
+        whole = [filters.whole_family(cache, version, cache, self.place)]
+        found = self.filtered(version, cache) if self.filter else whole
         if found:
             keys = LEVELS[self.level()][0]
             record = fields(["ipVersion", *keys], version, self.place, octets=4)
@@ -125,8 +133,10 @@ class _Reading:
         try:
             return filters.selections(cache, region_of(self.filter, version), cache, self.place)
         except UnreadFilter as error:
-            self.log.lost(self.place, f"the filter `{error.part}` {error.why}; the document meters all packets instead of those that "
-                          "pass the filter", "filter by protocols, addresses, networks and ports", Topic.FILTER, None, (NAME,))
+            self.log.lost(self.place, f"the filter `{error.part}` {error.why}; the document meters all packets instead "
+                          f"of those that "
+                          "pass the filter", "filter by protocols, addresses, networks and ports", Topic.FILTER, None,
+                          (NAME,))
         except TooManyBoxes as error:
             says, todo = filters.too_many(error)
             self.log.lost(self.place, f"for IPv{version} {says}", todo, Topic.FILTER, None, (NAME,))
@@ -142,7 +152,8 @@ class _Reading:
         for text in [value for option, value in self.given if option == "-t"]:
             name, _, time = text.partition("=")
             if name not in TIMEOUTS:
-                raise self.refuse(f"-t: there is no timeout {name}", f"write NAME=TIME with one of {', '.join(TIMEOUTS)}")
+                raise self.refuse(f"-t: there is no timeout {name}",
+                                  f"write NAME=TIME with one of {', '.join(TIMEOUTS)}")
             seconds = self.seconds(time)
             member = {"maxlife": "activeTimeout", "general": "idleTimeout"}.get(name)
             if member:
@@ -159,26 +170,34 @@ class _Reading:
     def report_rest(self) -> None:
         """Reports the options that have no form in the document."""
         log, bears_on = self.log, (NAME,)
-        log.premise(self.place, "softflowd has counters of 4 octets: the document has 8, so it speaks of records whose sums stay below "
+        log.premise(self.place, "softflowd has counters of 4 octets: the document has 8, so it speaks of records whose "
+                    "sums stay below "
                     "4,294,967,296", "", Topic.COUNTERS, 110, bears_on)
-        log.lost(self.place, "softflowd counts padding: on Ethernet a packet of less than 46 octets counts as 46, but the document counts "
+        log.lost(self.place, "softflowd counts padding: on Ethernet a packet of less than 46 octets counts as 46, but "
+                 "the document counts "
                  "its octets", "accept this if packets alone are billed", Topic.COUNTERS, None, bears_on)
         if self.options.get("-s", "1") not in ("0", "1"):
             log.sampler(self.place, self.options["-s"], bears_on)
         if "-b" in self.options:
-            log.lost(self.place, "-b: a record has both directions of a flow, the second in reverse elements (RFC 5103), which `once` "
-                     "does not add up; the document has a record for each direction", "leave -b out", Topic.COUNTERS, None, bears_on)
+            log.lost(self.place, "-b: a record has both directions of a flow, the second in reverse elements (RFC "
+                     "5103), which `once` "
+                     "does not add up; the document has a record for each direction", "leave -b out", Topic.COUNTERS,
+                     None, bears_on)
         if "-C" in self.options:
-            log.lost(self.place, "-C: packets are captured in part: where headers are cut, ports are not seen", "leave -C out", Topic.OTHER,
+            log.lost(self.place, "-C: packets are captured in part: where headers are cut, ports are not seen",
+                     "leave -C out", Topic.OTHER,
                      None, bears_on)
         if "-N" not in self.options and "-i" in self.options:
-            log.note(self.place, "without -N the interface is promiscuous: it also sees packets on the wire that are not for this host")
+            log.note(self.place, "without -N the interface is promiscuous: it also sees packets on the wire that are "
+                     "not for this host")
         finer = LEVELS[self.level()][1]
         if finer:
-            log.note(self.place, f"-T {self.level()}: {finer} is no axis and is left out of the flow keys: records are finer, their sums the "
+            log.note(self.place, f"-T {self.level()}: {finer} is no axis and is left out of the flow keys: records are "
+                     f"finer, their sums the "
                      "same", exporters=bears_on)
         if "sourceTransportPort" in LEVELS[self.level()][0]:
-            log.note(self.place, "records of ICMP have icmpTypeCode instead of ports, so a report by ports cannot read them", exporters=bears_on)
+            log.note(self.place, "records of ICMP have icmpTypeCode instead of ports, so a report by ports cannot read "
+                     "them", exporters=bears_on)
 
 
 class Softflowd:
@@ -200,7 +219,8 @@ class Softflowd:
             line = next((number for number, text in enumerate(sources[0].lines(), 1) if text.startswith("options=")), 0)
             commands = [Command(words, sources[0].place(line))]
         if not commands:
-            raise Unusable(sources[0].place(0), "has no command line of softflowd", "give its unit, or the line that starts it")
+            raise Unusable(sources[0].place(0), "has no command line of softflowd",
+                           "give its unit, or the line that starts it")
         if len(commands) > 1:
             raise Unusable(commands[1].place, f"is a second softflowd beside line {commands[0].place.line}",
                            "make each a device of its own in the project")

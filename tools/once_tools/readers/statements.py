@@ -5,7 +5,7 @@ from typing import Sequence
 
 
 def match(words: Sequence[str], pattern: str) -> list[str] | None:
-    """Returns the words at the `*` of a pattern if the statement begins with it, and then the words after it; else None.
+    """Returns the words at the `*` of a pattern that the statement begins with, then the words after it; else None.
 
     `a|b` in a pattern is either word, which is returned too.
     """

@@ -16,7 +16,8 @@ from once_tools.source import Source
 HARMLESS = ("disable-imt", "buffer-size", "packet-length", "syslog-facility")
 TIMEOUTS = {"max-active-life": "activeTimeout", "flow-generic": "idleTimeout"}
 OTHER_TIMEOUTS = ("expiry-interval", "icmp", "tcp-fin", "tcp-generic", "tcp-rst", "udp")
-KNOWN = ["interface", "enable-egress", "netflow server", "netflow version", "netflow sampling-rate", "netflow engine-id", "netflow max-flows",
+KNOWN = ["interface", "enable-egress", "netflow server", "netflow version", "netflow sampling-rate",
+         "netflow engine-id", "netflow max-flows",
          "netflow source-ip", "netflow source-address", "netflow timeout", *HARMLESS]
 
 
@@ -65,7 +66,8 @@ class _Reading:
         self.rules: dict[tuple[str, str], Rule] = {}
         lines = [one for source in sources for one in set_lines(source)]
         if not lines:
-            raise Unusable(sources[0].place(0), "has no line that begins with `set`", "give the output of `show configuration commands`")
+            raise Unusable(sources[0].place(0), "has no line that begins with `set`",
+                           "give the output of `show configuration commands`")
         for one in lines:
             self.take(Statement(tuple(word.strip("'") for word in one.words), one.place))
 
@@ -101,7 +103,8 @@ class _Reading:
             self.log.unknown(place, " ".join(words[:2]), KNOWN)
 
     def netflow(self, words: list[str], place: Place) -> None:
-        known, number = self.accounting, int(words[1]) if len(words) == 2 and re.fullmatch("[0-9]{1,10}", words[1]) else None
+        known = self.accounting
+        number = int(words[1]) if len(words) == 2 and re.fullmatch("[0-9]{1,10}", words[1]) else None
         word = words[0] if words else ""
         if word == "server" and len(words) > 1:
             self.server(words[1:], place)
@@ -193,12 +196,14 @@ class _Reading:
             self.device.exporters.append(self.exporter(server, int(version)))
             for family in (4,) if version == "5" else (4, 6):
                 cache = f"{server.address} IPv{family}"
-                self.device.caches.append(Cache(cache, "timeout", fields(SEVEN, family, server.place), [server.address], server.place,
+                self.device.caches.append(Cache(cache, "timeout", fields(SEVEN, family, server.place), [server.address],
+                                                server.place,
                                                 dict(known.settings)))
                 selections.append(filters.whole_family(cache, family, cache, server.place))
         direction = Direction.BOTH if known.egress else Direction.INGRESS
         rate = known.rate[0] if known.rate else 1
-        self.device.points.append(Point("flow-accounting", [name for name, _ in names], direction, selections, place, [at for _, at in names],
+        self.device.points.append(Point("flow-accounting", [name for name, _ in names], direction, selections, place,
+                                        [at for _, at in names],
                                         sampling(rate) if rate > 1 else None, known.domain))
         self.report_meter(exporters, len(names))
 
@@ -208,7 +213,8 @@ class _Reading:
         for name, place in self.accounting.interfaces:
             interface = self.interfaces.get(name)
             if interface is None:
-                self.log.lost(place, f"interface {name} is not in this configuration", "correct its name", Topic.UNKNOWN)
+                self.log.lost(place, f"interface {name} is not in this configuration", "correct its name",
+                              Topic.UNKNOWN)
                 interface = self.interfaces[name] = Interface(name, place)
                 self.device.interfaces.append(interface)
             if interface.is_shut:
@@ -218,14 +224,16 @@ class _Reading:
         return found
 
     def exporter(self, server: Server, version: int) -> Exporter:
-        where = Destination(destination_name(server.address, server.port), server.address, server.port, server.place, "udp", "", version)
+        where = Destination(destination_name(server.address, server.port), server.address, server.port, server.place,
+                            "udp", "", version)
         return Exporter(server.address, [where], server.place, "parallel", server.source or self.accounting.source)
 
     def report_meter(self, exporters: list[str], count: int) -> None:
         known, log = self.accounting, self.log
         first = known.interfaces[0][1]
         if known.egress and count > 1:
-            log.warning(known.egress, "packets are metered where they come in and where they leave, so each that is forwarded between two of the "
+            log.warning(known.egress, "packets are metered where they come in and where they leave, so each that is "
+                        "forwarded between two of the "
                         "interfaces counts twice", "take enable-egress out", exporters)
         elif known.egress:
             log.note(known.egress, "packets are metered where they come in and where they leave", exporters=exporters)
@@ -233,14 +241,18 @@ class _Reading:
             log.note(first, "packets are metered where they come in, as there is no enable-egress", exporters=exporters)
         servers = list(known.servers.values())
         for server in servers[1:]:
-            log.note(server.place, f"this server and that of line {servers[0].place.line} both get each record", exporters=(server.address,))
+            log.note(server.place, f"this server and that of line {servers[0].place.line} both get each record",
+                     exporters=(server.address,))
         if known.version is None:
-            log.premise(servers[0].place, "no netflow version is set: NetFlow 9 is taken to be sent", "set version 10", Topic.OTHER, None, exporters)
+            log.premise(servers[0].place, "no netflow version is set: NetFlow 9 is taken to be sent", "set version 10",
+                        Topic.OTHER, None, exporters)
         elif known.version[0] != "10":
-            log.note(known.version[1], f"NetFlow {known.version[0]} is not IPFIX: the audit is the same, but `once collect` refuses its messages",
+            log.note(known.version[1], f"NetFlow {known.version[0]} is not IPFIX: the audit is the same, but `once "
+                     f"collect` refuses its messages",
                      "set version 10", 611, exporters)
         if known.version and known.version[0] == "5":
-            log.note(known.version[1], "NetFlow 5 has no IPv6: packets of IPv6 are metered nowhere", exporters=exporters)
+            log.note(known.version[1], "NetFlow 5 has no IPv6: packets of IPv6 are metered nowhere",
+                     exporters=exporters)
         if known.rate and known.rate[0] > 1:
             log.sampler(known.rate[1], str(known.rate[0]), exporters)
 
@@ -253,18 +265,23 @@ class _Reading:
             who = f"packets of {rule.source}" if rule.source else "packets that it translates"
             where = rule.interface or "it"
             if rule.kind == "source":
-                says = (f"nat source rule {rule.number}: beyond {where} {who} have another source, and packets that come back have the address of "
-                        f"{where} as their destination, where they are metered: a report by destination counts them under that address")
+                says = (f"nat source rule {rule.number}: beyond {where} {who} have another source, and packets that "
+                        f"come back have the address of "
+                        f"{where} as their destination, where they are metered: a report by destination counts them "
+                        f"under that address")
             else:
-                says = (f"nat {rule.kind} rule {rule.number}: packets have another destination beyond this router than where they are metered: a "
+                says = (f"nat {rule.kind} rule {rule.number}: packets have another destination beyond this router than "
+                        f"where they are metered: a "
                         "report by address counts them under the one that the meter sees")
-            self.log.lost(rule.place, says, "report by addresses that are not translated, or accept this", Topic.NAT, None, exporters)
+            self.log.lost(rule.place, says, "report by addresses that are not translated, or accept this", Topic.NAT,
+                          None, exporters)
 
     def report_vlans(self) -> None:
         listed = {name for name, _ in self.accounting.interfaces}
         for one in self.interfaces.values():
             if one.parent in listed and one.name not in listed:
-                self.log.note(one.place, f"{one.name} is not among the interfaces of flow-accounting; whether {one.parent} sees its packets is not known, "
+                self.log.note(one.place, f"{one.name} is not among the interfaces of flow-accounting; whether "
+                              f"{one.parent} sees its packets is not known, "
                               "and the document has them metered nowhere", f"add {one.name} to flow-accounting")
 
 
@@ -277,7 +294,8 @@ class Vyos:
     def detect(self, text: str) -> int:
         if re.search(r"(?m)^set system flow-accounting\s", text):
             return 99
-        return 85 if re.search(r"(?m)^set interfaces (ethernet|bonding|loopback) \S+ (address|description|hw-id)", text) else 0
+        return 85 if re.search(r"(?m)^set interfaces (ethernet|bonding|loopback) \S+ (address|description|hw-id)",
+                               text) else 0
 
     def read(self, name: str, sources: list[Source], options: Mapping[str, str]) -> Device:
         return _Reading(name, sources).read()
