@@ -35,6 +35,7 @@ class _Declaring:
     uses_roles: bool = False
 
     def wrong(self, place: Place, says: str, todo: str = "") -> None:
+        """Adds a finding for which no document can be written."""
         self.findings.append(Finding(Grade.WRONG, place, says, todo))
 
     def traffic(self, one: Traffic) -> None:
@@ -233,11 +234,14 @@ def declare(devices: list[Device], project: Project) -> Declaration:
     pieces = []
     for piece in making.pieces:
         try:
-            paths = tuple(dict.fromkeys(each for path in piece.paths for each in layered(path, topology, metered, piece.place)))
+            paths = tuple(dict.fromkeys(
+                each for path in piece.paths for each in layered(path, topology, metered, piece.place)))
             pieces.append(replace(piece, paths=beginnings(paths) if project.paths.may_drop else paths))
         except Unusable as error:
             making.findings.append(error.finding)
-    findings = topology.findings + [each for moments in making.tables.values() for tables in moments for each in tables.findings]
+    findings = list(topology.findings)
+    for moments in making.tables.values():
+        findings += [each for tables in moments for each in tables.findings]
     findings += making.findings + _premises(devices, project, pieces)
     return Declaration(pieces, topology, list(dict.fromkeys(findings)), _meaning(making))
 

@@ -44,6 +44,7 @@ class Tally:
     details: list[str] = field(default_factory=list)
 
     def add(self, frame: int, amount: int = 0, detail: str = "") -> None:
+        """Counts it once more."""
         self.count += 1
         self.amount += amount
         if len(self.frames) < MOST_FRAMES_NAMED and frame not in self.frames:
