@@ -228,8 +228,12 @@ def declare(devices: list[Device], project: Project) -> Declaration:
     for one in project.traffic:
         making.traffic(one)
     making.pieces += outer_pieces(topology, making.tables, project, making.pieces)
+    control = control_pieces(topology, Place(project.file))
     if project.paths.control:
-        making.pieces += control_pieces(topology, Place(project.file))
+        making.pieces += control
+    elif control:
+        making.findings.append(Finding(Grade.NOTE, Place(project.file), "packets that the routers themselves send and receive "
+                                       "are in no class", "write control = true under [paths] to declare them as exempt"))
     metered = metered_by(devices)
     pieces = []
     for piece in making.pieces:
