@@ -5,7 +5,9 @@ import os
 from dataclasses import dataclass, field, replace
 from pathlib import Path
 
+from once_tools.coverage import uncrossed
 from once_tools.documents import Json, network_document, text_of, traffic_document
+from once_tools.keys import KeyField
 from once_tools.leads import report_destinations, report_keys
 from once_tools.load import load_devices
 from once_tools.meaning import meaning_of
@@ -14,7 +16,9 @@ from once_tools.model import Device, Finding, Grade, TrafficClass
 from once_tools.network import Network
 from once_tools.paths import cut_to_metered, declare, limit_findings
 from once_tools.project import PathOptions, Project
+from once_tools.rates import different_rates
 from once_tools.report import Report
+from once_tools.report_key import with_key
 from once_tools.rest import cut_others
 from once_tools.versions import Edition, classes_of, editions_of, versions_of
 
@@ -36,6 +40,7 @@ class Pair:
     network: Json
     traffic: Json
     classes: list[TrafficClass] = field(default_factory=list)
+    key: tuple[KeyField, ...] = ()
 
 
 @dataclass
@@ -87,7 +92,7 @@ def pairs_of(network: Network, classes: list[TrafficClass], editions: list[Editi
         findings += limit_findings(mine, project.report.place)
         report_keys(network, list(edition.key), {version for one in mine for version in versions_of(one)})
         found.append(Pair(edition.folder, network_document(network, list(edition.key), mine, options.faithful),
-                          traffic_document(mine), mine))
+                          traffic_document(mine), mine, edition.key))
     if not found and len(editions) > 1:
         findings.append(Finding(Grade.WRONG, project.report.place, "no traffic is declared", "add [[traffic]]"))
     return found
@@ -103,6 +108,7 @@ def import_project(project: Project, options: Options = Options()) -> Imported:
     project = with_options(project, options)
     devices, collectors, findings = load_devices(project)
     findings = project.findings + findings + check_accepts(project)
+    project = replace(project, report=with_key(project.report, collectors, findings))
     editions = editions_of(project.report, findings)
     if is_wrong(findings):
         read = [one for device in [*devices, *collectors] for one in device.findings]
@@ -115,12 +121,12 @@ def import_project(project: Project, options: Options = Options()) -> Imported:
     others = {one.place for one in project.traffic if one.others}
     classes = cut_others(declaration.classes, others, findings)
     report_destinations(network)
+    findings += uncrossed(network, classes) + different_rates(network)
     pairs = pairs_of(network, classes, editions, options, findings, project)
     findings = all_findings(network) + findings
     if is_wrong(findings):
         return Imported([], Report(findings, project.accept), devices, network)
-    keys = [one.key for one in editions if any(pair.folder == one.folder for pair in pairs)]
-    meaning = meaning_of(network, classes, keys, declaration.meaning, findings)
+    meaning = meaning_of(network, [(pair.key, pair.classes) for pair in pairs], declaration.meaning, findings)
     return Imported(pairs, Report(findings, project.accept, meaning), devices, network)
 
 

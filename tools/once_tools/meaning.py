@@ -18,15 +18,13 @@ def metering(network: Network) -> list[str]:
     return found
 
 
-def subject(network: Network, classes: list[TrafficClass], keys: list[tuple[KeyField, ...]]) -> list[str]:
-    """Returns what a certificate says."""
-    names = ", ".join(f"'{one.name}'" for one in classes[:8]) + (", .." if len(classes) > 8 else "")
-    by = " and apart from it by ".join(spelled(list(key)) for key in keys)
-    meters = ", ".join(metering(network)) or "no device"
-    return [f"What a certificate means here: of packets of the declared traffic ({names or 'none'}) that take the declared "
-            f"paths, the totals of {network.report[0]} by {by} are the plain sums, each packet counted exactly once; exempt "
-            "traffic is not counted.",
-            f"Counted for this report: {meters}."]
+def subject(network: Network, key: tuple[KeyField, ...], classes: list[TrafficClass]) -> str:
+    """Returns what a certificate says of a pair of documents."""
+    counted = [one.name for one in classes if not one.exempt]
+    names = ", ".join(f"'{name}'" for name in counted[:8]) + (", .." if len(counted) > 8 else "")
+    exempt = " Exempt traffic is not counted." if len(counted) < len(classes) else ""
+    return (f"The totals of {network.report[0]} by {spelled(list(key))} are the plain sums over the packets of the declared "
+            f"traffic ({names or 'none that is counted'}): each packet is counted exactly once.{exempt}")
 
 
 STANDING = [
@@ -46,8 +44,11 @@ def premises(findings: list[Finding]) -> list[str]:
     return list(dict.fromkeys(found))
 
 
-def meaning_of(network: Network, classes: list[TrafficClass], keys: list[tuple[KeyField, ...]], paths: list[str],
+def meaning_of(network: Network, pairs: list[tuple[tuple[KeyField, ...], list[TrafficClass]]], paths: list[str],
                findings: list[Finding]) -> list[str]:
-    """Returns the lines that end a report; `paths` are the premises of the declared paths."""
-    lines = subject(network, classes, keys) + ["It presumes:"]
+    """Returns the lines that end a report; `pairs` are the key and the classes of each pair of documents, `paths` the
+    premises of the declared paths."""
+    lines = ["What a certificate means here:"]
+    lines += [f"  {subject(network, key, classes)}" for key, classes in pairs]
+    lines += [f"  Metered for it: {', '.join(metering(network)) or 'no device'}.", "It presumes:"]
     return lines + [f"  {number}. {text}" for number, text in enumerate([*paths, *STANDING, *premises(findings)], 1)]

@@ -265,7 +265,7 @@ def _accepts(table: Table) -> list[Accept]:
 
 
 def _report(table: Table) -> Report:
-    return Report(table.text("collector", True), table.texts("key", True), table.place(), table.text("process"),
+    return Report(table.text("collector", True), table.texts("key"), table.place(), table.text("process"),
                   table.text("plugin"))
 
 

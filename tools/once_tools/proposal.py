@@ -12,20 +12,21 @@ from once_tools.model import Device, Interface, Unusable
 from once_tools.readers import READERS
 from once_tools.source import Source, read_source
 
-SKIPPED = {".toml", ".md", ".pcap", ".pcapng", ".part", ".py", ".sh", ".csv", ".lst", ".map"}
+SKIPPED = {".toml", ".md", ".pcap", ".pcapng", ".part", ".py", ".sh", ".csv"}
 CUSTOMERS = re.compile(r"\b(customers?|cust|clients?|subscribers?|access|lan|tenants?)\b", re.I)
 CORE = re.compile(r"\b(core|uplink|upstream|transit|peers?|peering|internet|isp|wan|backbone|border|spine)\b", re.I)
 
 
 @dataclass
 class Found:
-    """A file with what it was read as; `kinds` has several entries if it cannot be told which it is."""
+    """A file with what it was read as; `kinds` has several entries if it is not clear which it is."""
 
     path: Path
     name: str
     kinds: list[str]
     device: Device | None = None
     trouble: str = ""
+    named: list[Path] = field(default_factory=list)
 
 
 @dataclass
@@ -52,37 +53,46 @@ def name_of(path: Path, device: Device | None, taken: set[str]) -> str:
     return name
 
 
-def look(path: Path, folder: Path) -> Found | None:
-    """Returns what a file is read as, None if it is no configuration."""
+def look(path: Path, folder: Path, files: list[Path]) -> Found | None:
+    """Returns what a file is read as, with the files of the folder that it names; None if it is no configuration."""
     source = read_source(path, str(path.relative_to(folder)))
     kinds = kinds_of(source)
     if not kinds:
         return None
     found = Found(path, "", kinds)
+    found.named = [one for one in files if one != path and re.search(rf"[/\s:=]{re.escape(one.name)}\b", source.text)]
     if len(kinds) == 1:
         try:
-            found.device = READERS[kinds[0]].read(path.stem, [source], {})
+            sources = [source, *(read_source(one, str(one.relative_to(folder))) for one in found.named)]
+            found.device = READERS[kinds[0]].read(path.stem, sources, {})
         except Unusable as why:
             found.trouble = why.finding.says
     return found
 
 
+def files_of(folder: Path) -> list[Path]:
+    """Returns the files of a folder that may be configurations, two levels deep."""
+    return [path for path in sorted([*folder.glob("*"), *folder.glob("*/*")])
+            if path.is_file() and not path.name.startswith(".") and path.suffix not in SKIPPED]
+
+
 def look_at(folder: Path) -> Proposal:
-    """Returns what the files of a folder are, two levels deep."""
-    proposal, taken = Proposal(), set[str]()
-    for path in sorted([*folder.glob("*"), *folder.glob("*/*")]):
-        if not path.is_file() or path.name.startswith(".") or path.suffix in SKIPPED:
-            continue
+    """Returns what the files of a folder are."""
+    proposal, taken, files = Proposal(), set[str](), files_of(folder)
+    named: set[Path] = set()
+    for path in files:
         try:
-            found = look(path, folder)
+            found = look(path, folder, files)
         except Unusable:
             found = None
         if found is None:
             proposal.others.append(str(path.relative_to(folder)))
             continue
+        named |= set(found.named)
         found.name = name_of(path, found.device, taken)
         collects = found.device is not None and found.device.listeners and not found.device.points
         (proposal.collectors if collects else proposal.devices).append(found)
+    proposal.others = [one for one in proposal.others if folder / one not in named]
     return proposal
 
 
@@ -98,13 +108,14 @@ def listed(texts: list[str]) -> str:
 
 def device_lines(one: Found, folder: Path, table: str) -> list[str]:
     """Returns the table of a device or a collector."""
-    file = str(one.path.relative_to(folder))
+    files = [str(path.relative_to(folder)) for path in (one.path, *one.named)]
     lines = [f"[[{table}]]", f"name = {quoted(one.name)}"]
     if len(one.kinds) == 1:
         lines.append(f"kind = {quoted(one.kinds[0])}")
     else:
         lines.append(f"kind = \"?\"                        # one of: {', '.join(one.kinds)}")
-    lines.append(f"config = {quoted(file)}" + (f"        # {one.trouble}" if one.trouble else ""))
+    config = quoted(files[0]) if len(files) == 1 else listed(files)
+    lines.append(f"config = {config}" + (f"        # {one.trouble}" if one.trouble else ""))
     return [*lines, ""]
 
 
@@ -139,6 +150,14 @@ def collector_lines(proposal: Proposal) -> tuple[list[str], str]:
                   "[[collectors]]", f"name = {quoted(name)}", f"listen = [{quoted(str(end))}]", ""]
         names.append(name)
     return lines, names[0] if names else ""
+
+
+def key_text(collectors: list[Found]) -> str:
+    """Returns the key that the first collector stores by, or the usual one."""
+    for one in collectors[:1]:
+        for _, key, _ in one.device.proposed_keys[:1] if one.device else []:
+            return listed([name if length is None else f"{name}/{length}" for name, length in key])
+    return '"source"                    # or "destination", or elements'
 
 
 def role_of(one: Interface) -> str:
@@ -194,7 +213,7 @@ def project_text(folder: Path) -> str:
     collectors, first = collector_lines(proposal)
     lines = ["# A project of once-import. Two things to look at: which collector the report is of, and which interfaces are",
              "# in which role. Then: once-import audit PROJECT", "[report]",
-             f"collector = {quoted(first or '?')}", 'key = "source"                    # or "destination", or elements', ""]
+             f"collector = {quoted(first or '?')}", f"key = {key_text(proposal.collectors)}", ""]
     for one in proposal.devices:
         lines += device_lines(one, folder, "devices")
     for one in proposal.collectors:

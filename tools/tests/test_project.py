@@ -61,7 +61,7 @@ def test_what_is_wrong_is_reported_with_its_line(added: str, wanted: str) -> Non
 
 def test_all_faults_are_reported_at_once() -> None:
     found = parsed("[report]\ncolector = \"x\"\n[rolls]\n").findings
-    assert len([one for one in found if one.grade is Grade.WRONG]) == 4
+    assert len([one for one in found if one.grade is Grade.WRONG]) == 3
 
 
 def test_what_is_no_toml_names_its_line() -> None:

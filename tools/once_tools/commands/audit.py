@@ -4,6 +4,7 @@ from __future__ import annotations
 import argparse
 import tempfile
 from pathlib import Path
+from typing import Sequence
 
 from once_tools.answers import is_certificate
 from once_tools.blame import blame
@@ -68,6 +69,13 @@ def audit_pair(program: str, pair: Pair, folder: Path) -> tuple[int, str, list[F
     return answer.status, summary(pair, answer, name), blame(pair.network, pair.traffic, answer.output or answer.errors)
 
 
+def meaning_of_certificates(meaning: Sequence[str], statuses: list[int]) -> list[str]:
+    """Returns what certificates mean, without the lines of pairs of documents that have none."""
+    if 0 not in statuses:
+        return []
+    return [line for number, line in enumerate(meaning) if not 0 < number <= len(statuses) or statuses[number - 1] == 0] + [""]
+
+
 def run(arguments: argparse.Namespace) -> int:
     """Returns the exit status of `once`, or 7."""
     program = find_once(arguments.once)
@@ -80,8 +88,7 @@ def run(arguments: argparse.Namespace) -> int:
         write_texts(imported.texts(), out)
         answers = [audit_pair(program, pair, out / pair.folder) for pair in imported.pairs]
     blamed = [one for _, _, findings in answers for one in findings]
-    certified = any(status == 0 for status, _, _ in answers)
-    meaning = [*imported.report.meaning, ""] if certified else []
+    meaning = meaning_of_certificates(imported.report.meaning, [status for status, _, _ in answers])
     report = Report([*imported.report.findings, *blamed], imported.report.accepts,
                     [*meaning, *(says for _, says, _ in answers)])
     print_report(report, arguments.format, arguments.project.parent)

@@ -38,6 +38,9 @@ MODULES = [
     "once_tools.readers.cisco_xr",
     "once_tools.readers.vyos",
     "once_tools.readers.arista_eos",
+    "once_tools.readers.mikrotik",
+    "once_tools.readers.nokia_sros",
+    "once_tools.readers.huawei",
 ]
 
 # Other spellings that a project may use for a kind.

@@ -228,6 +228,8 @@ class _Reading:
             self.log.wrong(one.place, f"monitor-map {name} has no record", "add `record ipv4` or `record ipv6`")
             return
         if kind[0] not in VERSIONS:
+            if kind[0] != "mpls":
+                self.log.unknown(one.record[1], f"record {' '.join(kind)}", ["record ipv4", "record ipv6", "record mpls"], exporters)
             return
         if len(kind) > 1:
             self.log.lost(one.record[1], f"which flow keys `record {' '.join(kind)}` has is not known; the document has those of `record {kind[0]}`",

@@ -19,6 +19,8 @@ VERSIONS = {"inet": 4, "inet6": 6}
 DIRECTIONS = {"input": Direction.INGRESS, "output": Direction.EGRESS}
 SET_LINE = re.compile(r"(?m)^\s*(set|deactivate)\s+\S+")
 MOST_INTERFACES = 256
+TOP = ("system", "interfaces", "chassis", "services", "forwarding-options", "firewall", "policy-options", "routing-instances", "routing-options",
+       "protocols", "groups", "apply-groups", "snmp", "security", "class-of-service", "vlans", "logical-systems", "access", "event-options")
 
 
 class _Reading:
@@ -29,7 +31,7 @@ class _Reading:
         self.device = Device(name, "junos", [one.name for one in sources], findings=self.log.findings)
         collector = Collector(self.log)
         statements = [one for source in sources for one in (set_lines(source) if SET_LINE.search(source.text) else braces(source))]
-        if not statements:
+        if not any(one.words[0] in TOP for one in statements):
             raise Unusable(sources[0].place(0), "has no statement of Junos", "give the output of `show configuration | display set`")
         for one in statements:
             collector.take(one)
@@ -107,11 +109,12 @@ class _Reading:
         return dict(template.timeouts) if template else {}
 
     def rate(self, one: Instance, exporters: list[str]) -> None:
-        if one.name == "sampling" and not any(one.inline):
-            self.log.lost(one.place, "sampling without an instance runs on the routing engine, which takes a limited number of packets a second, "
-                          "and a total over a sample is not exact; the document meters all packets", "use an instance with inline-jflow",
-                          Topic.SAMPLER, 108, exporters)
-        elif one.rate is None:
+        outside = [f"{one.name} {family}" for family in one.servers if family not in one.inline]
+        if outside:
+            self.log.lost(one.place, f"without inline-jflow {' and '.join(outside)} is sampled by the routing engine or a services card, which takes "
+                          "a limited number of packets a second, and a total over a sample is not exact; the document meters all packets",
+                          "use an instance with inline-jflow", Topic.SAMPLER, 108, outside)
+        if one.rate is None:
             self.log.lost(one.place, "`input rate` is not set, and its default is not known here; the document meters all packets",
                           "set input rate 1", Topic.SAMPLER, 108, exporters)
         elif one.rate[0] > 1:

@@ -166,7 +166,7 @@ class Collector:
             self.common(one, words, place)
             return
         name, rest = family[0], family[1:]
-        if rest[:1] == ["address"] and len(rest) > 1:
+        if rest[:1] == ["address"] and len(rest) > 1 and name in FAMILIES:
             one.addresses += [rest[1]] if rest[1] not in one.addresses else []
             self.config.families.setdefault((one.name, name), place)
         elif rest[:1] == ["sampling"]:

@@ -37,6 +37,12 @@ class Qualifiers:
     kind: str = ""
 
 
+def fewest_union(first: list[Box], second: list[Box]) -> list[Box]:
+    """Returns the packets of either region, with that one whole which makes fewer selection processes."""
+    choices = [boxes.union(first, second), boxes.union(second, first)]
+    return min(choices, key=lambda region: sum(map(boxes.selection_count, region)))
+
+
 class _Parser:
     """Reads an expression for one version of IP; `and` and `or` have one precedence and associate to the left."""
 
@@ -60,7 +66,7 @@ class _Parser:
         while self.peek() in CONJUNCTIONS:
             is_and = CONJUNCTIONS[self.take()] == "and"
             other = self.term(depth)
-            found = boxes.common(found, other) if is_and else boxes.union(found, other)
+            found = boxes.common(found, other) if is_and else fewest_union(found, other)
         return found
 
     def term(self, depth: int) -> list[Box]:

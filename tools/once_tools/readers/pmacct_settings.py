@@ -20,6 +20,7 @@ HARMLESS = re.compile(
     r"propagate_signals|maps_(entries|row_len|refresh|index)|plugin_(pipe|buffer)_size|plugin_pipe_zmq(_\w+)?|"
     r"(nfacctd|pmacctd)_pipe_size|(timestamps|files|print|imt|sql|kafka|amqp|avro|geoip|geoipv2|bgp|bmp|rpki|isis)_\w+|"
     r"(bgp|bmp|isis)_daemon|ports_file|use_ip_next_hop")
+SWITCHES = ("promisc", "nfprobe_dont_cache", "nfacctd_renormalize", "tee_transparent", "pmacctd_renormalize")
 # Pairs of keys that mean the same.
 OTHER_NAMES = {"interface": "pcap_interface"}
 # Keys of the daemon: pmacct applies a line with [PLUGIN] to the whole daemon.
@@ -107,6 +108,10 @@ def report_unknown(found: Settings, plugins: Sequence[Plugin], known: set[str], 
         log.lost(place, "this line is no setting, and pmacct ignores it", "write KEY: VALUE, or KEY[PLUGIN]: VALUE")
     names = {one.name for one in plugins} | {f"default_{one.name}" for one in plugins}
     for one in found.lines:
+        if not one.value:
+            log.lost(one.place, f"{one.key} has no value", "write a value, or take the line out")
+        elif one.key in SWITCHES and one.value.lower() not in ("true", "false"):
+            log.lost(one.place, f"{one.key} is neither true nor false; it is taken for false", "write true or false")
         if one.plugin and one.plugin not in names:
             log.lost(one.place, f"no plugin is named {one.plugin}, and pmacct ignores the setting",
                      f"name one of the plugins: {', '.join(sorted(plugin.name for plugin in plugins)) or 'none'}")

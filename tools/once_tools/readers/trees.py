@@ -39,7 +39,8 @@ class Node:
 
 
 # What a terminal leaves in a text that was copied from it.
-PAGER = re.compile(r"^\s*(?:<?-+ ?\(?more\)?[^-]*-*>?)[\x08 ]*", re.IGNORECASE)
+# Spaces between backspaces erase the mark; those after them are the line's own indentation.
+PAGER = re.compile(r"^\s*<?-+ ?\(?more\)?[^-\x08\r]*-*>? ?(?:[\x08\r]+(?: +[\x08\r]+)?)?", re.IGNORECASE)
 
 
 def numbered(source: Source) -> Iterator[tuple[int, str]]:
@@ -200,7 +201,7 @@ def _spread(line: str, path: Words) -> list[Words]:
 
 def _switched(one: Statement, off: dict[Words, Place]) -> Statement:
     """Returns the statement, made inactive if it is at or below a deactivated path; its place is then that line."""
-    for length in range(1, len(one.words) + 1):
+    for length in {len(path) for path in off}:
         place = off.get(one.words[:length])
         if place is not None:
             return Statement(one.words, place, True)
