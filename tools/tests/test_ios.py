@@ -164,6 +164,16 @@ def test_vlan_configuration() -> None:
     assert any(one.grade is Grade.PREMISE for one in device.findings)
 
 
+@pytest.mark.parametrize("line, members", [
+    ("switchport access vlan 10", ["Vlan10"]), ("switchport trunk allowed vlan 10-11", ["Vlan10", "Vlan11"]),
+    ("switchport trunk allowed vlan except 10", ["Vlan11", "Vlan20"]), ("switchport trunk allowed vlan none", []),
+    ("switchport mode trunk", ["Vlan10", "Vlan11", "Vlan20"]), ("channel-group 3 mode active", ["Port-channel3"])])
+def test_members_of_vlans_and_bundles(line: str, members: list[str]) -> None:
+    text = RECORD + "".join(f"interface Vlan{one}\n ip flow monitor M input\n" for one in (10, 11, 20))
+    device = read(text + f"interface GigabitEthernet1/0/1\n {line}\n")
+    assert [one.name for one in device.interfaces if "GigabitEthernet1/0/1" in one.members] == members
+
+
 def test_banner_is_no_configuration() -> None:
     text = interface("ip flow monitor M input") + "banner motd ^C\ninterface GigabitEthernet0/9\n ip flow ingress\n^C\n"
     assert len(read(text).interfaces) == 1
