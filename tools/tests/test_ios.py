@@ -205,6 +205,17 @@ def test_parallel_destinations_of_classic_netflow() -> None:
     assert [one.name for one in device.points] == ["ip flow ingress", "ip flow egress"]
 
 
+def test_the_order_of_sections_does_not_matter() -> None:
+    text = (SAMPLES / "cisco-ios-xe" / "edge-1.cfg").read_text()
+    parts = text.split("\n!\n")
+    turned = "\n!\n".join([*reversed(parts[:-1]), parts[-1]])
+    plain, changed = read(text), read(turned)
+    assert {one.name: (sorted(one.interfaces), one.direction) for one in plain.points} == {
+        one.name: (sorted(one.interfaces), one.direction) for one in changed.points}
+    assert {one.name: ([each.element for each in one.fields], one.exporters) for one in plain.caches} == {
+        one.name: ([each.element for each in one.fields], one.exporters) for one in changed.caches}
+
+
 def test_comments_and_ends_of_lines_change_nothing() -> None:
     text = interface("ip flow monitor M input")
     plain, changed = read(text), read("! a comment\n" + text.replace("\n", "\r\n"))
