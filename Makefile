@@ -127,12 +127,14 @@ tools: run-tools
 
 PYTHON = $(shell for python in python3 /usr/bin/python3; do $$python -c 'import pytest' 2> /dev/null && echo $$python && break; done)
 ONCE = $(abspath ./once)
+# Two workers, if pytest has the plugin for them.
+WORKERS = $(shell $(PYTHON) -c 'import xdist' 2> /dev/null && echo "-n 2")
 
 run-tools:
 	@[ -n "$(PYTHON)" ] || { echo 'pytest not found: install it (Debian: python3-pytest)'; exit 2; }
 	@command -v mypy > /dev/null || { echo 'mypy not found: install it (Debian: mypy)'; exit 2; }
 	cd tools && mypy --strict --cache-dir=/dev/null once_tools
-	cd tools && ONCE=$(ONCE) $(PYTHON) -B -m pytest -q -p no:cacheprovider tests
+	cd tools && ONCE=$(ONCE) $(PYTHON) -B -m pytest -q -p no:cacheprovider $(WORKERS) tests
 
 # Draws the pictures of the examples anew, with Graphviz's dot: each network with its traffic and its certificate or
 # refutation.

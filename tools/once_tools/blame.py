@@ -46,8 +46,11 @@ def counted_twice(counted: list[Sighting], name: str, path: Sequence[Json]) -> l
             f"{metered_at(first)}, where both take it"
         how += f" ({way(between)})" if len(between) > 2 else ""
         turned = first.device is other.device and first.direction != other.direction
-        found.append(finding(first, f"this and {other_line} meter the same packets: '{name}' {how}, so each counts twice",
-                             "meter input on all interfaces and output on none" if turned else
+        if first.device.place(first.pointer) == other.device.place(other.pointer):
+            says = f"'{name}' {how}: both are metered here, so each packet counts twice"
+        else:
+            says = f"this and {other_line} meter the same packets: '{name}' {how}, so each counts twice"
+        found.append(finding(first, says, "meter input on all interfaces and output on none" if turned else
                              "meter where packets come into the network, and nowhere behind it"))
     return found
 

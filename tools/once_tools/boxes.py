@@ -152,7 +152,7 @@ def _joined_on(axis: int, region: list[Box]) -> list[Box]:
 
 
 def prefixes(interval: Interval, bits: int) -> list[tuple[int, int]]:
-    """Returns the fewest (value, length) prefixes that hold exactly an interval of numbers of so many bits."""
+    """Returns the fewest (value, length) prefixes that hold exactly an interval of numbers of this many bits."""
     low, high = interval
     found = []
     while low <= high:

@@ -1,7 +1,7 @@
 """Collectors that count records of one direction, or of certain interfaces, alone.
 
 Directions and interfaces are no axes. But the records of an observation point have one direction, and one interface if they
-are told apart by it: points that such a collector does not count get a cache and exporters of their own without a link to it.
+are distinguished by it: points that such a collector does not count get a cache and exporters of their own without a link to it.
 """
 from __future__ import annotations
 
@@ -25,7 +25,7 @@ def is_chosen(entry: CollectorEntry, device: Device, interface: str) -> bool:
 
 
 def split_direction(entry: CollectorEntry, point: Point) -> list[Point]:
-    """Returns a point for each direction, if the collector tells directions apart."""
+    """Returns a point for each direction, if the collector distinguishes directions."""
     if not entry.directions or point.direction is not Direction.BOTH or len(entry.directions) == 2:
         return [point]
     return [replace(point, name=f"{point.name} {one.value}", direction=one) for one in BOTH]
@@ -96,8 +96,8 @@ class _Chooser:
             if lacks:
                 self.network.findings.append(Finding(
                     Grade.NOT_CARRIED_OVER, caches[name].place, f"{self.entry.name} counts some records by direction or "
-                    f"interface, and records of {name} are not told apart by {', '.join(sorted(lacks))}: the document has "
-                    "them told apart", "add the field to the flow keys of the record", Topic.FILTER, None, self.device.name,
+                    f"interface, and records of {name} are not distinguished by {', '.join(sorted(lacks))}: the document has "
+                    "them distinguished", "add the field to the flow keys of the record", Topic.FILTER, None, self.device.name,
                     tuple(caches[name].exporters)))
         self.device.points = [part if counted else self.apart(part, caches) for part, counted in parts]
 

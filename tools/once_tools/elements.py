@@ -1,4 +1,4 @@
-"""The information elements that packets are told apart by, and how their values are written (docs/FORMATS.md)."""
+"""The information elements that packets are distinguished by, and how their values are written (docs/FORMATS.md)."""
 from __future__ import annotations
 
 import ipaddress
@@ -74,6 +74,6 @@ def counters() -> list[dict[str, object]]:
 
 
 def cache_fields(axes: list[str]) -> list[dict[str, object]]:
-    """Returns the fields of a cache by whose axes flows are told apart."""
+    """Returns the fields of a cache by whose axes flows are distinguished."""
     keys: list[dict[str, object]] = [{"name": axis, "ieName": axis, "isFlowKey": [None]} for axis in axes]
     return keys + counters()

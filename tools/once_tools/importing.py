@@ -16,6 +16,7 @@ from once_tools.model import Device, Finding, Grade, TrafficClass
 from once_tools.network import Network
 from once_tools.paths import cut_to_metered, declare, limit_findings
 from once_tools.project import PathOptions, Project
+from once_tools.rates import different_rates
 from once_tools.report import Report
 from once_tools.report_key import with_key
 from once_tools.rest import cut_others
@@ -120,7 +121,7 @@ def import_project(project: Project, options: Options = Options()) -> Imported:
     others = {one.place for one in project.traffic if one.others}
     classes = cut_others(declaration.classes, others, findings)
     report_destinations(network)
-    findings += uncrossed(network, classes)
+    findings += uncrossed(network, classes) + different_rates(network)
     pairs = pairs_of(network, classes, editions, options, findings, project)
     findings = all_findings(network) + findings
     if is_wrong(findings):

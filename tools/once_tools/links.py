@@ -42,7 +42,7 @@ def spread(device: Device, addresses: Addresses) -> None:
 
 
 def spread_one(device: Device, exporter: Exporter, to: Destination, ends: list[Destination]) -> None:
-    """Puts several destinations in place of one; if the exporter has parallel others, in an exporter of their own."""
+    """Replaces a destination by several; if the exporter has parallel others, in an exporter of their own."""
     if len(exporter.destinations) == 1:
         exporter.mode, exporter.destinations = "loadBalancing", ends
         return

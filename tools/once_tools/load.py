@@ -39,7 +39,7 @@ def chosen_reader(kind: str, sources: list[Source], place: Place) -> Reader:
     found = detected(sources)
     if not found:
         names = ", ".join(source.name for source in sources)
-        raise Unusable(place, f"the kind of {names} cannot be told from the text", "write kind = \"..\" (see `once-import "
+        raise Unusable(place, f"the kind of {names} is not clear from the text", "write kind = \"..\" (see `once-import "
                                                                                    "kinds`)")
     return READERS[found]
 

@@ -71,10 +71,18 @@ class DeviceView:
         """Returns whether the device has a point of this direction."""
         return any(one.get("direction", "both") in ("both", direction) for one in self.list("observationPoint"))
 
+    def named(self, pointer: str) -> str:
+        """Returns the name of the entry of a list that a pointer is in."""
+        parts = pointer.split("/")
+        there = self.list(parts[1]) if len(parts) > 2 and parts[2].isdigit() else []
+        return str(there[int(parts[2])].get("name", "")) if len(parts) > 2 and int(parts[2]) < len(there) else pointer
+
     def describe(self, pointer: str) -> str:
-        """Returns `FILE:LINE: 'WORDS'`, or the device's name if nothing was kept."""
+        """Returns `FILE:LINE: 'WORDS'`, with the entry's name if the line is not known."""
         place = self.place(pointer)
-        return f"{where(place)}: '{place.text}'" if place.file else f"{self.name} {pointer}"
+        if place.text:
+            return f"{where(place)}: '{place.text}'"
+        return f"{where(place) or self.name} ({self.named(pointer)})"
 
 
 @dataclass
@@ -130,7 +138,7 @@ def key_fields(value: object) -> list[KeyField]:
 
 
 def record_fields(cache: Json) -> list[KeyField]:
-    """Returns the fields of a cache's records that can be told apart by."""
+    """Returns the fields of a cache's records that can be distinguished by."""
     for kind, value in cache.items():
         layout = table(table(value).get("cacheLayout"))
         if layout:

@@ -19,7 +19,7 @@ CORE = re.compile(r"\b(core|uplink|upstream|transit|peers?|peering|internet|isp|
 
 @dataclass
 class Found:
-    """A file with what it was read as; `kinds` has several entries if it cannot be told which it is."""
+    """A file with what it was read as; `kinds` has several entries if it is not clear which it is."""
 
     path: Path
     name: str

@@ -1,12 +1,17 @@
 """Small configurations of Cisco IOS, each with what must come out of it."""
 from __future__ import annotations
 
+import random
+import re
+
 import pytest
 
+from expected import SAMPLES
 from once_tools.model import Device, Grade, Topic
 from once_tools.readers import READERS, reader_of
 from once_tools.report import Report
 from once_tools.source import Source
+from test_mutations import heard, mutate
 
 RECORD = """flow record R
  match ipv4 source address
@@ -203,3 +208,15 @@ def test_kinds_and_detection() -> None:
     assert reader.detect(RECORD) > 90
     assert reader.detect("flow monitor-map M\n record ipv4\n") < 20
     assert reader.detect("plugins: nfprobe\n") == 0
+
+
+def test_no_change_of_older_forms_is_passed_over_in_silence() -> None:
+    text = (SAMPLES / "cisco-ios-xe" / "netflow-original.cfg").read_text()
+    usual, chance, silent = heard("cisco-ios", [Source("r.cfg", text)]), random.Random(1), []
+    for _ in range(300):
+        changed, what, place = mutate(text, chance)
+        line = text.split("\n")[place]
+        if heard("cisco-ios", [Source("r.cfg", changed)]) == usual and changed.split() != text.split() and what not in (
+                "double", "swap") and not re.fullmatch(r"\s*(!.*|hostname .*|end)?", line):
+            silent.append((what, line))
+    assert silent == []

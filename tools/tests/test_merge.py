@@ -105,6 +105,16 @@ def test_sampler_of_another_report_is_a_note(tmp_path: Path) -> None:
     assert [one.name for one in found.devices[0].points] == ["M input"]
 
 
+def test_different_rates_are_a_premise(tmp_path: Path) -> None:
+    samplers = "sampler S\n mode random 1 out-of 100\nsampler T\n mode deterministic 1 out-of 10\n"
+    text = samplers + IN.replace("ip flow monitor M input", "ip flow monitor M sampler S input", 1)
+    assert any("1 in 100 at r, 1 in 1 at r" in line for line in lines(tmp_path, PROJECT, text))
+    text = text.replace("ip flow monitor M input", "ip flow monitor M sampler S input")
+    assert not any("differ" in line for line in lines(tmp_path, PROJECT, text))
+    text = text.replace("sampler S input", "sampler T input", 1)
+    assert any("1 in 10 at r, 1 in 100 at r" in line for line in lines(tmp_path, PROJECT, text))
+
+
 def test_accepted_deviations_keep_the_status(tmp_path: Path) -> None:
     text = IN.replace("ip flow monitor M input", "ip flow monitor M sampler S input") + "sampler S\n mode random 1 out-of 9\n"
     assert made(tmp_path, PROJECT, r_cfg=text).report.status == 1

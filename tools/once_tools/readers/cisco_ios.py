@@ -12,6 +12,8 @@ FLEXIBLE = re.compile(r"^(?:flow (?:record|monitor|exporter) \S|\s+(?:ip|ipv6) f
 CLASSIC = re.compile(r"^(?:ip flow-export |\s+ip flow (?:ingress|egress)\s*$|\s+ip route-cache flow\s*$)", re.M)
 COMMON = re.compile(r"^(?:\s+ip address \d+\.\d+\.\d+\.\d+ 255\.|version 1\d\.\d+\s*$|ip cef|Building configuration)", re.M)
 OTHERS = re.compile(r"^(?:flow (?:exporter|monitor)-map |flow tracking |feature netflow|!! IOS XR|set |#\s*$|\{)", re.M)
+# Sections of IOS-XR and EOS, whose other lines may look like those of IOS.
+FOREIGN = re.compile(r"^(?:flow (?:exporter|monitor)-map |flow tracking |sampler-map )", re.M)
 # An interface of IOS, in a text that may be part of a configuration.
 INTERFACE = re.compile(r"^interface (?:\w+Ethernet|Loopback|Vlan|Port-channel|Serial|Tunnel)\S+\s*$", re.M)
 
@@ -34,7 +36,7 @@ class CiscoIos:
     def read(self, name: str, sources: list[Source], options: Mapping[str, str]) -> Device:
         """Returns the device that running configurations describe."""
         texts = "\n".join(one.text for one in sources)
-        if not any(pattern.search(texts) for pattern in (FLEXIBLE, CLASSIC, COMMON, INTERFACE)):
+        if FOREIGN.search(texts) or not any(one.search(texts) for one in (FLEXIBLE, CLASSIC, COMMON, INTERFACE)):
             raise Unusable(sources[0].place(0), "no statement of Cisco IOS is in the text",
                            "give the output of 'show running-config', or another kind")
         return read_running(name, sources)

@@ -6,7 +6,6 @@ Whether a packet between two listed interfaces counts once or twice is documente
 from __future__ import annotations
 
 import re
-import shlex
 from dataclasses import dataclass, field
 from typing import Iterator, Mapping
 
@@ -30,6 +29,9 @@ FIELDS = {"src-address": "sourceAddress", "dst-address": "destinationAddress", "
 VERSIONS = {"1": 1, "5": 5, "9": 9, "ipfix": 10}
 COUNTS = {"ingress": Direction.INGRESS, "both": Direction.BOTH}
 NAME = "traffic-flow"
+FOUND = re.compile(r"\[ ?find [^\]]*\]")
+WORDS = re.compile(r'(?:[^\s"]|"(?:[^"\\]|\\.)*"?)+')
+QUOTES = re.compile('"')
 
 
 @dataclass
@@ -47,10 +49,7 @@ def commands_of(source: Source) -> Iterator[Line]:
     menu: list[str] = []
     for number, text in logical_lines(source):
         place = Place(source.name, number, text)
-        try:
-            words = shlex.split(re.sub(r"\[[^\]]*\]", "", text))
-        except ValueError:
-            words = text.split()
+        words = [QUOTES.sub("", word) for word in WORDS.findall(FOUND.sub("", text))]
         verb = next((index for index, word in enumerate(words) if word in VERBS), len(words))
         if words and words[0].startswith("/"):
             menu = words[:verb]

@@ -56,6 +56,23 @@ def destination_of(words: tuple[str, ...], place: Place, transport: str) -> Dest
     return Destination(f"{words[0]} port {port}", words[0], port, place, chosen, vrf, 9)
 
 
+def read_reliability(classic: Classic, line: Node) -> None:
+    """Reads what is below `ip flow-export destination` beside backups."""
+    words = line.words
+    if words == ("backup", "mode", "fail-over"):
+        classic.notes.note(line.place, "the backup receives records while the first destination is not reachable, and then "
+                                       "alone")
+    elif words == ("backup", "mode", "redundant"):
+        classic.notes.premise(line.place, "the backup is taken to receive records while the first destination is not reachable "
+                                          "alone, which was not confirmed for this mode", "write 'backup mode fail-over'")
+    elif words[0] == "reliability" and words[1:2] in (("none",), ("partial",)):
+        classic.notes.premise(line.place, "records that are lost on the way are not sent again: a certificate speaks of records "
+                                          "that arrive", "write 'reliability full'")
+    elif words != ("reliability", "full") and not (len(words) == 3 and words[2].isdigit() and words[:2] in (
+            ("backup", "fail-over"), ("backup", "restore-time"))):
+        classic.notes.unknown(line.place, "ip flow-export")
+
+
 def read_destination(classic: Classic, node: Node) -> None:
     """Reads `ip flow-export destination A P [sctp]`, with a backup below it."""
     first = destination_of(node.words[3:], node.place, "udp")
@@ -67,12 +84,8 @@ def read_destination(classic: Classic, node: Node) -> None:
         backup = destination_of(line.words[2:], line.place, first.transport) if line.starts("backup", "destination") else None
         if backup:
             destinations.append(backup)
-        elif line.starts("reliability") and line.words[1:2] != ("full",):
-            classic.notes.premise(line.place, "records that are lost on the way are not sent again: a certificate speaks of "
-                                              "records that arrive", "write 'reliability full'")
-        elif line.words[:2] not in (("backup", "mode"), ("backup", "fail-over"), ("backup", "restore-time"),
-                                    ("reliability", "full")):
-            classic.notes.unknown(line.place, "ip flow-export")
+        else:
+            read_reliability(classic, line)
     if len(destinations) > 1:
         classic.exporters.append(Exporter("", destinations, node.place, "fallback"))
     elif classic.exporters and classic.exporters[-1].mode == "parallel":

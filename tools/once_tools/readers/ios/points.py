@@ -28,7 +28,7 @@ def variant_of(one: Attachment, samplers: dict[str, Sampler]) -> Variant:
 
 
 def suffix_of(variant: Variant, variants: set[Variant]) -> str:
-    """Returns what tells a variant from the others of its monitor."""
+    """Returns what distinguishes a variant from the others of its monitor."""
     others = [one for one in variants if one.monitor == variant.monitor]
     suffix = f" IPv{variant.family}" if len({one.family for one in others}) > 1 else ""
     return suffix + (f" {variant.sampler}" if variant.sampler and len({one.sampler for one in others}) > 1 else "")

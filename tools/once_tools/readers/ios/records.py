@@ -1,4 +1,4 @@
-"""Flow records: what flows are told apart by, and what is counted."""
+"""Flow records: what flows are distinguished by, and what is counted."""
 from __future__ import annotations
 
 from dataclasses import dataclass, field
