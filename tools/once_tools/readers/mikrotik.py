@@ -118,7 +118,7 @@ class _Reading:
         address, port = one.values.get("dst-address", one.values.get("address", "")), one.values.get("port", "2055")
         version = VERSIONS.get(one.values.get("version", "9"))
         if not address or not re.fullmatch("[0-9]{1,5}", port) or not 0 < int(port) < 65536 or version is None:
-            raise Unusable(one.place, "is no target: it has no address, or a port or version that there is not",
+            raise Unusable(one.place, "is not a target: it has no address, or a port or version that there is not",
                            "write dst-address=ADDRESS port=PORT version=ipfix")
         where = Destination(destination_name(address, int(port)), address, int(port), one.place, "udp",
                             one.values.get("vrf", ""), version)

@@ -85,7 +85,7 @@ class _Reading:
     def collector(self, words: list[str], place: Place) -> None:
         found = re.fullmatch(r"\[?([0-9A-Fa-f.:]+?)\]?(?::([0-9]{1,5}))?", words[0])
         if not found or not 0 < int(found[2] or 2055) < 65536:
-            raise Unusable(place, f"{words[0]} is no collector", "write ADDRESS:PORT")
+            raise Unusable(place, f"{words[0]} is not a collector", "write ADDRESS:PORT")
         one = self.collectors.setdefault(words[0], Collector(found[1], int(found[2] or 2055), place))
         rest = words[1:]
         if rest[:1] == ["version"] and len(rest) > 1 and rest[1] in ("5", "8", "9", "10"):
