@@ -214,7 +214,7 @@ def read_region(region: Mapping[str, str]) -> Box:
     found = Box()
     for axis, text in region.items():
         if axis not in PLACES:
-            raise ValueError(f"{axis} is no axis")
+            raise ValueError(f"{axis} is not an axis")
         found = found.cut(axis, read_interval(axis, text))
     return found
 

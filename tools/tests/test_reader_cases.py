@@ -73,10 +73,10 @@ def test_pmacctd_at_any_interface_asks_for_their_names() -> None:
 @pytest.mark.parametrize("text,words", [
     ("plugins: memory\npcap_interface: eth0\n", "no plugin is nfprobe"),
     ("plugins: nfprobe\n", "no pcap_interface"),
-    (PROBE + "nfprobe_receiver: 192.0.2.10\n", "is no receiver"),
+    (PROBE + "nfprobe_receiver: 192.0.2.10\n", "is not a receiver"),
     (PROBE + "nfprobe_version: 6\n", "no version 6"),
     (PROBE + "pcap_direction: inout\n", "no direction inout"),
-    (PROBE + "nfprobe_maxflows: many\n", "is no number"),
+    (PROBE + "nfprobe_maxflows: many\n", "is not a number"),
     (PROBE + "pcap_interfaces_map: /etc/x.map\n", "both pcap_interface and"),
     ("hello\n", "has no setting"),
 ])

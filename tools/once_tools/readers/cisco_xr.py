@@ -260,7 +260,7 @@ class _Reading:
                                         one.place, one.settings))
         self.log.premise(one.record[1], f"the flow keys of `record {kind[0]}` are taken to be addresses, ports, "
                          f"protocol and class of service, and "
-                         "the interfaces, which are no axes", "", Topic.OTHER, None, exporters)
+                         "the interfaces, which are not axes", "", Topic.OTHER, None, exporters)
 
     def missing(self, place: Place, what: str, name: str, known: list[str]) -> None:
         near = difflib.get_close_matches(name, known, 1)

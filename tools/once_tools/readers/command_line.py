@@ -13,6 +13,8 @@ from once_tools.source import Source
 VARIABLE = re.compile(r"\$\{?([A-Za-z_][A-Za-z0-9_]*)\}?")
 ASSIGNMENT = re.compile(r"(?:Environment=)?\"?([A-Za-z_][A-Za-z0-9_]*)=(.*?)\s*$")
 
+LONGEST = 100_000
+
 
 @dataclass(frozen=True)
 class Command:
@@ -45,7 +47,7 @@ def variables_of(sources: Sequence[Source]) -> dict[str, str]:
     for source in sources:
         for _, line in logical_lines(source):
             match = ASSIGNMENT.match(line)
-            if match and not line.startswith("Exec"):
+            if match and len(line) <= LONGEST and not line.startswith("Exec"):
                 try:
                     found[match[1]] = " ".join(shlex.split(match[2].strip('"') if match[2].count('"') == 1
                                                            else match[2]))
@@ -76,6 +78,8 @@ def _words(line: str, variables: dict[str, str], place: Place) -> list[str]:
             raise Unusable(place, f"the variable {match[1]} is not set in the files given", "add the file that sets it")
         return variables[match[1]]
 
+    if len(line) > LONGEST:
+        raise Unusable(place, f"has more than {LONGEST} characters", "give a command line")
     try:
         words = shlex.split(VARIABLE.sub(value, line), comments=False)
     except ValueError as error:

@@ -39,7 +39,7 @@ class _Reading:
         self.sources: dict[str, str] = {}
         self.hosts: dict[str, list[Destination]] = {"ip": [], "ipv6": []}
         found = [one for source in sources for one in statements(source)]
-        if not any(one.words[0] in ("sysname", "interface") or "netstream" in one.words for one in found):
+        if not any(one.words[0] == "sysname" or "netstream" in one.words for one in found):
             raise Unusable(sources[0].place(0), "has no statement of VRP",
                            "give the output of `display current-configuration`")
         for one in found:

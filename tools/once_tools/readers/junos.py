@@ -113,7 +113,7 @@ class _Reading:
             else:
                 self.log.note(template.place, f"the flow keys of template {template.name} are fixed: addresses, ports, "
                               f"protocol, class of service, "
-                              "and the interface, which is no axis; counters have 8 octets", exporters=name)
+                              "and the interface, which is not an axis; counters have 8 octets", exporters=name)
             if server.version == 9:
                 self.log.note(server.place, "NetFlow 9 is not IPFIX: the audit is the same, but `once collect` refuses "
                               "its messages", "", 611, name)

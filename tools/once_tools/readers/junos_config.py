@@ -237,7 +237,7 @@ class Collector:
         elif word in timeouts and len(words) == 2 and words[1].isdigit():
             one.timeouts[timeouts[word]] = int(words[1])
         elif word == "flow-key":
-            self.log.note(place, f"{' '.join(words[1:])} is no axis and is left out of the flow keys: records are "
+            self.log.note(place, f"{' '.join(words[1:])} is not an axis and is left out of the flow keys: records are "
                           f"finer, their sums the same")
         elif word and word not in ("template-refresh-rate", "option-refresh-rate", "observation-domain-id", "source-id",
                                    "template-id",

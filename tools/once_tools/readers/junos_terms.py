@@ -97,10 +97,10 @@ def _addresses(end: str, conditions: list[tuple[list[str], Place]], version: int
     prefixes: dict[Interval, bool] = {}
     for words, place in conditions:
         if len(words) < 2 or words[2:] not in ([], ["except"]):
-            raise UnreadCondition(place, "is no address with or without `except`")
+            raise UnreadCondition(place, "is not an address with or without `except`")
         texts = lists.get(words[1]) if words[0].endswith("prefix-list") else [words[1]]
         if texts is None:
-            raise UnreadCondition(place, f"there is no prefix-list {words[1]}")
+            raise UnreadCondition(place, f"there is not a prefix-list {words[1]}")
         for text in texts:
             interval = _prefix(text, version, place)
             if interval is not None:
@@ -129,7 +129,7 @@ def _prefix(text: str, version: int, place: Place) -> Interval | None:
     try:
         network = ipaddress.ip_network(text, strict=False)
     except ValueError:
-        raise UnreadCondition(place, f"{text} is no prefix") from None
+        raise UnreadCondition(place, f"{text} is not a prefix") from None
     return (int(network.network_address), int(network.broadcast_address)) if network.version == version else None
 
 
@@ -164,7 +164,7 @@ def _interval(kind: str, word: str, place: Place) -> Interval:
     values = [names[one] if one in names else int(one) if re.fullmatch("[0-9]{1,5}", one) else -1
               for one in (low, high or low)]
     if not 0 <= values[0] <= values[1] <= most:
-        raise UnreadCondition(place, f"`{word}` is no value of {kind} that is known here")
+        raise UnreadCondition(place, f"`{word}` is not a value of {kind} that is known here")
     shift = {"dscp": 2, "traffic-class": 2, "precedence": 5}.get(kind, 0)
     return values[0] << shift, ((values[1] + 1) << shift) - 1
 

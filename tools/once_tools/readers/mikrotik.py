@@ -6,7 +6,6 @@ Whether a packet between two listed interfaces counts once or twice is documente
 from __future__ import annotations
 
 import re
-import shlex
 from dataclasses import dataclass, field
 from typing import Iterator, Mapping
 
@@ -30,6 +29,9 @@ FIELDS = {"src-address": "sourceAddress", "dst-address": "destinationAddress", "
 VERSIONS = {"1": 1, "5": 5, "9": 9, "ipfix": 10}
 COUNTS = {"ingress": Direction.INGRESS, "both": Direction.BOTH}
 NAME = "traffic-flow"
+FOUND = re.compile(r"\[ ?find [^\]]*\]")
+WORDS = re.compile(r'(?:[^\s"]|"(?:[^"\\]|\\.)*"?)+')
+QUOTES = re.compile('"')
 
 
 @dataclass
@@ -47,10 +49,7 @@ def commands_of(source: Source) -> Iterator[Line]:
     menu: list[str] = []
     for number, text in logical_lines(source):
         place = Place(source.name, number, text)
-        try:
-            words = shlex.split(re.sub(r"\[[^\]]*\]", "", text))
-        except ValueError:
-            words = text.split()
+        words = [QUOTES.sub("", word) for word in WORDS.findall(FOUND.sub("", text))]
         verb = next((index for index, word in enumerate(words) if word in VERBS), len(words))
         if words and words[0].startswith("/"):
             menu = words[:verb]
@@ -119,7 +118,7 @@ class _Reading:
         address, port = one.values.get("dst-address", one.values.get("address", "")), one.values.get("port", "2055")
         version = VERSIONS.get(one.values.get("version", "9"))
         if not address or not re.fullmatch("[0-9]{1,5}", port) or not 0 < int(port) < 65536 or version is None:
-            raise Unusable(one.place, "is no target: it has no address, or a port or version that there is not",
+            raise Unusable(one.place, "is not a target: it has no address, or a port or version that there is not",
                            "write dst-address=ADDRESS port=PORT version=ipfix")
         where = Destination(destination_name(address, int(port)), address, int(port), one.place, "udp",
                             one.values.get("vrf", ""), version)

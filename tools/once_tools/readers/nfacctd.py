@@ -89,7 +89,7 @@ class _Reading:
             try:
                 found.append(str(ipaddress.ip_network(sender)).removesuffix("/32").removesuffix("/128"))
             except ValueError:
-                self.log.lost(Place(source.name, number, text), "this is no address or prefix of a sender",
+                self.log.lost(Place(source.name, number, text), "this is not an address or prefix of a sender",
                               "write ip=ADDRESS")
         return found
 
@@ -144,7 +144,7 @@ class _Reading:
     def receiver(self, text: str, place: Place) -> Destination:
         words = re.fullmatch(r"\[([^\]\s]+)\]:([0-9]{1,5})|([^:\[\]\s]+):([0-9]{1,5})", text)
         if not words or not 0 < int(words[2] or words[4]) < 65536:
-            raise Unusable(place, f"{text!r} is no receiver", "write ADDRESS:PORT, or [ADDRESS]:PORT for IPv6")
+            raise Unusable(place, f"{text!r} is not a receiver", "write ADDRESS:PORT, or [ADDRESS]:PORT for IPv6")
         address, port = words[1] or words[3], int(words[2] or words[4])
         return Destination(destination_name(address, port), address, port, place)
 

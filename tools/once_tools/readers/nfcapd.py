@@ -38,7 +38,7 @@ class _Reading:
     def read(self) -> Device:
         text = self.options.get("-p", "9995")
         if not re.fullmatch("[0-9]{1,5}", text) or not 0 < int(text) < 65536:
-            raise Unusable(self.place, f"-p: {text} is no port", "write a number from 1 to 65535")
+            raise Unusable(self.place, f"-p: {text} is not a port", "write a number from 1 to 65535")
         if "-p" not in self.options:
             self.log.note(self.place, "without -p nfcapd listens at port 9995")
         listener = Listener(f"udp {text}", [(self.options.get("-b", "*"), int(text), "udp")], self.place,
@@ -56,7 +56,7 @@ class _Reading:
         for text in self.values("-n"):
             parts = text.split(",")
             if len(parts) != 3:
-                raise Unusable(self.place, f"-n: {text} is no source", "write -n IDENT,ADDRESS,DIRECTORY")
+                raise Unusable(self.place, f"-n: {text} is not a source", "write -n IDENT,ADDRESS,DIRECTORY")
             senders.append(parts[1])
         if not senders or "-M" in self.options:
             return None
@@ -69,7 +69,7 @@ class _Reading:
             address, _, port = text.partition("/")
             port = port or "9995"
             if not address or not re.fullmatch("[0-9]{1,5}", port) or not 0 < int(port) < 65536:
-                raise Unusable(self.place, f"-R: {text} is no receiver", "write -R HOST/PORT")
+                raise Unusable(self.place, f"-R: {text} is not a receiver", "write -R HOST/PORT")
             found.destinations.append(Destination(destination_name(address, int(port)), address, int(port), self.place))
         names = ", ".join(f"{one.address}:{one.port}" for one in found.destinations)
         self.log.note(self.place, f"-R: each record is forwarded as it is, to {names}", exporters=(REPEATER,))

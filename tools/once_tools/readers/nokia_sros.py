@@ -52,7 +52,7 @@ class _Reading:
         self.interfaces: dict[str, Interface] = {}
         self.uses: list[Use] = []
         found = [one for source in sources for one in statements(source)]
-        if not any("cflowd" in one.words or "interface" in one.words for one in found):
+        if not any("cflowd" in one.words or one.words[0] in ("configure", "/configure") for one in found):
             raise Unusable(sources[0].place(0), "has no statement of SR OS",
                            "give the output of `admin display-config`")
         for one in found:
@@ -85,7 +85,7 @@ class _Reading:
     def collector(self, words: list[str], place: Place) -> None:
         found = re.fullmatch(r"\[?([0-9A-Fa-f.:]+?)\]?(?::([0-9]{1,5}))?", words[0])
         if not found or not 0 < int(found[2] or 2055) < 65536:
-            raise Unusable(place, f"{words[0]} is no collector", "write ADDRESS:PORT")
+            raise Unusable(place, f"{words[0]} is not a collector", "write ADDRESS:PORT")
         one = self.collectors.setdefault(words[0], Collector(found[1], int(found[2] or 2055), place))
         rest = words[1:]
         if rest[:1] == ["version"] and len(rest) > 1 and rest[1] in ("5", "8", "9", "10"):
@@ -111,8 +111,8 @@ class _Reading:
     def use(self, name: str, words: list[str], place: Place) -> None:
         found = match(words, "cflowd-parameters sampling unicast type interface|acl")
         if found:
-            direction = found[2] if found[1:2] == ["direction"] and len(found) == 3 else ""
-            if len(found) > 1 and direction not in DIRECTIONS:
+            direction = found[2] if found[1:2] == ["direction"] and found[2:] and found[2] in DIRECTIONS else ""
+            if len(found) > 1 and (not direction or len(found) > 3):
                 self.log.unknown(place, " ".join(found[1:]), [f"direction {one}" for one in DIRECTIONS])
             self.uses.append(Use(name, found[0], direction, place))
         elif words[:3] == ["cflowd-parameters", "sampling", "multicast"]:

@@ -146,7 +146,7 @@ class _Reading:
         for text in row.texts("targets"):
             words = re.fullmatch(r"\[([^\]\s]+)\]:([0-9]{1,5})|([^:\[\]\s]+):([0-9]{1,5})", text)
             if not words or not 0 < int(words[2] or words[4]) < 65536:
-                raise Unusable(self.at(row), f"{what} of {name}: {text!r} is no target",
+                raise Unusable(self.at(row), f"{what} of {name}: {text!r} is not a target",
                                "write targets as ADDRESS:PORT")
             address, port = words[1] or words[3], int(words[2] or words[4])
             found.destinations.append(Destination(destination_name(address, port), address, port, self.at(row), "udp",

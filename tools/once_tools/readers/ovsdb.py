@@ -91,7 +91,7 @@ def _add(found: Database, document: object, place: Place, source: Source) -> Non
     headings = document.get("headings") if isinstance(document, dict) else None
     data = document.get("data") if isinstance(document, dict) else None
     if not isinstance(document, dict) or not isinstance(headings, list) or not isinstance(data, list):
-        raise Unusable(place, "is no table: it has no headings and data", "use --format=json, not --format=table")
+        raise Unusable(place, "is not a table: it has no headings and data", "use --format=json, not --format=table")
     columns = [str(one) for one in headings]
     table = _table_of(str(document.get("caption", "")), columns, source)
     if table is None:

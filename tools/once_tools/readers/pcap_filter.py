@@ -96,7 +96,7 @@ class _Parser:
         qualifiers = self.qualifiers()
         if self.place == start:
             if self.last is None or not self.is_identifier():
-                raise UnreadFilter(self.text(start), "is no primitive that this program reads")
+                raise UnreadFilter(self.text(start), "is not a primitive that this program reads")
             return self.identifier(self.last, start)
         if self.peek() == "(" and (qualifiers.kind or qualifiers.direction):
             self.last = qualifiers
@@ -180,7 +180,7 @@ class _Parser:
             return ipaddress.ip_network(f"{address}/{length}" if length else address)
         except ValueError as error:
             why = "has bits beyond its prefix length, which libpcap refuses" if "host bits" in str(error) else \
-                "is no address, prefix or primitive that this program reads"
+                "is not an address, prefix or primitive that this program reads"
             raise UnreadFilter(self.text(start), why) from None
 
     def at(self, end: str, network: ipaddress.IPv4Network | ipaddress.IPv6Network) -> list[Box]:
@@ -225,7 +225,7 @@ class _Parser:
 
     def number(self, word: str, most: int, start: int) -> int:
         if not re.fullmatch("[0-9]{1,6}", word) or int(word) > most:
-            raise UnreadFilter(self.text(start), f"is no number from 0 to {most}; names are not looked up")
+            raise UnreadFilter(self.text(start), f"is not a number from 0 to {most}; names are not looked up")
         return int(word)
 
 

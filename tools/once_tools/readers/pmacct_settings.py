@@ -74,7 +74,7 @@ class Settings:
         if found is None:
             return None
         if not re.fullmatch("[0-9]{1,10}", found.value) or not least <= int(found.value) <= most:
-            raise Unusable(found.place, f"{key} is no number from {least} to {most}", "write such a number")
+            raise Unusable(found.place, f"{key} is not a number from {least} to {most}", "write such a number")
         return int(found.value)
 
 
@@ -94,7 +94,7 @@ def plugins_of(found: Settings) -> list[Plugin]:
     for text in line.value.split(",") if line else []:
         match = PLUGIN.fullmatch(text)
         if match is None and text.strip():
-            raise Unusable(line.place if line else Place(""), f"{text.strip()!r} is no plugin",
+            raise Unusable(line.place if line else Place(""), f"{text.strip()!r} is not a plugin",
                            "write KIND or KIND[NAME]")
         if match:
             plugins.append(Plugin(match[1], match[2] or match[1]))
@@ -108,7 +108,7 @@ def plugins_of(found: Settings) -> list[Plugin]:
 def report_unknown(found: Settings, plugins: Sequence[Plugin], known: set[str], log: Log) -> None:
     """Reports lines that are no settings, keys that are not known, and settings of plugins that do not exist."""
     for place in found.others:
-        log.lost(place, "this line is no setting, and pmacct ignores it", "write KEY: VALUE, or KEY[PLUGIN]: VALUE")
+        log.lost(place, "this line is not a setting, and pmacct ignores it", "write KEY: VALUE, or KEY[PLUGIN]: VALUE")
     names = {one.name for one in plugins} | {f"default_{one.name}" for one in plugins}
     for one in found.lines:
         if not one.value:

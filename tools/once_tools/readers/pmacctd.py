@@ -109,7 +109,7 @@ class _Reading:
         text, place = (receiver.value, receiver.place) if receiver else ("127.0.0.1:2100", self.place("plugins"))
         words = re.fullmatch(r"\[([^\]\s]+)\]:([0-9]{1,5})|([^:\[\]\s]+):([0-9]{1,5})", text)
         if not words or not 0 < int(words[2] or words[4]) < 65536:
-            raise Unusable(place, f"{text!r} is no receiver", "write ADDRESS:PORT, or [ADDRESS]:PORT for IPv6")
+            raise Unusable(place, f"{text!r} is not a receiver", "write ADDRESS:PORT, or [ADDRESS]:PORT for IPv6")
         if receiver is None:
             self.log.note(place, f"no nfprobe_receiver for {name}: pmacctd sends to 127.0.0.1:2100", exporters=(name,))
         address, port = words[1] or words[3], int(words[2] or words[4])
@@ -195,7 +195,7 @@ class _Reading:
             kind, _, value = text.partition("=")
             if kind not in ("tcp", "tcp.rst", "tcp.fin", "udp", "icmp", "general", "maxlife", "expint") \
                     or not re.fullmatch("[0-9]{1,9}", value):
-                raise Unusable(self.place("nfprobe_timeouts", name), f"{text!r} is no timeout", "write NAME=SECONDS")
+                raise Unusable(self.place("nfprobe_timeouts", name), f"{text!r} is not a timeout", "write NAME=SECONDS")
             member = {"maxlife": "activeTimeout", "general": "idleTimeout"}.get(kind)
             if member:
                 found[member] = int(value)

@@ -17,7 +17,7 @@ from once_tools.source import Source
 
 OPTIONS = "i:r:p:c:m:n:v:L:T:t:6dDP:A:s:B:baC:lR:S:Nx:h"
 KEYS = (*ADDRESSES, "protocolIdentifier", *PORTS)
-# The flow keys of each track level, and what it tracks besides that is no axis.
+# The flow keys of each track level, and what it tracks besides that is not an axis.
 LEVELS = {"ip": (ADDRESSES, ""), "proto": (KEYS[:3], ""), "port": (KEYS, ""), "full": (KEYS, ""),
           "vlan": (KEYS, "the VLAN"),
           "ether": (KEYS, "the VLAN and the Ethernet addresses")}
@@ -103,7 +103,7 @@ class _Reading:
         for text in self.options["-n"].split(","):
             words = re.fullmatch(r"\[([^\]\s]+)\]:([0-9]{1,5})|([^:\[\]\s]+):([0-9]{1,5})", text.strip())
             if not words or not 0 < int(words[2] or words[4]) < 65536:
-                raise self.refuse(f"-n: {text} is no destination",
+                raise self.refuse(f"-n: {text} is not a destination",
                                   "write HOST:PORT, or [ADDRESS]:PORT for IPv6, with the port's number")
             address, port = words[1] or words[3], int(words[2] or words[4])
             one = Destination(destination_name(address, port), address, port, self.place, transport, "",
@@ -147,12 +147,12 @@ class _Reading:
         flows = self.options.get("-m")
         if flows is not None:
             if not re.fullmatch("[0-9]{1,9}", flows) or int(flows) == 0:
-                raise self.refuse(f"-m: {flows} is no number of flows", "write a number from 1")
+                raise self.refuse(f"-m: {flows} is not a number of flows", "write a number from 1")
             found["maxFlows"] = int(flows)
         for text in [value for option, value in self.given if option == "-t"]:
             name, _, time = text.partition("=")
             if name not in TIMEOUTS:
-                raise self.refuse(f"-t: there is no timeout {name}",
+                raise self.refuse(f"-t: there is not a timeout {name}",
                                   f"write NAME=TIME with one of {', '.join(TIMEOUTS)}")
             seconds = self.seconds(time)
             member = {"maxlife": "activeTimeout", "general": "idleTimeout"}.get(name)
@@ -163,7 +163,7 @@ class _Reading:
     def seconds(self, text: str) -> int:
         """Returns the seconds of a time such as 90, 1m30s, 2h."""
         if not re.fullmatch(r"(?i)([0-9]{1,9}[smhdw]?)+", text):
-            raise self.refuse(f"-t: {text} is no time", "write seconds, or a time such as 1h30m")
+            raise self.refuse(f"-t: {text} is not a time", "write seconds, or a time such as 1h30m")
         found = sum(int(count) * UNITS[unit.lower()] for count, unit in re.findall(r"([0-9]+)([a-zA-Z]?)", text))
         return min(found, 2**32 - 1)
 
@@ -192,7 +192,7 @@ class _Reading:
                      "not for this host")
         finer = LEVELS[self.level()][1]
         if finer:
-            log.note(self.place, f"-T {self.level()}: {finer} is no axis and is left out of the flow keys: records are "
+            log.note(self.place, f"-T {self.level()}: {finer} is not an axis and is left out of the flow keys: records are "
                      f"finer, their sums the "
                      "same", exporters=bears_on)
         if "sourceTransportPort" in LEVELS[self.level()][0]:
