@@ -36,8 +36,8 @@ def counted_twice(counted: list[Sighting], name: str, path: Sequence[Json]) -> l
     """Returns what is to be said of a packet that is counted more than once."""
     first = counted[0]
     if len(counted) == 1:
-        return [finding(first, f"'{name}': the record of one packet comes to the report in {first.ways} ways, so each "
-                               "packet counts so often", "send it to the report once")]
+        return [finding(first, f"'{name}': the record of one packet reaches the report in {first.ways} ways, so each "
+                               "packet counts that many times", "send it to the report once")]
     found = []
     for other in counted[1:]:
         other_line = other.device.describe(other.pointer)
@@ -51,7 +51,7 @@ def counted_twice(counted: list[Sighting], name: str, path: Sequence[Json]) -> l
         else:
             says = f"this and {other_line} meter the same packets: '{name}' {how}, so each counts twice"
         found.append(finding(first, says, "meter input on all interfaces and output on none" if turned else
-                             "meter where packets come into the network, and nowhere behind it"))
+                             "meter where packets come into the network, and nowhere after that"))
     return found
 
 

@@ -31,7 +31,7 @@ def normal(address: str) -> str:
 
 
 def endpoint_of(text: str) -> Endpoint | None:
-    """Returns what `ADDRESS:PORT`, `[ADDRESS]:PORT`, `*:PORT` or `ADDRESS` spells, with `/udp` and the like behind it."""
+    """Returns what `ADDRESS:PORT`, `[ADDRESS]:PORT`, `*:PORT` or `ADDRESS` spells, perhaps with `/udp`, `/tcp` or `/sctp`."""
     match = SPELLED.match(text.strip())
     if match is None:
         return None

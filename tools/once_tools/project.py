@@ -61,7 +61,7 @@ class CollectorEntry:
 
 @dataclass(frozen=True)
 class AddressEntry:
-    """An address that exporters send to, with the addresses that are behind it."""
+    """An address that exporters send to, with the addresses that it stands for."""
 
     given: str
     real: tuple[str, ...]
