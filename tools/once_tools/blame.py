@@ -96,7 +96,7 @@ def judged(view: NetworkView, sightings: list[Sighting], path: Sequence[Json], n
         return [finding(one, f"this counts '{name}', which is exempt: {packet_words(packet)} {metered_at(one)}",
                         "take the monitor off, or declare the traffic as counted") for one in [*counted, *unassigned]]
     if unassigned:
-        return [finding(one, f"records of '{name}' come to the report without its key (unassigned): {line} made them", "keep "
+        return [finding(one, f"records of '{name}' reach the report without its key (unassigned): {line} made them", "keep "
                         "the key of the report, or ask for another report") for one in unassigned for line in one.unread]
     if sum(one.ways for one in counted) > 1:
         return counted_twice(counted, name, path)

@@ -1,4 +1,4 @@
-"""What can come to the report and what cannot: lost destinations, keys that cannot be read, and findings that do not
+"""What can reach the report and what cannot: lost destinations, keys that cannot be read, and findings that do not
 bear on the report."""
 from __future__ import annotations
 
@@ -19,7 +19,7 @@ def known_ends(network: Network, to: Destination) -> str:
 
 
 def others_lead(device: Device, exporter: Exporter, leading: set[Process]) -> bool:
-    """Returns whether all that is given to an exporter comes to the report by another exporter too."""
+    """Returns whether all that is given to an exporter reaches the report by another exporter too."""
     holders = [one.exporters for one in device.caches] + [exporters_of_listener(one) for one in device.listeners]
     fed = [names for names in holders if exporter.name in names]
     return bool(fed) and all(any((device.name, name) in leading for name in names if name != exporter.name)
@@ -28,7 +28,7 @@ def others_lead(device: Device, exporter: Exporter, leading: set[Process]) -> bo
 
 def report_destination(network: Network, device: Device, exporter: Exporter, to: Destination, leads: set[Process],
                        listeners: set[Process]) -> None:
-    """Reports a destination from which nothing comes to the report, where something else does or should."""
+    """Reports a destination from which nothing reaches the report, where something else does or should."""
     link = network.link_of(device.name, exporter.name, to.name)
     if link and (link.to_device, link.to_process) in listeners:
         return
@@ -36,7 +36,7 @@ def report_destination(network: Network, device: Device, exporter: Exporter, to:
     chooses = exporter.mode != "parallel" and (device.name, exporter.name) in leads
     first = next((one for one in exporter.destinations if one is not to), to)
     if chooses:
-        lost = f"this is {link.to_device}, from which nothing comes to the report of {collector}" if link else \
+        lost = f"this is {link.to_device}, from which nothing reaches the report of {collector}" if link else \
             f"(port {to.port}) is no collector of the project"
         says = f"{lost}: while the first destination ({first.place.file}:{first.place.line}) is not used, packets are lost"
         todo = (f"have {link.to_device} forward what it receives ([[collectors]] forwards), or bill by a collector that "
@@ -51,7 +51,7 @@ def report_destination(network: Network, device: Device, exporter: Exporter, to:
         else:
             add(network, Grade.WARNING, to.place,
                 f"{says}, so what is sent there is lost, and {exporter.name} has no other destination: what it sends does "
-                f"not come to the report of {collector}. Known are {known_ends(network, to)}",
+                f"not reach the report of {collector}. Known are {known_ends(network, to)}",
                 "point the exporter there, or add the collector under [[collectors]]", device, ())
 
 
@@ -133,7 +133,7 @@ def lowered(findings: list[Finding], leading: set[Process]) -> list[Finding]:
         bears = not one.exporters or any((one.device, name) in leading for name in one.exporters)
         if one.grade in LOWERED and not bears:
             names = " and ".join(dict.fromkeys(one.exporters))
-            says = f"{one.says} (this is sent by {names} alone, from which nothing comes to the report)"
+            says = f"{one.says} (this is sent by {names} alone, from which nothing reaches the report)"
             one = replace(one, grade=Grade.NOTE, says=says, todo="")
         found.append(one)
     return found

@@ -45,7 +45,7 @@ def exporters_of_listener(listener: Listener) -> list[str]:
 
 
 def leading_listeners(network: Network) -> set[Process]:
-    """Returns the listeners from which records come to the report, with that of the report itself."""
+    """Returns the listeners from which records reach the report, with that of the report itself."""
     feeds: dict[Process, set[Process]] = {}
     for device in network.devices:
         for listener in device.listeners:
@@ -61,13 +61,13 @@ def leading_listeners(network: Network) -> set[Process]:
 
 
 def leading_exporters(network: Network) -> set[Process]:
-    """Returns the exporters some of whose records come to the report."""
+    """Returns the exporters some of whose records reach the report."""
     listeners = leading_listeners(network)
     return {(link.device, link.exporter) for link in network.links if (link.to_device, link.to_process) in listeners}
 
 
 def is_leading(device: Device, point: Point, leading: set[Process]) -> bool:
-    """Returns whether records of a point's packets come to the report."""
+    """Returns whether records of a point's packets reach the report."""
     caches = {one.cache for one in point.selections}
     return any((device.name, name) in leading for cache in device.caches if cache.name in caches
                for name in cache.exporters)

@@ -1,4 +1,4 @@
-"""A network document, asked what becomes of a packet: where it is metered, and how its records come to the report."""
+"""A network document, asked what becomes of a packet: where it is metered, and how its records reach the report."""
 from __future__ import annotations
 
 import ipaddress
@@ -87,7 +87,7 @@ class DeviceView:
 
 @dataclass
 class Sighting:
-    """A selection process that takes a packet at a crossing, and in how many ways its record comes to the report."""
+    """A selection process that takes a packet at a crossing, and in how many ways its record reaches the report."""
 
     device: DeviceView
     crossing: int
@@ -180,7 +180,7 @@ class NetworkView:
                                    cache[0] if cache else None)
 
     def follow(self, sighting: Sighting, choices: Sequence[int]) -> None:
-        """Counts in how many ways the record of a sighting comes to the report, and where else it goes."""
+        """Counts in how many ways the record of a sighting reaches the report, and where else it goes."""
         if sighting.cache is None:
             return
         cache = sighting.device.list("cache")[sighting.cache]
@@ -225,7 +225,7 @@ class NetworkView:
         onward = texts(process[1].get("exportingProcess"))
         sums = entries(process[1].get(AGGREGATION))
         if not arrived and not onward and not sums:
-            sighting.lost.append(f"{sent} leads to {device.name}, from which nothing comes to the report")
+            sighting.lost.append(f"{sent} leads to {device.name}, from which nothing reaches the report")
         for name in onward:
             self.send(sighting, device, name, key, made, [])
         for number, one in enumerate(sums):
