@@ -135,10 +135,15 @@ def is_needed(device: Device, named: set[str], network: Network) -> bool:
     return bool(device.points or device.listeners) or device.name in named or device.name == network.report[0]
 
 
+def needed(network: Network, classes: list[TrafficClass]) -> list[Device]:
+    """Returns the devices that a document must have."""
+    named = {one.device for each in classes for path in each.paths for one in path}
+    return [one for one in network.devices if is_needed(one, named, network)]
+
+
 def network_document(network: Network, key: list[KeyField], classes: list[TrafficClass], faithful: bool = False) -> Json:
     """Returns the network document."""
-    named = {one.device for each in classes for path in each.paths for one in path}
-    devices = [one for one in network.devices if is_needed(one, named, network)]
+    devices = needed(network, classes)
     kept = {one.name for one in devices}
     return {
         "devices": [{"name": one.name, "config": config_of(one, faithful)} for one in devices],

@@ -6,13 +6,13 @@ from dataclasses import dataclass, field, replace
 from pathlib import Path
 
 from once_tools.coverage import uncrossed
-from once_tools.documents import Json, network_document, text_of, traffic_document
+from once_tools.documents import Json, needed, network_document, text_of, traffic_document
 from once_tools.keys import KeyField
 from once_tools.leads import report_destinations, report_keys
 from once_tools.load import load_devices
 from once_tools.meaning import meaning_of
 from once_tools.merge import all_findings, merge
-from once_tools.model import Device, Finding, Grade, TrafficClass
+from once_tools.model import Device, Finding, Grade, Place, TrafficClass
 from once_tools.network import Network
 from once_tools.paths import cut_to_metered, declare, limit_findings
 from once_tools.project import PathOptions, Project
@@ -21,6 +21,8 @@ from once_tools.report import Report
 from once_tools.report_key import with_key
 from once_tools.rest import cut_others
 from once_tools.versions import Edition, classes_of, editions_of, versions_of
+
+MOST_DEVICES = 64
 
 
 @dataclass(frozen=True)
@@ -78,6 +80,14 @@ def check_accepts(project: Project) -> list[Finding]:
             for one in project.accept if one.device not in names]
 
 
+def too_many(network: Network, classes: list[TrafficClass], place: Place) -> list[Finding]:
+    """Reports devices that are more than a document of `once` may hold."""
+    count = len(needed(network, classes))
+    return [] if count <= MOST_DEVICES else [Finding(
+        Grade.WRONG, place, f"{count} devices meter, collect or are on paths with meters, and a document holds {MOST_DEVICES}",
+        "take devices out of the project whose packets are no part of this report")]
+
+
 def pairs_of(network: Network, classes: list[TrafficClass], editions: list[Edition], options: Options,
              findings: list[Finding], project: Project) -> list[Pair]:
     """Returns a pair of documents for each edition that has traffic."""
@@ -89,7 +99,7 @@ def pairs_of(network: Network, classes: list[TrafficClass], editions: list[Editi
                                     "nothing is said about its packets") if edition.version else
                             Finding(Grade.WRONG, project.report.place, "no traffic is declared", "add [[traffic]]"))
             continue
-        findings += limit_findings(mine, project.report.place)
+        findings += limit_findings(mine, project.report.place) + too_many(network, mine, project.report.place)
         report_keys(network, list(edition.key), {version for one in mine for version in versions_of(one)})
         found.append(Pair(edition.folder, network_document(network, list(edition.key), mine, options.faithful),
                           traffic_document(mine), mine, edition.key))

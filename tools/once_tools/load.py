@@ -2,6 +2,7 @@
 from __future__ import annotations
 
 from dataclasses import replace
+from typing import Mapping
 
 from once_tools.endpoints import Endpoint, endpoint_of
 from once_tools.model import Device, Finding, Grade, Listener, Place, Unusable
@@ -44,6 +45,22 @@ def chosen_reader(kind: str, sources: list[Source], place: Place) -> Reader:
     return READERS[found]
 
 
+def read_by(reader: Reader, name: str, sources: list[Source], options: Mapping[str, str]) -> Device:
+    """Returns what a reader makes of texts; how well the meaning of the kind's statements is established is reported."""
+    device = reader.read(name, sources, options)
+    place = Place(sources[0].name)
+    if reader.certainty == "unsure":
+        device.findings.append(Finding(
+            Grade.PREMISE, place, f"how devices of kind {reader.kind} meter was read of the vendor's documents and not tried: an "
+            "answer holds if they do as the report says", "compare totals with counters of the device, and its templates by "
+            "`once-import template`"))
+    elif reader.certainty == "fairly":
+        device.findings.append(Finding(Grade.NOTE, place, f"how devices of kind {reader.kind} meter was read of the vendor's "
+                                       "documents, and not tried on a device"))
+    device.findings = of_device(device.findings, name)
+    return device
+
+
 def load_device(project: Project, entry: DeviceEntry) -> Device:
     """Returns the device of an entry; raises `Unusable`."""
     if not entry.config:
@@ -54,9 +71,7 @@ def load_device(project: Project, entry: DeviceEntry) -> Device:
         return Device(entry.name, entry.kind or "host", [])
     sources = project.sources(entry.config, entry.place)
     kind = entry.meter or ("" if entry.kind in PLAIN else entry.kind)
-    device = chosen_reader(kind, sources, entry.place).read(entry.name, sources, entry.options)
-    device.findings = of_device(device.findings, entry.name)
-    return device
+    return read_by(chosen_reader(kind, sources, entry.place), entry.name, sources, entry.options)
 
 
 def listener_of(entry: CollectorEntry, findings: list[Finding]) -> Listener:
@@ -95,8 +110,7 @@ def load_collector(project: Project, entry: CollectorEntry, findings: list[Findi
     """Returns a collector as a device; raises `Unusable`."""
     if entry.config:
         sources = project.sources(entry.config, entry.place)
-        device = chosen_reader(entry.kind, sources, entry.place).read(entry.name, sources, entry.options)
-        device.findings = of_device(device.findings, entry.name)
+        device = read_by(chosen_reader(entry.kind, sources, entry.place), entry.name, sources, entry.options)
         device = with_addresses(device, entry.addresses)
         for listener in device.listeners:
             if entry.accept_from is not None:

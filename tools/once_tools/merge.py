@@ -1,19 +1,18 @@
 """Joins the devices and collectors of a project into a network."""
 from __future__ import annotations
 
-from dataclasses import replace
-
 from once_tools.choosing import choose
 from once_tools.endpoints import endpoint_of
 from once_tools.keys import key_of
 from once_tools.leads import lowered, prune
 from once_tools.links import Addresses, Linker, spread
-from once_tools.model import Aggregation, Destination, Device, Exporter, Finding, Grade, Place, Point
+from once_tools.model import Aggregation, Destination, Device, Exporter, Finding, Grade, Place
+from once_tools.names import make_unique
 from once_tools.network import Network, leading_exporters
 from once_tools.project import CollectorEntry, Project
 from once_tools.toml_table import nearest
 
-MOST_DEVICES, MOST_LINKS, MOST_PROCESSES, MOST_ENTRIES, MOST_INTERFACES = 64, 1024, 256, 256, 256
+MOST_LINKS, MOST_PROCESSES, MOST_ENTRIES = 1024, 256, 256
 
 
 def is_same_host(hostname: str, device: Device, aliases: tuple[str, ...]) -> bool:
@@ -39,17 +38,6 @@ def check_names(project: Project, devices: list[Device]) -> list[Finding]:
         if host:
             seen.setdefault(host, device.name)
     return findings
-
-
-def split_points(device: Device) -> None:
-    """Splits points of more interfaces than a document may have."""
-    found: list[Point] = []
-    for point in device.points:
-        for start in range(0, max(len(point.interfaces), 1), MOST_INTERFACES):
-            name = point.name if not start else f"{point.name} {start // MOST_INTERFACES + 1}"
-            found.append(replace(point, name=name, interfaces=point.interfaces[start:start + MOST_INTERFACES],
-                                 interface_places=point.interface_places[start:start + MOST_INTERFACES]))
-    device.points = found
 
 
 def first_end(device: Device) -> tuple[str, int, str]:
@@ -123,15 +111,6 @@ def check_limits(network: Network, place: Place) -> None:
                                             "take devices or monitors out of the project that do not bear on the report"))
 
 
-def unique_listeners(device: Device) -> None:
-    """Gives listeners of one name names of their own."""
-    seen: dict[str, int] = {}
-    for one in device.listeners:
-        seen[one.name] = seen.get(one.name, 0) + 1
-        if seen[one.name] > 1:
-            one.name = f"{one.name} {seen[one.name]}"
-
-
 def merge(project: Project, devices: list[Device], collectors: list[Device]) -> Network:
     """Returns the network of a project; findings that do not bear on its report are notes."""
     by_name = {one.name: one for one in collectors}
@@ -142,9 +121,8 @@ def merge(project: Project, devices: list[Device], collectors: list[Device]) -> 
         if entry.name in by_name:
             forward(entry, by_name, network)
     for device in network.devices:
-        unique_listeners(device)
         spread(device, addresses)
-        split_points(device)
+        make_unique(device)
     report_listener(project, network, by_name)
     Linker(network, addresses).link_all()
     for entry in project.collectors:

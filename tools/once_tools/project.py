@@ -314,6 +314,12 @@ class _Parser:
                 place = place if place.line else self.places.place("", 0, name)
                 self.wrong(place, f"no table '{name}'", nearest(name, self.MEMBERS))
 
+    def names(self, kind: str, entries: list[tuple[str, Place]]) -> None:
+        """Reports names that a document may not have."""
+        for name, place in entries:
+            if name and (name != name.strip() or len(name.encode("utf-8", "replace")) > 255):
+                self.wrong(place, f"'{name}' is no name of a {kind}", "write 1 to 255 octets without white space at either end")
+
     def twice(self, kind: str, entries: list[tuple[str, Place]]) -> None:
         seen: dict[str, Place] = {}
         for name, place in entries:
@@ -343,9 +349,11 @@ def parse_project(source: Source, folder: Path) -> Project:
         _accepts(single["accept"]), parser.findings)
     _ended([*single.values(), *lists["devices"], *lists["collectors"], *lists["traffic"]])
     parser.unknown()
-    parser.twice("device", [(one.name, one.place) for one in project.devices]
-                 + [(one.name, one.place) for one in project.collectors])
-    parser.twice("traffic", [(one.name, one.place) for one in project.traffic])
+    devices = [(one.name, one.place) for one in project.devices] + [(one.name, one.place) for one in project.collectors]
+    traffic = [(one.name, one.place) for one in project.traffic]
+    for kind, entries in (("device", devices), ("traffic", traffic)):
+        parser.names(kind, entries)
+        parser.twice(kind, entries)
     return project
 
 

@@ -1,10 +1,12 @@
 """What all tests need: the package on the path, and the program `once`."""
 from __future__ import annotations
 
+import importlib
 import os
 import shutil
 import sys
 from pathlib import Path
+from typing import Any
 
 import pytest
 
@@ -21,6 +23,17 @@ def needed(name: str, *places: str | Path) -> str:
         if found:
             return found
     reason = f"there is no program {name}"
+    if os.environ.get("CI") == "true":
+        pytest.fail(reason)
+    pytest.skip(reason)
+
+
+def module(name: str) -> Any:
+    """Returns a module; without it the test is skipped, or fails if CI is `true`."""
+    try:
+        return importlib.import_module(name)
+    except ImportError:
+        reason = f"there is no module {name}"
     if os.environ.get("CI") == "true":
         pytest.fail(reason)
     pytest.skip(reason)

@@ -164,6 +164,16 @@ def test_vlan_configuration() -> None:
     assert any(one.grade is Grade.PREMISE for one in device.findings)
 
 
+@pytest.mark.parametrize("line, members", [
+    ("switchport access vlan 10", ["Vlan10"]), ("switchport trunk allowed vlan 10-11", ["Vlan10", "Vlan11"]),
+    ("switchport trunk allowed vlan except 10", ["Vlan11", "Vlan20"]), ("switchport trunk allowed vlan none", []),
+    ("switchport mode trunk", ["Vlan10", "Vlan11", "Vlan20"]), ("channel-group 3 mode active", ["Port-channel3"])])
+def test_members_of_vlans_and_bundles(line: str, members: list[str]) -> None:
+    text = RECORD + "".join(f"interface Vlan{one}\n ip flow monitor M input\n" for one in (10, 11, 20))
+    device = read(text + f"interface GigabitEthernet1/0/1\n {line}\n")
+    assert [one.name for one in device.interfaces if "GigabitEthernet1/0/1" in one.members] == members
+
+
 def test_banner_is_no_configuration() -> None:
     text = interface("ip flow monitor M input") + "banner motd ^C\ninterface GigabitEthernet0/9\n ip flow ingress\n^C\n"
     assert len(read(text).interfaces) == 1
@@ -193,6 +203,17 @@ def test_parallel_destinations_of_classic_netflow() -> None:
     device = read(text)
     assert [(one.name, one.mode, len(one.destinations)) for one in device.exporters] == [("ip flow-export", "parallel", 2)]
     assert [one.name for one in device.points] == ["ip flow ingress", "ip flow egress"]
+
+
+def test_the_order_of_sections_does_not_matter() -> None:
+    text = (SAMPLES / "cisco-ios-xe" / "edge-1.cfg").read_text()
+    parts = text.split("\n!\n")
+    turned = "\n!\n".join([*reversed(parts[:-1]), parts[-1]])
+    plain, changed = read(text), read(turned)
+    assert {one.name: (sorted(one.interfaces), one.direction) for one in plain.points} == {
+        one.name: (sorted(one.interfaces), one.direction) for one in changed.points}
+    assert {one.name: ([each.element for each in one.fields], one.exporters) for one in plain.caches} == {
+        one.name: ([each.element for each in one.fields], one.exporters) for one in changed.caches}
 
 
 def test_comments_and_ends_of_lines_change_nothing() -> None:

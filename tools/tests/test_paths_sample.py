@@ -50,7 +50,8 @@ def test_traffic_of_the_sample() -> None:
     assert says(declaration.findings) == [
         "note: 'B up' names no ingress: packets from 10.2.0.0/16 are taken to come in where routes to them lead out: "
         "edge-1:eth1",
-        "note: border-1 drops packets to 10.3.0.0/16: it has no route for them, or one that discards"]
+        "note: border-1 drops packets to 10.3.0.0/16: it has no route for them, or one that discards",
+        "note: packets that the routers themselves send and receive are in no class"]
 
 
 @pytest.mark.parametrize("network", ["document", "devices"])

@@ -273,3 +273,26 @@ def test_all_streams_are_written_or_none(tmp_path: Path) -> None:
     (tmp_path / "file").write_text("")
     with pytest.raises(Unusable):
         write_streams(streams, tmp_path / "file")
+
+
+@pytest.mark.parametrize("name", [PMACCTD, "stream-with-options-a-withdrawal-and-a-gap", "stream-with-addresses-of-ipv6",
+                                  "stream-with-five-gaps"])
+def test_collect_reads_what_is_written_of_damaged_messages(tmp_path: Path, name: str) -> None:
+    """What `once collect` refuses has been reported with the number of its refusal, and gaps are counted alike."""
+    need("once")
+    draw = random.Random(name)
+    for _ in range(6):
+        messages = [bytearray(one) for one in row(name)]
+        for _ in range(draw.randint(1, 4)):
+            damaged = draw.choice(messages)
+            damaged[draw.randrange(len(damaged))] = draw.choice((0, 1, 255, draw.randrange(256)))
+        if draw.random() < 0.3:
+            draw.shuffle(messages)
+        streams, findings = streams_of(tmp_path, pcap(in_udp([bytes(one) for one in messages])))
+        answers = [collect(tmp_path, name, bytes(one.part.octets)) for one in streams]
+        for answer in answers:
+            if answer.startswith("refused"):
+                assert any(f"({answer.split()[1]})" in line for line in findings), answer
+        if len(answers) == 1 and answers[0].startswith("keys"):
+            gaps = int(answers[0].split("\ngaps ")[1].split()[0])
+            assert gaps == sum(int(line.split("): ")[1].split()[0]) for line in findings if "sequence number" in line)

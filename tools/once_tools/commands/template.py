@@ -42,8 +42,8 @@ def run(arguments: argparse.Namespace) -> int:
     if survey.unread:
         lines += [f"not read: {survey.unread} messages or parts of messages", ""]
     if not lines:
-        print(f"wrong {printable(arguments.capture.name)}: none of its {reading.frames} frames has a template; capture for longer, "
-              "since exporters send templates from time to time", file=sys.stderr)
+        print(f"wrong {printable(arguments.capture.name)}: none of its {reading.frames} frames has a template; capture for "
+              "longer, since exporters send templates from time to time", file=sys.stderr)
         return 2
     print("\n".join(printable(line) for line in lines[:-1]))
     return 0

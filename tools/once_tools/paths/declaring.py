@@ -35,6 +35,7 @@ class _Declaring:
     uses_roles: bool = False
 
     def wrong(self, place: Place, says: str, todo: str = "") -> None:
+        """Adds a finding for which no document can be written."""
         self.findings.append(Finding(Grade.WRONG, place, says, todo))
 
     def traffic(self, one: Traffic) -> None:
@@ -227,17 +228,24 @@ def declare(devices: list[Device], project: Project) -> Declaration:
     for one in project.traffic:
         making.traffic(one)
     making.pieces += outer_pieces(topology, making.tables, project, making.pieces)
+    control = control_pieces(topology, Place(project.file))
     if project.paths.control:
-        making.pieces += control_pieces(topology, Place(project.file))
+        making.pieces += control
+    elif control:
+        making.findings.append(Finding(Grade.NOTE, Place(project.file), "packets that the routers themselves send and receive "
+                                       "are in no class", "write control = true under [paths] to declare them as exempt"))
     metered = metered_by(devices)
     pieces = []
     for piece in making.pieces:
         try:
-            paths = tuple(dict.fromkeys(each for path in piece.paths for each in layered(path, topology, metered, piece.place)))
+            paths = tuple(dict.fromkeys(
+                each for path in piece.paths for each in layered(path, topology, metered, piece.place)))
             pieces.append(replace(piece, paths=beginnings(paths) if project.paths.may_drop else paths))
         except Unusable as error:
             making.findings.append(error.finding)
-    findings = topology.findings + [each for moments in making.tables.values() for tables in moments for each in tables.findings]
+    findings = list(topology.findings)
+    for moments in making.tables.values():
+        findings += [each for tables in moments for each in tables.findings]
     findings += making.findings + _premises(devices, project, pieces)
     return Declaration(pieces, topology, list(dict.fromkeys(findings)), _meaning(making))
 

@@ -19,14 +19,17 @@ class Span:
 
     @property
     def first(self) -> Address:
+        """The lowest address."""
         return ipaddress.IPv4Address(self.low) if self.version == 4 else ipaddress.IPv6Address(self.low)
 
     @property
     def last(self) -> Address:
+        """The highest address."""
         return ipaddress.IPv4Address(self.high) if self.version == 4 else ipaddress.IPv6Address(self.high)
 
     @property
     def is_all(self) -> bool:
+        """Whether all addresses of the version are in it."""
         return self.low == 0 and self.high == (1 << BITS[self.version]) - 1
 
     def __str__(self) -> str:

@@ -79,6 +79,7 @@ class Tables:
             self.by_vrf.setdefault(vrf, Table()).add(Route(network, tuple(hops), place))
 
     def note(self, grade: Grade, place: Place, says: str, todo: str = "") -> None:
+        """Adds a finding."""
         self.findings.append(Finding(grade, place, says, todo))
 
 

@@ -33,8 +33,9 @@ class Topology:
         readable = [text for text in interface.addresses if is_interface_address(text)]
         for text in interface.addresses:
             if text not in readable and re.search(r"\d", text):
-                self.findings.append(Finding(Grade.NOT_CARRIED_OVER, interface.place, f"'{text}' of {device} {interface.name} is no "
-                                             "address with a length: links and paths do not know of it", "correct the address"))
+                self.findings.append(Finding(Grade.NOT_CARRIED_OVER, interface.place, f"'{text}' of {device} "
+                                             f"{interface.name} is no address with a length: links and paths do not know of "
+                                             "it", "correct the address"))
         known.addresses = [text for text in dict.fromkeys([*known.addresses, *readable]) if is_interface_address(text)]
         for text in readable:
             address = address_of(text)
@@ -51,6 +52,7 @@ class Topology:
                 ends.append(other)
 
     def wrong(self, place: Place, says: str, todo: str) -> None:
+        """Adds a finding for which no document can be written."""
         self.findings.append(Finding(Grade.WRONG, place, says, todo))
 
     def device(self, name: str, place: Place) -> str | None:

@@ -15,6 +15,7 @@ MOST_RECURSION = 8
 
 
 def crossing(node: Node, direction: Direction) -> Crossing:
+    """Returns the crossing of an interface in a direction."""
     return Crossing(node[0], node[1], direction)
 
 
@@ -72,6 +73,7 @@ class Target:
 
     @property
     def is_single(self) -> bool:
+        """Whether the address is the only one."""
         return self.what == str(self.address)
 
 
@@ -164,11 +166,11 @@ class Walker:
 
     def _drop(self, device: str, target: Target) -> None:
         if device in self.tables:
-            finding = Finding(Grade.NOTE, target.place, f"{device} drops packets to {target.what}: it has no route for them, or one that "
-                              "discards")
+            finding = Finding(Grade.NOTE, target.place, f"{device} drops packets to {target.what}: it has no route for them, "
+                              "or one that discards")
         else:
-            finding = Finding(Grade.WRONG, target.place, f"packets to {target.what} reach {device}, whose routing table is not given",
-                              "add routes to this device, or declare the traffic with 'from' and 'to'")
+            finding = Finding(Grade.WRONG, target.place, f"packets to {target.what} reach {device}, whose routing table is "
+                              "not given", "add routes to this device, or declare the traffic with 'from' and 'to'")
         self.findings[finding] = None
 
     def _loop(self, devices: list[str], target: Target) -> None:

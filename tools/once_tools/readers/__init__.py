@@ -49,6 +49,19 @@ ALIASES = {
     "ios-xe": "cisco-ios",
     "iosxe": "cisco-ios",
     "cisco-ios-xe": "cisco-ios",
+    "ios-xr": "cisco-xr",
+    "cisco-ios-xr": "cisco-xr",
+    "juniper": "junos",
+    "juniper-junos": "junos",
+    "ovs": "openvswitch",
+    "open-vswitch": "openvswitch",
+    "eos": "arista-eos",
+    "arista": "arista-eos",
+    "routeros": "mikrotik",
+    "sros": "nokia-sros",
+    "nokia": "nokia-sros",
+    "huawei-vrp": "huawei",
+    "vrp": "huawei",
 }
 
 

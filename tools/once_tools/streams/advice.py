@@ -43,7 +43,9 @@ def _counters(use: Use, fields: dict[int, int]) -> Iterator[str]:
         name = NAMES[delta]
         if delta in fields and fields[delta] == VARIABLE:
             yield f"{name} has a variable length: `once collect` refuses the template (618)"
-        elif delta in fields and fields[delta] != 8:
+        elif delta in fields and not 1 <= fields[delta] <= 8:
+            yield f"{name} has {fields[delta]} octets, which no counter has: `once collect` refuses the template (618)"
+        elif delta in fields and fields[delta] < 8:
             most = f"{(1 << 8 * fields[delta]):,}"
             yield (f"{name} has {fields[delta]} octets: the document says 8, and speaks of records below {most}; `once collect` "
                    "refuses the template (618). Have the exporter send 8 octets")

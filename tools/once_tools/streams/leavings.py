@@ -36,8 +36,11 @@ SENTENCES: dict[Cause, tuple[Grade, str, str]] = {
         Grade.WARNING, "{n} times a template is defined anew with other fields (616): a new stream begins there, and records of "
         "templates that are not repeated after it are left out", "total the parts with `once sum`"),
     Cause.NARROW_COUNTER: (
-        Grade.WARNING, "counters shorter than 8 octets: {details}. `once collect` refuses the stream (618), because such a "
+        Grade.WARNING, "counters that have not 8 octets: {details}. `once collect` refuses the stream (618), because a shorter "
         "counter may have wrapped", "have the exporter send 8 octets"),
+    Cause.WRONG_LENGTH: (
+        Grade.WARNING, "fields with lengths that their elements cannot have: {details}. `once collect` refuses the stream (614)",
+        "look at the template with `once-import template`"),
     Cause.LOST_OCTETS: (
         Grade.NOT_CARRIED_OVER, "{amount} octets ({details}): the messages that they belong to are left out",
         "capture from the beginning of the connection, and without loss"),

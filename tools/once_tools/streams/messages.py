@@ -98,8 +98,6 @@ def templates_of(one: Set) -> Iterator[Template]:
     while len(body) - place >= 4:
         number, count = struct.unpack_from(">HH", body, place)
         place += 4
-        if number == 0 and count == 0:
-            return  # padding
         if number < FIRST_DATA and not (count == 0 and number == one.number):
             raise Malformed(f"has a template with the reserved number {number}")
         scope = 0
@@ -108,6 +106,8 @@ def templates_of(one: Set) -> Iterator[Template]:
                 raise Malformed(f"ends within template {number}")
             scope = struct.unpack_from(">H", body, place)[0]
             place += 2
+            if not 1 <= scope <= count:
+                raise Malformed(f"has options template {number} with {scope} scope fields of {count}")
         fields, place = _fields(body, place, count, number)
         yield Template(number, fields, scope, is_options)
 

@@ -38,6 +38,7 @@ class Packet:
 
     @property
     def is_fragment(self) -> bool:
+        """Whether it is a part of a packet."""
         return self.more_fragments or self.offset > 0
 
 

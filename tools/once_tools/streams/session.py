@@ -5,11 +5,15 @@ import enum
 import hashlib
 from dataclasses import dataclass, field
 
-from once_tools.streams.messages import (FIRST_DATA, OPTIONS_TEMPLATES, TEMPLATES, Malformed, Message, Set, Template,
-                                         count_records, read_message, templates_of)
+from once_tools.streams.elements import name_of
+from once_tools.streams.messages import (FIRST_DATA, OPTIONS_TEMPLATES, TEMPLATES, VARIABLE, Malformed, Message, Set,
+                                         Template, count_records, read_message, templates_of)
 
 CYCLE = 1 << 32
 MOST_FRAMES_NAMED = 6
+# The lengths that `once collect` takes for the elements of a report's key, least and greatest.
+LENGTHS = {8: (4, 4), 12: (4, 4), 44: (4, 4), 45: (4, 4), 27: (16, 16), 28: (16, 16), 169: (16, 16), 170: (16, 16),
+           9: (1, 1), 13: (1, 1), 29: (1, 1), 30: (1, 1), 4: (1, 1), 5: (1, 1), 60: (1, 1), 7: (1, 2), 11: (1, 2)}
 
 
 class Cause(enum.Enum):
@@ -25,6 +29,7 @@ class Cause(enum.Enum):
     AHEAD = "template message ahead"
     TEMPLATE_CHANGED = "template changed"
     NARROW_COUNTER = "narrow counter"
+    WRONG_LENGTH = "wrong length"
     LOST_OCTETS = "lost octets"
     SCTP_STREAMS = "several SCTP streams"
 
@@ -39,6 +44,7 @@ class Tally:
     details: list[str] = field(default_factory=list)
 
     def add(self, frame: int, amount: int = 0, detail: str = "") -> None:
+        """Counts it once more."""
         self.count += 1
         self.amount += amount
         if len(self.frames) < MOST_FRAMES_NAMED and frame not in self.frames:
@@ -106,14 +112,19 @@ class Session:
             self.tally(Cause.MALFORMED, frame, 0, str(error))
 
     def _changes_a_template(self, message: Message, announced: dict[int, list[Template]]) -> bool:
+        """Whether a message defines a template that is in use with other fields."""
         withdrawn: set[int] = set()
+        here: dict[int, Template] = {}
         for template in (one for found in announced.values() for one in found):
-            known = self._templates.get((message.domain, template.number))
             if not template.fields:
                 withdrawn.add(template.number)
-            elif known and known != template and template.number not in withdrawn:
-                return not withdrawn & {TEMPLATES, OPTIONS_TEMPLATES}
-        return False
+                here.pop(template.number, None)
+                continue
+            if here.setdefault(template.number, template) != template:
+                raise Malformed(f"defines template {template.number} in two ways")
+        is_all = bool(withdrawn & {TEMPLATES, OPTIONS_TEMPLATES})
+        return not is_all and any(self._templates.get((message.domain, number), template) != template
+                                  for number, template in here.items() if number not in withdrawn)
 
     def _begin_again(self) -> None:
         self.parts.append(Part())
@@ -168,17 +179,25 @@ class Session:
     def _learn(self, domain: int, template: Template, frame: int) -> None:
         if template.fields:
             self._templates[domain, template.number] = template
-            for one in template.fields:
-                if one.enterprise == 0 and one.element in (1, 2) and one.length != 8 and not template.is_options:
-                    name = "octetDeltaCount" if one.element == 1 else "packetDeltaCount"
-                    self.tally(Cause.NARROW_COUNTER, frame, 0, f"{name} of {one.length} octets in template "
-                               f"{template.number}")
+            if not template.is_options:
+                self._look_at_lengths(template, frame)
         elif template.number in (TEMPLATES, OPTIONS_TEMPLATES):
             wanted = template.number == OPTIONS_TEMPLATES
             for key in [key for key, one in self._templates.items() if key[0] == domain and one.is_options == wanted]:
                 del self._templates[key]
         else:
             self._templates.pop((domain, template.number), None)
+
+    def _look_at_lengths(self, template: Template, frame: int) -> None:
+        """Notes fields for whose lengths `once collect` refuses a stream."""
+        for one in template.fields:
+            if one.enterprise == 0 and one.element in (1, 2) and one.length not in (0, 8):
+                self.tally(Cause.NARROW_COUNTER, frame, 0, f"{name_of(one)} of {one.length} octets in template "
+                           f"{template.number}")
+            least, most = LENGTHS.get(one.element, (0, VARIABLE)) if one.enterprise == 0 else (0, VARIABLE)
+            if not least <= one.length <= most or not one.length:
+                length = "a variable length" if one.length == VARIABLE else f"{one.length} octets"
+                self.tally(Cause.WRONG_LENGTH, frame, 0, f"{name_of(one)} of {length} in template {template.number}")
 
     def _number(self, message: Message, stream: int, records: int, frame: int, is_partial: bool) -> None:
         """Compares the sequence number with the one that comes next in its domain."""

@@ -76,7 +76,7 @@ class Survey:
 
     def _watch(self, use: Use, values: list[bytes]) -> None:
         for one, value in zip(use.template.fields, values):
-            if one.enterprise == 0 and one.element in WATCHED:
+            if one.enterprise == 0 and one.element in WATCHED and len(value) <= 8:
                 seen = use.values.setdefault(one.element, set())
                 if len(seen) < MOST_VALUES:
                     seen.add(int.from_bytes(value, "big"))

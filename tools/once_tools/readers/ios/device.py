@@ -63,7 +63,8 @@ class Running:
     def read(self) -> Device:
         """Returns the device."""
         attached = self.used()
-        monitors = [one for one in self.monitors if any(use.monitor == one for use in attached)]
+        in_use = {use.monitor for use in attached}
+        monitors = [one for one in self.monitors if one in in_use]
         caches = {(use.monitor, use.family): use.monitor for use in attached if use.monitor}
         for name in monitors:
             self.add_monitor(self.monitors[name])
@@ -178,8 +179,12 @@ class Running:
 
     def report_families(self, attached: list[Attachment]) -> None:
         """Reports interfaces that meter packets of one version of IP alone."""
+        by_interface: dict[str, list[Attachment]] = {}
+        for use in attached:
+            if use.monitor:
+                by_interface.setdefault(use.interface, []).append(use)
         for port in self.ports.ports.values():
-            uses = [use for use in attached if use.interface == port.interface.name and use.monitor]
+            uses = by_interface.get(port.interface.name, [])
             families = {use.family for use in uses}
             if len(families) != 1:
                 continue

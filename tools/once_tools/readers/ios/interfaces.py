@@ -121,6 +121,16 @@ def read_address(port: Port, line: Node) -> None:
                 return
 
 
+def add_to_vlans(ports: Ports, name: str, words: tuple[str, ...]) -> None:
+    """Makes an interface a member of VLANs that have an interface of their own: `all`, `except LIST`, `add LIST`, `LIST`."""
+    vlans = {key[4:]: one for key, one in ports.ports.items() if key.startswith("Vlan")}
+    listed = set(expanded(words[-1])) if words else set()
+    for number, vlan in vlans.items():
+        is_member = True if words == ("all",) else number not in listed if words[:1] == ("except",) else number in listed
+        if is_member and name not in vlan.interface.members:
+            vlan.interface.members.append(name)
+
+
 def read_layers(ports: Ports, port: Port, line: Node) -> None:
     """Reads what an interface is part of: a bundle, VLANs, a tunnel."""
     words, name = line.words, port.interface.name
@@ -129,10 +139,10 @@ def read_layers(ports: Ports, port: Port, line: Node) -> None:
     elif line.starts("switchport", "access", "vlan") and len(words) == 4:
         ports.get(f"Vlan{words[3]}", line.place).interface.members.append(name)
     elif line.starts("switchport", "trunk", "allowed", "vlan"):
-        for number in expanded(words[-1]):
-            vlan = ports.ports.get(f"Vlan{number}")
-            if vlan and name not in vlan.interface.members:
-                vlan.interface.members.append(name)
+        add_to_vlans(ports, name, words[4:])
+    elif line.starts("switchport", "mode", "trunk") and not any(one.starts("switchport", "trunk", "allowed") for one in
+                                                                port.lines):
+        add_to_vlans(ports, name, ("all",))
     elif line.starts("encapsulation", "dot1Q") and len(words) > 2 and words[2].isdigit():
         port.interface.vlan = int(words[2])
     elif line.starts("tunnel", "source") and len(words) > 2:
