@@ -82,7 +82,7 @@ def nowhere(view: NetworkView, path: Sequence[Json], name: str, packet: Mapping[
             seen.append(f"{at} has {' and '.join(device.describe(one) for one in pointers)}, which does not take it")
             places.append((0, device.place(pointers[0])))
     known = sorted([one for one in places if one[1].file], key=lambda one: one[0])
-    says = f"'{name}': {packet_words(packet)} is metered nowhere: {'; '.join(seen) or 'its path has no crossing'}"
+    says = f"'{name}': {packet_words(packet)} is metered nowhere: {'; '.join(seen) or 'nothing on its path is metered (--full keeps the crossings)'}"
     return [Finding(Grade.WARNING, known[0][1] if known else Place(""), says,
                     "add a monitor of its version of IP and direction at one of these")]
 

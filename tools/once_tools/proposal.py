@@ -172,39 +172,48 @@ def metered(device: Device) -> set[str]:
     return {name for point in device.points for name in point.interfaces}
 
 
-def role_lines(devices: list[Found]) -> list[str]:
-    """Returns the roles that descriptions propose; interfaces with addresses and no role are named for the reader."""
+def roles_of(device: Device) -> tuple[dict[str, str], list[str]]:
+    """Returns the role of each interface that has one, and the interfaces that may need one. An interface with units or
+    subinterfaces hands its role down to them."""
+    parents = {one.parent for one in device.interfaces if one.parent}
+    described = {one.name: role_of(one) for one in device.interfaces}
+    roles: dict[str, str] = {}
+    left: list[str] = []
+    for one in device.interfaces:
+        role = described[one.name] or described.get(one.parent, "")
+        if one.is_shut or one.name in parents and one.name not in metered(device) and not one.addresses:
+            continue
+        if role:
+            roles[one.name] = role
+        elif (one.addresses or one.name in metered(device)) and not one.name.startswith(("Loopback", "lo")):
+            left.append(one.name)
+    return roles, left
+
+
+def role_lines(devices: list[Found]) -> tuple[list[str], bool]:
+    """Returns the roles that descriptions propose, and whether a device has two interfaces that face customers; interfaces
+    with addresses and no role are named for the reader."""
     roles: dict[str, list[str]] = {"customers": [], "core": []}
     left: list[str] = []
+    several = False
     for one in devices:
-        for interface in one.device.interfaces if one.device else []:
-            name, role = f"{one.name}:{interface.name}", role_of(interface)
-            if role:
-                roles[role].append(name)
-            elif one.device and (interface.addresses or interface.name in metered(one.device)) and not interface.is_shut \
-                    and not interface.name.startswith("Loopback"):
-                left.append(name)
+        found, without = roles_of(one.device) if one.device else ({}, [])
+        for name, role in found.items():
+            roles[role].append(f"{one.name}:{name}")
+        left += [f"{one.name}:{name}" for name in without]
+        several = several or list(found.values()).count("customers") > 1
     lines = ["# Interfaces by what is at their other end: each that traffic comes in or leaves by is in one role."]
     lines.append("[roles]")
-    lines += [f"{role} = {listed(names)}" for role, names in roles.items()]
-    return [*lines, *(["# in no role yet: " + ", ".join(left)] if left else []), ""]
+    lines += [f"{role} = {listed(names)}" + ("" if names else "        # name the interfaces") for role, names in roles.items()]
+    return [*lines, *(["# in no role yet: " + ", ".join(left)] if left else []), ""], several
 
 
-TRAFFIC = """[[traffic]]
-name = "up"
-from = ["customers"]
-to = ["core"]
-
-[[traffic]]
-name = "down"
-from = ["core"]
-to = ["customers"]
-
-[[traffic]]
-name = "between customers"
-from = ["customers"]
-to = ["customers"]
-"""
+def traffic_lines(several: bool) -> list[str]:
+    """Returns the traffic between the roles; between customers if a device has several."""
+    pairs = [("up", "customers", "core"), ("down", "core", "customers")]
+    pairs += [("between customers", "customers", "customers")] if several else []
+    return [line for name, start, end in pairs
+            for line in ("[[traffic]]", f'name = "{name}"', f'from = ["{start}"]', f'to = ["{end}"]', "")]
 
 
 def project_text(folder: Path) -> str:
@@ -218,7 +227,8 @@ def project_text(folder: Path) -> str:
         lines += device_lines(one, folder, "devices")
     for one in proposal.collectors:
         lines += device_lines(one, folder, "collectors")
-    lines += collectors + role_lines(proposal.devices) + [TRAFFIC]
+    roles, several = role_lines(proposal.devices)
+    lines += collectors + roles + traffic_lines(several)
     if proposal.others:
         lines.append("# Files that are of no known kind: " + ", ".join(proposal.others[:40]))
     return "\n".join(lines).rstrip("\n") + "\n"

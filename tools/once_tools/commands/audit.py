@@ -3,16 +3,18 @@ from __future__ import annotations
 
 import argparse
 import tempfile
+from dataclasses import replace
 from pathlib import Path
 from typing import Sequence
 
 from once_tools.answers import is_certificate
 from once_tools.blame import blame
 from once_tools.commands.options import Subparsers, add_import_options, options_of, print_report
-from once_tools.importing import Pair, import_project, write_texts
+from once_tools.documents import text_of
+from once_tools.importing import Options, Pair, import_project, write_texts
 from once_tools.model import Finding
 from once_tools.once_program import Run, find_once, run_once
-from once_tools.project import read_project
+from once_tools.project import Project, read_project
 from once_tools.report import Report
 
 NAME = "audit"
@@ -61,12 +63,24 @@ def summary(pair: Pair, run: Run, name: str) -> str:
     return f"no answer{version}: {(run.output + run.errors).strip()}"
 
 
-def audit_pair(program: str, pair: Pair, folder: Path) -> tuple[int, str, list[Finding]]:
-    """Returns the status for a pair of documents, what it says, and the lines that it is about."""
+def blamed_in_full(program: str, project: Project, options: Options, folder: str) -> list[Finding]:
+    """Returns what a refutation is about, of documents that keep the crossings that nothing meters; nothing if there is no
+    refutation of those."""
+    pairs = [one for one in import_project(project, replace(options, full=True)).pairs if one.folder == folder]
+    if not pairs:
+        return []
+    with tempfile.TemporaryDirectory() as made:
+        write_texts({"network.json": text_of(pairs[0].network), "traffic.json": text_of(pairs[0].traffic)}, Path(made))
+        answer = run_once(program, "audit", Path(made) / "network.json", Path(made) / "traffic.json")
+    return blame(pairs[0].network, pairs[0].traffic, answer.output) if answer.status == 1 else []
+
+
+def audit_pair(program: str, pair: Pair, folder: Path) -> tuple[Run, str]:
+    """Returns the answer about a pair of documents that was written into a folder, and what it says in a line."""
     for old in ("certificate.txt", "refutation.txt"):
         (folder / old).unlink(missing_ok=True)
     answer, name = answered(program, folder)
-    return answer.status, summary(pair, answer, name), blame(pair.network, pair.traffic, answer.output or answer.errors)
+    return answer, summary(pair, answer, name)
 
 
 def meaning_of_certificates(meaning: Sequence[str], statuses: list[int]) -> list[str]:
@@ -78,20 +92,23 @@ def meaning_of_certificates(meaning: Sequence[str], statuses: list[int]) -> list
 
 def run(arguments: argparse.Namespace) -> int:
     """Returns the exit status of `once`, or 7."""
-    program = find_once(arguments.once)
-    imported = import_project(read_project(arguments.project), options_of(arguments))
+    program, options = find_once(arguments.once), options_of(arguments)
+    project = read_project(arguments.project)
+    imported = import_project(project, options)
     if not imported.pairs:
         print_report(imported.report, arguments.format, arguments.project.parent)
         return imported.report.status
     with tempfile.TemporaryDirectory() as made:
         out = arguments.out or Path(made)
         write_texts(imported.texts(), out)
-        answers = [audit_pair(program, pair, out / pair.folder) for pair in imported.pairs]
-    blamed = [one for _, _, findings in answers for one in findings]
-    meaning = meaning_of_certificates(imported.report.meaning, [status for status, _, _ in answers])
-    report = Report([*imported.report.findings, *blamed], imported.report.accepts,
-                    [*meaning, *(says for _, says, _ in answers)])
+        answers = [(pair, *audit_pair(program, pair, out / pair.folder)) for pair in imported.pairs]
+    blamed: list[Finding] = []
+    for pair, answer, _ in answers:
+        found = blamed_in_full(program, project, options, pair.folder) if answer.status == 1 and not options.full else []
+        blamed += found or blame(pair.network, pair.traffic, answer.output or answer.errors)
+    statuses = [answer.status for _, answer, _ in answers]
+    meaning = meaning_of_certificates(imported.report.meaning, statuses)
+    report = Report([*imported.report.findings, *blamed], imported.report.accepts, [*meaning, *(says for _, _, says in answers)])
     print_report(report, arguments.format, arguments.project.parent)
-    statuses = {status for status, _, _ in answers}
     worst = next((one for one in WORST if one in statuses), 0)
     return worst or (NOT_ALL if imported.report.status == 1 else 0)
