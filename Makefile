@@ -1,10 +1,10 @@
 # The gate and the program. All of it needs the Rattle kit's command `rt` on the PATH; mutants, rows and examples need
-# python3.
+# python3, the tests of once-import Python 3.11 with pytest and mypy (Debian's packages python3-pytest and mypy).
 
 SHELL := /bin/bash
 .DEFAULT_GOAL := help
 .PHONY: help kit replay once packages test proofs mutants check pending rows examples pictures torture clean \
-	install uninstall deb manual
+	install uninstall deb manual tools run-tools
 
 # Prints what the part took when it ends.
 comma = ,
@@ -23,6 +23,7 @@ help:
 	@echo 'make mutants NAME=CRATE  tries the mutants of one crate; NAME=CRATE/WORD those with WORD in their names'
 	@echo 'make rows              proves and builds the program, and runs the steps of the gate over it'
 	@echo 'make examples          the same for the examples alone'
+	@echo 'make tools             checks the types of once-import and runs its tests, over ./once or ONCE=PROGRAM'
 	@echo 'make pictures          draws the pictures of the examples anew (needs Graphviz)'
 	@echo 'make torture           the same over inputs that are made to do harm, for an hour or more'
 	@echo 'make clean             removes what was built'
@@ -86,6 +87,20 @@ rows: once
 examples: once
 	python3 tests/gate.py examples "generated examples" scale
 
+# Checks the types of once-import and runs its tests, with the first Python that has pytest.
+tools: run-tools
+
+PYTHON = $(shell for python in python3 /usr/bin/python3; do $$python -c 'import pytest' 2> /dev/null && echo $$python && break; done)
+ONCE = $(abspath ./once)
+# Two workers, if pytest has the plugin for them.
+WORKERS = $(shell $(PYTHON) -c 'import xdist' 2> /dev/null && echo "-n 2")
+
+run-tools:
+	@[ -n "$(PYTHON)" ] || { echo 'pytest not found: install it (Debian: python3-pytest)'; exit 2; }
+	@command -v mypy > /dev/null || { echo 'mypy not found: install it (Debian: mypy)'; exit 2; }
+	cd tools && mypy --strict --cache-dir=/dev/null once_tools
+	cd tools && ONCE=$(ONCE) $(PYTHON) -B -m pytest -q -rs -p no:cacheprovider $(WORKERS) tests
+
 # Draws the pictures of the examples anew, with Graphviz's dot: each network with its traffic and its certificate or
 # refutation.
 pictures: once
@@ -127,8 +142,15 @@ install:
 	install -D -m 644 -t $(SHARE)/doc/once/docs $(DOCUMENTS)
 	install -D -m 644 -t $(SHARE)/doc/once/docs/schemas docs/schemas/*
 	cd examples && find . -type f ! -name '*.pyc' -exec install -D -m 644 {} "$(abspath $(SHARE))/doc/once/examples/{}" \;
+	install -D -m 755 tools/once-import $(BIN)/once-import
+	cd tools && find once_tools -name '*.py' -exec install -D -m 644 {} "$(abspath $(SHARE))/once/{}" \;
+	install -D -m 644 packaging/once-import.1 $(SHARE)/man/man1/once-import.1
+	install -D -m 644 -t $(SHARE)/doc/once/tools tools/README.md
+	install -D -m 644 -t $(SHARE)/doc/once/tools/examples tools/examples/*
 
 uninstall:
+	rm -f $(BIN)/once-import $(SHARE)/man/man1/once-import.1
+	rm -rf $(SHARE)/once
 	rm -f $(BIN)/once $(SHARE)/man/man1/once.1 $(SHARE)/bash-completion/completions/once $(ZSH)/_once
 	rm -rf $(SHARE)/doc/once
 

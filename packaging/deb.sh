@@ -18,7 +18,8 @@ SOURCE_DATE_EPOCH=$(date -d "$(sed -n 's/^ -- .*>  //p' "$here/changelog" | head
 export SOURCE_DATE_EPOCH
 
 strip --strip-unneeded --remove-section=.comment --remove-section=.note "$tree/usr/bin/once"
-gzip -9n "$tree/usr/share/man/man1/once.1"
+gzip -9n "$tree/usr/share/man/man1/once.1" "$tree/usr/share/man/man1/once-import.1"
+sed -i '1s,.*,#!/usr/bin/python3,' "$tree/usr/bin/once-import"
 gzip -9nc "$here/changelog" > "$doc/changelog.gz"
 cp "$here/copyright" "$doc/copyright"
 
@@ -28,12 +29,15 @@ trap 'rm -rf "$work"' EXIT
 mkdir "$work/debian"
 printf 'Source: once\n\nPackage: once\nArchitecture: amd64\n' > "$work/debian/control"
 depends=$(cd "$work" && dpkg-shlibdeps -O -e"$tree/usr/bin/once" | sed -n 's/^shlibs:Depends=//p')
+depends="${depends:+$depends, }python3 (>= 3.11)"
 
 mkdir -p "$tree/DEBIAN"
 (cd "$tree" && find usr -type f | LC_ALL=C sort | xargs md5sum > DEBIAN/md5sums)
 size=$(du -sk --apparent-size "$tree/usr" | cut -f1)
-sed -e "s/@VERSION@/$version/" -e "s/@DEPENDS@/$depends/" -e "s/@SIZE@/$size/" -e '/^Depends: $/d' "$here/control.in" > "$tree/DEBIAN/control"
+sed -e "s/@VERSION@/$version/" -e "s/@DEPENDS@/$depends/" -e "s/@SIZE@/$size/" "$here/control.in" > "$tree/DEBIAN/control"
+printf '#!/bin/sh\nset -e\n[ "$1" != configure ] || py3compile -p once /usr/share/once\n' > "$tree/DEBIAN/postinst"
+printf '#!/bin/sh\nset -e\npy3clean -p once /usr/share/once\n' > "$tree/DEBIAN/prerm"
 find "$tree" -type d -exec chmod 755 {} +
 find "$tree" -type f -exec chmod 644 {} +
-chmod 755 "$tree/usr/bin/once"
+chmod 755 "$tree/usr/bin/once" "$tree/usr/bin/once-import" "$tree/DEBIAN/postinst" "$tree/DEBIAN/prerm"
 dpkg-deb --root-owner-group --build "$tree" "once_${version}_amd64.deb"

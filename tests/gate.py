@@ -5,8 +5,8 @@ usage: gate.py [--anew] [--jobs N] [NAME..]
 
 Run at the top of the repository, with the program as ./once. The steps are those of tests/steps.py, all or the named ones. A step
 that passed over the same program and the same files on this machine is not run again, but with --anew. What a step prints is
-shown if it fails. A line `not run: WHAT: WHY` of a step is listed at the end. With CI=true in the environment such a
-line is a failure, and so is a script that ran no case. The last line is `N passed, N failed`, of steps.
+shown if it fails. A line `not run: WHAT: WHY` of a step is listed at the end. With CI=true in the environment a test that a missing
+package prevents is a failure, and so is a script that ran no case. The last line is `N passed, N failed`, of steps.
 """
 import argparse
 import os
@@ -25,7 +25,8 @@ from steps import PROGRAM, STEPS, command_of
 # The files that steps may read, besides the program.
 INPUTS = ("tests", "examples", "docs", "bench", "packaging", "tools", "README.md", "Makefile", "crates/fx_words/src", "crates/fx_base/src")
 NO_CASE = re.compile(r"(?m)^0 passed, 0 failed$|^no tests ran")
-NOT_RUN = re.compile(r"(?m)^not run: .*$")
+# What a script says of a test that cannot run, and pytest of one that it skips.
+NOT_RUN = re.compile(r"(?m)^(?:not run: |SKIPPED ).*$")
 SECONDS = 1800
 
 
@@ -49,8 +50,9 @@ class Outcome:
             return f"it ended with status {self.status}"
         if is_strict and NO_CASE.search(self.said):
             return "it ran no case"
-        if is_strict and self.not_run():
-            return f"{len(self.not_run())} of its tests did not run"
+        lacking = [it for it in self.not_run() if "package" in it]
+        if is_strict and lacking:
+            return f"it lacks packages: {lacking[0]}"
         return None
 
 

@@ -2,7 +2,7 @@
 """pages.py PROGRAM: runs the command lines of pages for users as they are written, and compares what they print.
 
 Blocks that are set in by four spaces and begin with `$ ` are run, those of one heading in one session from the top of
-the repository: each line behind `$ `, with PROGRAM as `once`, and what it prints must be the lines behind it. Blocks
+the repository: each line behind `$ `, with PROGRAM as `once` and tools/once-import, and what it prints must be the lines behind it. Blocks
 without `$ ` are of a network of the reader's. Prints a line for each that differs, and last how many passed.
 """
 import os
@@ -12,7 +12,7 @@ import sys
 import tempfile
 
 TOP = os.path.dirname(os.path.dirname(os.path.abspath(__file__)))
-PAGES = ["README.md", "docs/GUIDE.md", "examples/tools/README.md"]
+PAGES = ["README.md", "docs/GUIDE.md", "tools/README.md"]
 # What a reader does by hand behind a sentence, as a command.
 BY_HAND = {
     "To mend it, take the second observation point": """python3 - <<'END'
@@ -20,6 +20,13 @@ import json
 document = json.load(open("network.json"))
 del document["devices"][0]["config"]["ietf-ipfix-psamp:ipfix"]["observationPoint"][1]
 json.dump(document, open("network.json", "w"))
+END""",
+    "- What must not be counted. Customers are billed": """python3 - <<'END'
+text = open("network.toml").read()
+text = text.replace('"edge-2:GigabitEthernet0/0/0"]', '"edge-2:GigabitEthernet0/0/0", "gw-3:eth0"]')
+text = text.replace('"edge-2:TenGigabitEthernet0/1/0"]', '"edge-2:TenGigabitEthernet0/1/0", "gw-3:eth1"]')
+text = text.replace('name = "down"', 'name = "down"\\nexempt = true')
+open("network.toml", "w").write(text)
 END""",
 }
 
@@ -42,6 +49,7 @@ def main(program):
     passed = failed = 0
     with tempfile.TemporaryDirectory() as made:
         os.symlink(os.path.abspath(program), made + "/once")
+        os.symlink(os.path.join(TOP, "tools", "once-import"), made + "/once-import")
         os.mkdir(made + "/tmp")
         for page in PAGES:
             with open(os.path.join(TOP, page), encoding="utf-8") as file:

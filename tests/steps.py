@@ -5,6 +5,8 @@ from dataclasses import dataclass
 from typing import Tuple
 
 PROGRAM = "./once"
+# What the tests of once-import compare with: programs that meter, collect and capture.
+IMPORTERS = ("mypy", "openvswitch-common", "pmacct", "python3-jsonschema", "python3-pytest", "python3-pytest-xdist", "softflowd", "tshark")
 
 
 @dataclass(frozen=True)
@@ -39,7 +41,7 @@ STEPS = [
     of_texts("callers"),
     of_texts("refusals", "--compare"),
     Step("unit tests", ("-m", "pytest", "-q", "-p", "no:cacheprovider", "tests/unit"), ("python3-pytest",), False, False, "pytest", False),
-    Step("importers", ("-m", "pytest", "-q", "-p", "no:cacheprovider", "tools/tests"), ("python3-pytest",), True, False, "pytest"),
+    Step("importers", ("make", "--no-print-directory", "run-tools"), IMPORTERS, True),
     script("schemas", PROGRAM, needs=("python3-jsonschema",), module="jsonschema"),
     script("members", PROGRAM),
     script("yang_module", needs=("libyang-tools",)),
@@ -72,6 +74,8 @@ STEPS = [
 def command_of(step):
     """Returns the command of a step, with the first interpreter that has the module it needs."""
     first = step.arguments[0]
+    if first == "make":
+        return [*step.arguments]
     if first.endswith(".sh"):
         return ["bash", *step.arguments]
     for python in (sys.executable, "/usr/bin/python3"):

@@ -1,9 +1,9 @@
 #!/usr/bin/env python3
-"""tools.py PROGRAM: runs the tools of examples/tools, and has the program look at what they write.
+"""tools.py PROGRAM: runs `once-import table` and `once-import exporter`, and has the program look at what they write.
 
 Each folder of tests/tools is a case, run in a copy:
 
-  words         the tool and its words; TOOLS is the folder examples/tools
+  words         the command and its arguments; TABLES is the folder tools/examples
   status        its exit status
   stderr        what it must print on standard error (no file: nothing)
   stdout.json   the document that it must print (no file: nothing)
@@ -11,8 +11,8 @@ Each folder of tests/tools is a case, run in a copy:
                 the documents that it must write as made.json and made-traffic.json (no file: none)
   expects       another case, whose documents these are
 
-Documents are compared as values. Each must be in order for `lint`; an audit of what the tables of examples/tools tell
-must answer with a certificate to which `check` says yes. What a network of pmacctd totals, of the stream that pmacctd
+Documents are compared as values. Each must be in order for `lint`; an audit of what the tables of tools/examples
+describe must answer with a certificate to which `check` says yes. What a network of pmacctd totals, of the stream that pmacctd
 has sent and of the capture that it was sent for, must be what the rows of tests/rows with that stream want. Prints a
 line for each fault, and last `N passed, M failed`.
 """
@@ -26,7 +26,8 @@ import sys
 import tempfile
 
 TOP = os.path.dirname(os.path.dirname(os.path.abspath(__file__)))
-TOOLS = os.path.join(TOP, "examples", "tools")
+TOOLS = os.path.join(TOP, "tools")
+TABLES = os.path.join(TOOLS, "examples")
 CASES = os.path.join(TOP, "tests", "tools")
 MADE = {"network.json": "made.json", "traffic.json": "made-traffic.json"}
 
@@ -49,9 +50,9 @@ def run(words, folder):
 
 
 def tool(words, folder):
-    """Runs a tool; Python keeps no compiled files beside it."""
-    words = [word.replace("TOOLS", TOOLS) for word in words]
-    return run([sys.executable, "-B", os.path.join(TOOLS, words[0]), *words[1:]], folder)
+    """Runs a command of once-import; Python keeps no compiled files beside it."""
+    words = [word.replace("TABLES", TABLES) for word in words]
+    return run([sys.executable, "-B", os.path.join(TOOLS, "once-import"), *words], folder)
 
 
 def faults_of(program, case, folder):
@@ -78,9 +79,9 @@ def faults_of(program, case, folder):
 
 
 def faults_of_table(program, table, folder):
-    """What is wrong with the documents that a table of examples/tools tells."""
+    """What is wrong with the documents that a table of tools/examples describes."""
     files = list(MADE.values())
-    ran = tool(["network_from_table.py", table, *files], folder)
+    ran = tool(["table", table, *files], folder)
     if ran.returncode or ran.stderr:
         yield "status %d and %r" % (ran.returncode, ran.stderr[:2000])
         return
@@ -95,7 +96,7 @@ def faults_of_stream(program, row, folder):
     """What is wrong with the network of pmacctd that reports by the key of a row, over the row's stream and capture."""
     with open(os.path.join(row, "network.json"), encoding="utf-8") as file:
         key = ",".join(field["ieName"] for field in json.load(file)["report"]["key"])
-    ran = tool(["network_from_exporter.py", "--key", key, "pmacctd", "-N", "-i", "eth0", "-P", "nfprobe"], folder)
+    ran = tool(["exporter", "--key", key, "pmacctd", "-N", "-i", "eth0", "-P", "nfprobe"], folder)
     crossing = {"device": "meter", "interface": "eth0", "direction": "ingress"}
     traffic = json.dumps({"classes": [{"name": "all", "paths": [[crossing]]}]})
     for name, text in (("network.json", ran.stdout), ("traffic.json", traffic)):
@@ -115,7 +116,7 @@ def faults_of_stream(program, row, folder):
 def main(program):
     passed = failed = 0
     cases = [(faults_of, path) for path in sorted(glob.glob(CASES + "/*"))]
-    cases += [(faults_of_table, path) for path in sorted(glob.glob(TOOLS + "/*.table"))]
+    cases += [(faults_of_table, path) for path in sorted(glob.glob(TABLES + "/*.table"))]
     cases += [(faults_of_stream, path) for path in sorted(glob.glob(TOP + "/tests/rows/stream-of-pmacctd*"))]
     for faults, path in cases:
         with tempfile.TemporaryDirectory() as made:

@@ -129,7 +129,8 @@ class CacheField:
 
 @dataclass
 class Cache:
-    """A cache. `kind` is immediate, timeout, natural or permanent; `settings` are members such as activeTimeout."""
+    """A cache. `kind` is immediate, timeout, natural or permanent; `settings` are members such as activeTimeout.
+    `other_keys` are flow keys that are no axes, such as ingressInterface, egressInterface and flowDirection."""
 
     name: str
     kind: str
@@ -137,6 +138,7 @@ class Cache:
     exporters: list[str]
     place: Place
     settings: dict[str, int] = field(default_factory=dict)
+    other_keys: list[str] = field(default_factory=list)
 
 
 @dataclass

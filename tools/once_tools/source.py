@@ -33,5 +33,7 @@ def read_source(path: Path, name: str | None = None) -> Source:
         if path.stat().st_size > MOST_OCTETS:
             raise Unusable(Place(name), f"has more than {MOST_OCTETS} octets", "give a configuration, not a dump")
         return Source(name, path.read_bytes().decode("utf-8", errors="backslashreplace"))
+    except ValueError:
+        raise Unusable(Place(name), "is no name of a file", "name a file that can be read") from None
     except OSError as error:
         raise Unusable(Place(name), f"cannot be read: {error.strerror}", "name a file that can be read") from error

@@ -1,0 +1,114 @@
+"""`once-import audit PROJECT`: imports a project, has `once` audit it, and names the lines that an answer is about."""
+from __future__ import annotations
+
+import argparse
+import tempfile
+from dataclasses import replace
+from pathlib import Path
+from typing import Sequence
+
+from once_tools.answers import is_certificate
+from once_tools.blame import blame
+from once_tools.commands.options import Subparsers, add_import_options, options_of, print_report
+from once_tools.documents import text_of
+from once_tools.importing import Options, Pair, import_project, write_texts
+from once_tools.model import Finding
+from once_tools.once_program import Run, find_once, run_once
+from once_tools.project import Project, read_project
+from once_tools.report import Report
+
+NAME = "audit"
+NOT_ALL = 7
+# Of the statuses of several pairs of documents, the first of these is the answer.
+WORST = [2, 4, 5, 6, 1, 3]
+
+
+def add_parser(subparsers: Subparsers) -> None:
+    """Adds the command."""
+    parser = subparsers.add_parser(
+        NAME, help="import a project, audit it by `once`, and name the lines that the answer is about",
+        epilog="Exit statuses are those of `once`: 0 a certificate, 1 a refutation, 2 refused or no document, 3 unknown, 4 out "
+               "of memory, 5 a file or program failed, 6 wrong arguments; and 7 a certificate, but of documents into which "
+               "not everything was carried over.")
+    add_import_options(parser)
+    parser.add_argument("--once", metavar="PROGRAM", help="the program `once` (found on the PATH otherwise)")
+    parser.set_defaults(run=run)
+
+
+def answered(program: str, folder: Path) -> tuple[Run, str]:
+    """Returns the answer about the documents of a folder, judged by `check` or `confirm`, and its file's name."""
+    documents = (folder / "network.json", folder / "traffic.json")
+    lint = run_once(program, "lint", *documents)
+    if lint.status:
+        return lint, ""
+    audit = run_once(program, "audit", *documents)
+    if audit.status not in (0, 1):
+        return audit, ""
+    name, command = ("certificate.txt", "check") if is_certificate(audit.output) else ("refutation.txt", "confirm")
+    (folder / name).write_text(audit.output, encoding="utf-8")
+    judged = run_once(program, command, *documents, folder / name)
+    wanted = "yes\n" if command == "check" else "refuted\n"
+    if judged.status or not judged.output.startswith(wanted):
+        return Run(judged.status or 3, f"`once {command}` does not agree with `once audit`:\n{judged.output}", judged.errors), ""
+    return audit, name
+
+
+def summary(pair: Pair, run: Run, name: str) -> str:
+    """Returns in a line what an answer says."""
+    version = f" of {pair.folder.replace('ipv', 'IPv')}" if pair.folder else ""
+    if name == "certificate.txt":
+        return f"certificate{version}, checked: each packet of the declared traffic is counted exactly once"
+    if name == "refutation.txt":
+        return f"refutation{version}, confirmed: a packet of the declared traffic is not counted exactly once"
+    return f"no answer{version}: {(run.output + run.errors).strip()}"
+
+
+def blamed_in_full(program: str, project: Project, options: Options, folder: str) -> list[Finding]:
+    """Returns what a refutation is about, of documents that keep the crossings that nothing meters; nothing if there is no
+    refutation of those."""
+    pairs = [one for one in import_project(project, replace(options, full=True)).pairs if one.folder == folder]
+    if not pairs:
+        return []
+    with tempfile.TemporaryDirectory() as made:
+        write_texts({"network.json": text_of(pairs[0].network), "traffic.json": text_of(pairs[0].traffic)}, Path(made))
+        answer = run_once(program, "audit", Path(made) / "network.json", Path(made) / "traffic.json")
+    return blame(pairs[0].network, pairs[0].traffic, answer.output) if answer.status == 1 else []
+
+
+def audit_pair(program: str, pair: Pair, folder: Path) -> tuple[Run, str]:
+    """Returns the answer about a pair of documents that was written into a folder, and what it says in a line."""
+    for old in ("certificate.txt", "refutation.txt"):
+        (folder / old).unlink(missing_ok=True)
+    answer, name = answered(program, folder)
+    return answer, summary(pair, answer, name)
+
+
+def meaning_of_certificates(meaning: Sequence[str], statuses: list[int]) -> list[str]:
+    """Returns what certificates mean, without the lines of pairs of documents that have none."""
+    if 0 not in statuses:
+        return []
+    return [line for number, line in enumerate(meaning) if not 0 < number <= len(statuses) or statuses[number - 1] == 0] + [""]
+
+
+def run(arguments: argparse.Namespace) -> int:
+    """Returns the exit status of `once`, or 7."""
+    program, options = find_once(arguments.once), options_of(arguments)
+    project = read_project(arguments.project)
+    imported = import_project(project, options)
+    if not imported.pairs:
+        print_report(imported.report, arguments.format, arguments.project.parent)
+        return imported.report.status
+    with tempfile.TemporaryDirectory() as made:
+        out = arguments.out or Path(made)
+        write_texts(imported.texts(), out)
+        answers = [(pair, *audit_pair(program, pair, out / pair.folder)) for pair in imported.pairs]
+    blamed: list[Finding] = []
+    for pair, answer, _ in answers:
+        found = blamed_in_full(program, project, options, pair.folder) if answer.status == 1 and not options.full else []
+        blamed += found or blame(pair.network, pair.traffic, answer.output or answer.errors)
+    statuses = [answer.status for _, answer, _ in answers]
+    meaning = meaning_of_certificates(imported.report.meaning, statuses)
+    report = Report([*imported.report.findings, *blamed], imported.report.accepts, [*meaning, *(says for _, _, says in answers)])
+    print_report(report, arguments.format, arguments.project.parent)
+    worst = next((one for one in WORST if one in statuses), 0)
+    return worst or (NOT_ALL if imported.report.status == 1 else 0)

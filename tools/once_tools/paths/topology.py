@@ -1,0 +1,181 @@
+"""Devices, their interfaces, and which interface leads to which."""
+from __future__ import annotations
+
+import difflib
+import ipaddress
+import re
+from dataclasses import dataclass, field
+from fnmatch import fnmatchcase
+
+from once_tools.model import Finding, Grade, Interface, Place
+
+Node = tuple[str, str]  # a device and one of its interfaces
+Address = ipaddress.IPv4Address | ipaddress.IPv6Address
+
+# Short names whose letters are not the first letters of the long name.
+SHORT = {"be": "bundleether", "ge": "gigabitethernet", "xge": "xgigabitethernet", "po": "portchannel", "te": "tengig",
+         "hu": "hundredgig", "fo": "fortygig", "twe": "twentyfivegig", "vl": "vlan", "lo": "loopback", "tu": "tunnel"}
+
+
+@dataclass
+class Topology:
+    """What is known of the network between the devices. Interfaces stand in the order of their configurations."""
+
+    interfaces: dict[str, dict[str, Interface]] = field(default_factory=dict)
+    aliases: dict[str, list[str]] = field(default_factory=dict)
+    peers: dict[Node, list[Node]] = field(default_factory=dict)
+    owners: dict[Address, list[Node]] = field(default_factory=dict)
+    findings: list[Finding] = field(default_factory=list)
+
+    def add_interface(self, device: str, interface: Interface) -> None:
+        """Adds an interface, or what is new of one that is known."""
+        known = self.interfaces.setdefault(device, {}).setdefault(interface.name, interface)
+        readable = [text for text in interface.addresses if is_interface_address(text)]
+        for text in interface.addresses:
+            if text not in readable and re.search(r"\d", text):
+                self.findings.append(Finding(Grade.NOT_CARRIED_OVER, interface.place, f"'{text}' of {device} "
+                                             f"{interface.name} is no address with a length: links and paths do not know of "
+                                             "it", "correct the address"))
+        known.addresses = [text for text in dict.fromkeys([*known.addresses, *readable]) if is_interface_address(text)]
+        for text in readable:
+            address = address_of(text)
+            if address and not interface.is_shut:
+                nodes = self.owners.setdefault(address, [])
+                if (device, interface.name) not in nodes:
+                    nodes.append((device, interface.name))
+
+    def add_peers(self, a: Node, b: Node) -> None:
+        """Joins two interfaces by a link."""
+        for one, other in ((a, b), (b, a)):
+            ends = self.peers.setdefault(one, [])
+            if other not in ends:
+                ends.append(other)
+
+    def wrong(self, place: Place, says: str, todo: str) -> None:
+        """Adds a finding for which no document can be written."""
+        self.findings.append(Finding(Grade.WRONG, place, says, todo))
+
+    def device(self, name: str, place: Place) -> str | None:
+        """Returns the device of this name: exactly, by an alias, or without the case and the domain."""
+        if name in self.interfaces:
+            return name
+        folded = name.casefold()
+        host = folded.partition(".")[0]
+        found = [one for one in self.interfaces
+                 if folded in (alias.casefold() for alias in [one, *self.aliases.get(one, [])])]
+        found = found or [one for one in self.interfaces if one.casefold().partition(".")[0] == host]
+        if len(found) > 1:
+            self.wrong(place, f"'{name}' may be any of {', '.join(found)}", "give one of them an alias in the project")
+        return found[0] if len(found) == 1 else None
+
+    def is_inventory(self, device: str) -> bool:
+        """Whether the device's interfaces are known from a source that lists all of them."""
+        return any(one.addresses for one in self.interfaces.get(device, {}).values())
+
+    def interface(self, device: str, name: str, place: Place) -> str | None:
+        """Returns the interface that a name stands for, or None after a finding."""
+        known = self.interfaces.get(device, {})
+        found = [one for one in known if one == name] or same_names(name, list(known.values()))
+        if len(found) == 1:
+            return found[0]
+        if len(found) > 1:
+            self.wrong(place, f"'{name}' of {device} may be any of {', '.join(found)}", "write the interface's full name")
+            return None
+        if self.is_inventory(device):
+            close = difflib.get_close_matches(name, list(known), 1, 0.5)
+            self.wrong(place, f"{device} has no interface '{name}'",
+                       f"write '{close[0]}'" if close else "known are: " + ", ".join(list(known)[:12]))
+            return None
+        self.add_interface(device, Interface(name, place))
+        return name
+
+    def matching(self, text: str, place: Place) -> list[Node]:
+        """Returns the interfaces that `DEVICE:INTERFACE` stands for, either with patterns."""
+        device_text, _, name = text.partition(":")
+        if any(mark in text for mark in "*?["):
+            found = [(device, one.name) for device, known in self.interfaces.items() if fnmatchcase(device, device_text)
+                     for one in known.values() if not one.is_shut and _matches(one, name)]
+            if not found:
+                self.wrong(place, f"no interface matches '{text}'", "correct the pattern")
+            return found
+        device = self.device(device_text, place)
+        if device is None:
+            close = difflib.get_close_matches(device_text, list(self.interfaces), 1, 0.5)
+            self.wrong(place, f"no device '{device_text}' has configurations or interfaces",
+                       f"write '{close[0]}'" if close else "known are: " + ", ".join(self.interfaces))
+            return []
+        interface = self.interface(device, name, place)
+        if interface is not None and self.interfaces[device][interface].is_shut:
+            self.wrong(place, f"interface '{interface}' of {device} is shut", "take it out, or open it")
+            return []
+        return [] if interface is None else [(device, interface)]
+
+    def vrf(self, node: Node) -> str:
+        """Returns the routing instance of an interface."""
+        interface = self.interfaces.get(node[0], {}).get(node[1])
+        return interface.vrf if interface else ""
+
+    def next_nodes(self, node: Node, gateway: Address | None) -> list[Node]:
+        """Returns where packets arrive that leave by an interface for a gateway; nothing where that is outside."""
+        ends = self.peers.get(node, [])
+        if len(ends) < 2 or gateway is None:
+            return ends
+        owned = [end for end in ends if end in self.owners.get(gateway, [])]
+        return owned or ([] if gateway in self.owners or not is_link_local(gateway) else ends)
+
+
+def is_interface_address(text: str) -> bool:
+    """Whether a text is an address with a length, or an address alone."""
+    try:
+        ipaddress.ip_interface(text)
+    except ValueError:
+        return False
+    return True
+
+
+def is_link_local(address: Address) -> bool:
+    """Whether an address says nothing of whose it is beyond its link."""
+    return address.is_link_local
+
+
+def address_of(text: str) -> Address | None:
+    """Returns the address of `ADDRESS` or `ADDRESS/LENGTH`."""
+    try:
+        return ipaddress.ip_address(text.partition("/")[0].partition("%")[0])
+    except ValueError:
+        return None
+
+
+def _letters(name: str) -> tuple[str, str]:
+    found = re.match(r"[^0-9]*", name)
+    letters = found[0] if found else ""
+    return re.sub(r"[^a-z]", "", letters.casefold()), name[len(letters):]
+
+
+def same_names(name: str, interfaces: list[Interface]) -> list[str]:
+    """Returns the interfaces that a short or other spelling stands for."""
+    found = [one.name for one in interfaces if name in one.aliases or name.casefold() == one.name.casefold()]
+    found = found or [one.name for one in interfaces if "." in one.name and one.name.partition(".")[0] == name]
+    letters, numbers = _letters(name)
+    if found or re.match(r"[a-z]+-\d", name):
+        return found  # Junos has no short names
+    starts = [letters, SHORT[letters]] if letters in SHORT else [letters]
+    for one in interfaces:
+        long, its_numbers = _letters(one.name)
+        is_short = len(letters) >= 2 and any(long.startswith(start) for start in starts)
+        is_long = len(long) >= 2 and letters.startswith(long)
+        if numbers and numbers == its_numbers and (is_short or is_long):
+            found.append(one.name)
+    return found
+
+
+def _matches(interface: Interface, pattern: str) -> bool:
+    if any(fnmatchcase(name, pattern) for name in (interface.name, *interface.aliases)):
+        return True
+    letters, _ = _letters(pattern)
+    long, _ = _letters(interface.name)
+    if len(letters) < 2 or not long.startswith(letters):
+        return False
+    at = len(re.match(r"[^0-9*?\[]*", pattern)[0])  # type: ignore[index]
+    start = len(re.match(r"[^0-9]*", interface.name)[0])  # type: ignore[index]
+    return fnmatchcase(interface.name[start:], pattern[at:])

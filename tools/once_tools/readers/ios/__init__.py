@@ -1,0 +1,1 @@
+"""Parts of the reader of Cisco IOS and IOS-XE."""

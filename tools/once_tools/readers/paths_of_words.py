@@ -1,0 +1,21 @@
+"""Indented configurations as statements that have their whole path."""
+from __future__ import annotations
+
+from typing import Iterator
+
+from once_tools.readers.trees import Node, Statement, Words, indented
+from once_tools.source import Source
+
+
+def statements(source: Source, comments: tuple[str, ...] = ("!", "#")) -> list[Statement]:
+    """Returns each line with the words of the lines above that it is indented below."""
+    return list(_below(indented(source, comments), ()))
+
+
+def _below(root: Node, path: Words) -> Iterator[Statement]:
+    stack = [(node, path) for node in reversed(root.children)]
+    while stack:
+        node, above = stack.pop()
+        words = above + node.words
+        yield Statement(words, node.place)
+        stack.extend((child, words) for child in reversed(node.children))

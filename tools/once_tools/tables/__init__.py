@@ -1,0 +1,1 @@
+"""Networks and traffic from a table, a row for each thing."""
