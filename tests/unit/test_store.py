@@ -7,7 +7,7 @@ import pytest
 from mutation.edits import Edit
 from mutation.store import TESTS, Digests, Store, digest_of_scripts, store_folder
 
-BODY = "pub fn %s(value: u64) -> u64\n    ensures { result ≡ value };\n{\n    value\n}\n"
+BODY = "pub fn %s(value: u64) -> u64\n    ensures { result ≡ value }\n{\n    value\n}\n"
 
 
 @dataclass

@@ -1,0 +1,109 @@
+"""How a trial settles what a check leaves open: goals whose stored answers do not fit are tried anew without them."""
+import os
+from types import SimpleNamespace
+
+import pytest
+from mutation.edits import Edit
+from mutation.trials import ROUNDS, Trial
+
+BODY = "pub fn kept(value: u64) -> u64\n    ensures { result ≡ value }\n{\n    value\n}\n"
+ANSWERS = "pub returns : goal.returns\nreturns c = refl\n\npub bound : goal.bound\nbound c = refl\n"
+ENDED = "only=1\n"
+PROOF = "./proofs/kept_twin_%d/Answers.antt:2:3: error: `%s`: %s\n"
+MISFIT = "the two types differ only where one has `a` (expected) and the other has `b` (found)"
+GONE = "record `R.Lts.After-x`\n  has no field `y`"
+
+
+class Checks:
+    """Stands for the prover: a list of what each check prints, by the twin's number, and what it found in the answers."""
+
+    def __init__(self, *said):
+        self.said, self.answers = list(said), []
+
+    def __call__(self, room, only):
+        number = int(only[0].rpartition("_")[2])
+        with open(f"{room}/proofs/kept_twin_{number}/Answers.antt", encoding="utf-8") as it:
+            self.answers.append(it.read())
+        return self.said.pop(0)(number) + ENDED, 1
+
+
+def refused(*errors):
+    """Returns what a check prints that refuses the twin for errors in its proof file, each a goal and a message."""
+
+    def said(number):
+        return "".join(PROOF % (number, *it) for it in errors) + f"fn low::kept_twin_{number}: not proved; it stands on answers\n"
+
+    return said
+
+
+def proved(number):
+    return f"fn low::kept_twin_{number}: proved\n"
+
+
+def open_goal(number):
+    note = "note: src/lib.rt:%d:1: it is not proved that what the function ensures holds (`returns`)\n"
+    return note % 7 + f"fn low::kept_twin_{number}: not proved\n"
+
+
+@pytest.fixture
+def trial(tmp_path):
+    for path, text in {"src/lib.rt": BODY, "proofs/kept/Answers.antt": ANSWERS, "mutants/more.edit": "file: src/lib.rt\nold:     value\nnew:     value + 1\n"}.items():
+        os.makedirs(os.path.dirname(tmp_path / path), exist_ok=True)
+        (tmp_path / path).write_text(text, encoding="utf-8")
+    crate = SimpleNamespace(folder=str(tmp_path), name="low")
+    rtlib = SimpleNamespace(PARTS=("src", "specs", "proofs"), stop=pytest.fail)
+    return Trial(rtlib, crate, str(tmp_path / "kept"))
+
+
+def verdict_of(trial, *said):
+    """Returns the verdict on the mutant where checks print this one after another, and the checks."""
+    edit = Edit(trial.crate.folder, f"{trial.crate.folder}/mutants/more.edit")
+    trial.check = Checks(*said)
+    trial.judge([edit])
+    assert not trial.check.said, "fewer checks than foreseen"
+    return edit, trial.check
+
+
+def test_a_goal_that_holds_without_its_answer_does_not_refuse(trial):
+    edit, checks = verdict_of(trial, refused(("returns", MISFIT)), proved)
+    assert edit.verdict.text.startswith("NOT REFUSED")
+    assert "returns" not in checks.answers[1] and "bound" in checks.answers[1]
+
+
+def test_a_goal_that_stays_open_without_its_answer_refuses(trial):
+    edit, _ = verdict_of(trial, refused(("returns", MISFIT)), open_goal)
+    assert edit.verdict.is_refused
+
+
+def test_one_answer_after_another_is_left_out(trial):
+    edit, checks = verdict_of(trial, refused(("returns", MISFIT), ("bound", MISFIT)), refused(("bound", MISFIT)), proved)
+    assert edit.verdict.text.startswith("NOT REFUSED")
+    assert "bound" in checks.answers[1] and checks.answers[2].strip() == ""
+
+
+def test_an_answer_that_names_what_is_gone_is_not_left_out(trial):
+    edit, _ = verdict_of(trial, refused(("returns", GONE)))
+    assert edit.verdict.text.startswith("BAD EDIT") and "names what the mutant removed" in edit.verdict.text
+
+
+def test_what_is_gone_counts_once_the_rest_holds(trial):
+    edit, _ = verdict_of(trial, refused(("returns", MISFIT), ("bound", GONE)), refused(("bound", GONE)))
+    assert edit.verdict.text.startswith("BAD EDIT") and "names what the mutant removed" in edit.verdict.text
+
+
+def test_an_error_that_stays_without_the_answer_is_no_refusal(trial):
+    edit, _ = verdict_of(trial, refused(("absent", MISFIT)), refused(("absent", MISFIT)))
+    assert not edit.verdict.is_refused and not edit.verdict.misfits
+
+
+def test_trials_end(trial):
+    said = [refused((f"goal-{at}", MISFIT)) for at in range(ROUNDS + 1)]
+    edit, _ = verdict_of(trial, *said)
+    assert not edit.verdict.is_refused
+
+
+def test_a_goal_named_by_the_edit_is_tried_without_its_answer_at_once(trial):
+    with open(f"{trial.crate.folder}/mutants/more.edit", "a", encoding="utf-8") as it:
+        it.write("goal: returns\n")
+    edit, checks = verdict_of(trial, open_goal)
+    assert edit.verdict.is_refused and "returns" not in checks.answers[0]
