@@ -3,10 +3,11 @@ from __future__ import annotations
 
 import ipaddress
 import re
-from dataclasses import dataclass, field
+from dataclasses import dataclass, field, replace
 
 from once_tools.model import Interface, Place, Topic
 from once_tools.readers.interface_names import aliases_of, parent_of
+from once_tools.readers.ios.flow_lines import is_about_flows
 from once_tools.readers.ios.text import expanded, named
 from once_tools.readers.notes import Notes
 from once_tools.readers.trees import Node
@@ -188,7 +189,7 @@ def read_flow(ports: Ports, port: Port, line: Node) -> bool:
         ports.notes.lost(line.place, "a sample of the packets is metered. A total over a sample is not exact (108); the "
                                      "document meters all packets", "take the sampler off, or name the device under "
                                      "[accept] sampler", Topic.SAMPLER, 108)
-    elif words[0] in ("flow", "performance") or words[:2] == ("no", "flow") or "flow" in words[:3] and words[0] != "no":
+    elif is_about_flows(line):
         ports.notes.unknown(line.place, "an interface")
     else:
         return False
@@ -216,7 +217,21 @@ def read_interfaces(nodes: list[Node]) -> Ports:
         for line in port.lines:
             read_line(ports, port, line)
     read_vlans(ports, nodes)
+    hand_down(ports)
     return ports
+
+
+def hand_down(ports: Ports) -> None:
+    """Attaches `ip route-cache flow` of an interface to its subinterfaces too, which it covers."""
+    for port in list(ports.ports.values()):
+        below = [one for one in ports.ports.values() if one.interface.parent == port.interface.name]
+        for use in [one for one in port.attached if one.place.text.startswith("ip route-cache flow")] if below else []:
+            ports.notes.premise(use.place, "the statement is taken to meter the subinterfaces too, which was not confirmed "
+                                           "on each version of IOS", "write 'ip flow ingress' at each subinterface")
+            for one in below:
+                if not any((other.monitor, other.direction, other.family) == ("", use.direction, use.family)
+                           for other in one.attached):
+                    one.attached.append(replace(use, interface=one.interface.name))
 
 
 def read_vlans(ports: Ports, nodes: list[Node]) -> None:
