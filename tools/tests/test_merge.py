@@ -85,7 +85,8 @@ def test_host_name_needs_an_address(once: str, tmp_path: Path) -> None:
     assert answer(once, tmp_path, PROJECT + '[addresses]\n"flows.example.net" = "192.0.2.10"\n', text) == "once-certificate"
 
 
-@pytest.mark.parametrize("accepted, expected", [("198.51.100.1", "once-certificate"), ("198.51.100.2", "once-refutation")])
+@pytest.mark.parametrize("accepted, expected", [("198.51.100.1", "once-certificate"), ("198.51.100.2", "once-refutation"),
+                                                ("198.51.100.0/24", "once-certificate"), ("198.51.99.0/24", "once-refutation")])
 def test_sources_that_a_collector_accepts(once: str, tmp_path: Path, accepted: str, expected: str) -> None:
     project = PROJECT.replace(COLLECTOR, COLLECTOR + f'accept_from = ["{accepted}"]\n')
     assert answer(once, tmp_path, project) == expected

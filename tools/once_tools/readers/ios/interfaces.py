@@ -218,7 +218,23 @@ def read_interfaces(nodes: list[Node]) -> Ports:
             read_line(ports, port, line)
     read_vlans(ports, nodes)
     hand_down(ports)
+    is_labelled = any(node.starts("mpls") and "autoconfig" in node.words for one in nodes for node in one.walk())
+    for port in ports.ports.values():
+        tell_versions(port, is_labelled)
     return ports
+
+
+def tell_versions(port: Port, is_labelled: bool) -> None:
+    """Tells an interface which versions of IP are on and off. Packets of either may have labels, so that where there may be
+    labels no version is off."""
+    statements = [line.words for line in port.lines if line.words[1:2] != ("flow",)]
+    may_label = is_labelled or any(words[0] in ("mpls", "tag-switching") for words in statements)
+    has6 = any(words[0] == "ipv6" for words in statements)
+    port.interface.has = frozenset(version for version, place in ((4, port.has_ipv4), (6, port.has_ipv6)) if place)
+    if port.has_ipv4 and not has6 and not may_label:
+        port.interface.lacks = frozenset([6])
+    elif port.has_ipv6 and not port.has_ipv4 and not may_label:
+        port.interface.lacks = frozenset([4])
 
 
 def hand_down(ports: Ports) -> None:
