@@ -8,6 +8,7 @@ import sys
 from typing import NoReturn, Sequence
 
 from once_tools.model import Unusable
+from once_tools.once_program import Failed
 from once_tools.report import line_of
 
 # The commands, with their modules.
@@ -56,7 +57,7 @@ def main(words: Sequence[str] | None = None) -> int:
         return status
     except Unusable as why:
         print(line_of(why.finding), file=sys.stderr)
-        return NO_DOCUMENT
+        return FAILED if isinstance(why, Failed) else NO_DOCUMENT
     except BrokenPipeError:
         os.dup2(os.open(os.devnull, os.O_WRONLY), sys.stdout.fileno())
         return FAILED

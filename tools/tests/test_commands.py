@@ -76,7 +76,7 @@ def test_audit(once: str, tmp_path: Path, config: str, status: int) -> None:
 def test_audit_without_once(tmp_path: Path) -> None:
     project(tmp_path, PROJECT)
     found = run("audit", "project.toml", "--once", "none-of-this-name", cwd=tmp_path)
-    assert found.returncode == 2
+    assert found.returncode == 5
     assert "there is no program 'none-of-this-name'" in found.stderr
 
 
@@ -180,7 +180,7 @@ def program_that(folder: Path, does: str) -> Path:
     return made
 
 
-@pytest.mark.parametrize("does, status", [("kill -9 $$", 5), ("exit 134", 5), ("exit 4", 4), ("exit 0", 3)])
+@pytest.mark.parametrize("does, status", [("kill -9 $$", 5), ("exit 134", 5), ("exit 4", 4), ("exit 0", 5)])
 def test_a_program_that_fails_is_no_certificate(tmp_path: Path, does: str, status: int) -> None:
     project(tmp_path, PROJECT)
     found = run("audit", "project.toml", "--once", program_that(tmp_path, does), cwd=tmp_path)

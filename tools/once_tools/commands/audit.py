@@ -58,7 +58,7 @@ def answered(program: str, folder: Path) -> tuple[Run, str]:
     judged = run_once(program, command, *documents, folder / name)
     wanted = "yes\n" if command == "check" else "refuted\n"
     if judged.status or not judged.output.startswith(wanted):
-        return Run(judged.status or 3, f"`once {command}` does not agree with `once audit`:\n{judged.output}", judged.errors), ""
+        return Run(FAILED, f"`once {command}` does not agree with `once audit`:\n{judged.output}", judged.errors), ""
     return audit, name
 
 
