@@ -5,6 +5,7 @@ import argparse
 import importlib
 import os
 import sys
+import traceback
 from typing import NoReturn, Sequence
 
 from once_tools.model import Unusable
@@ -47,6 +48,12 @@ def with_command(words: Sequence[str]) -> list[str]:
     return ["import", *words]
 
 
+def fault_of(error: Exception) -> str:
+    """Returns what an exception says, and where it was raised."""
+    last = traceback.extract_tb(error.__traceback__)[-1]
+    return f"{type(error).__name__} at {os.path.basename(last.filename)}:{last.lineno}: {error}"
+
+
 def main(words: Sequence[str] | None = None) -> int:
     """Runs a command; returns its exit status."""
     words = with_command(sys.argv[1:] if words is None else words)
@@ -67,6 +74,9 @@ def main(words: Sequence[str] | None = None) -> int:
     except MemoryError:
         print("out of memory", file=sys.stderr)
         return OUT_OF_MEMORY
+    except Exception as error:  # a fault of this program must not end with the status of an answer
+        print(f"once-import has a fault: {fault_of(error)}; please report it", file=sys.stderr)
+        return FAILED
 
 
 if __name__ == "__main__":

@@ -195,6 +195,23 @@ def test_a_certificate_of_documents_that_differ_says_so(once: str, tmp_path: Pat
                                  "carried over'\n")
 
 
+def test_a_certificate_says_that_something_is_accepted(once: str, tmp_path: Path) -> None:
+    project(tmp_path, PROJECT + '[accept]\nsampler = ["r"]\n', SAMPLED)
+    found = run("audit", "project.toml", "--once", once, cwd=tmp_path)
+    assert found.returncode == 0
+    assert found.stdout.endswith("is counted exactly once, apart from what is accepted\n")
+
+
+def test_a_fault_of_the_program_is_no_answer(tmp_path: Path, monkeypatch: pytest.MonkeyPatch) -> None:
+    def fails(*_: object) -> None:
+        raise KeyError("lost")
+    monkeypatch.setattr("once_tools.commands.convert.import_project", fails)
+    project(tmp_path, PROJECT)
+    found = run("project.toml", cwd=tmp_path)
+    assert found.returncode == 5
+    assert found.stderr.startswith("once-import has a fault: KeyError at test_commands.py:")
+
+
 def test_answers_of_an_earlier_audit_are_taken_out(once: str, tmp_path: Path) -> None:
     project(tmp_path, PROJECT.replace('"sourceIPv4Address"', '"source"'))
     assert run("audit", "project.toml", "--out", "made", "--once", once, cwd=tmp_path).returncode == 0

@@ -126,6 +126,14 @@ def test_an_interface_without_a_path_is_reported(tmp_path: Path) -> None:
     assert grades(declaration.findings, "names b in, and no path") == ["not carried over"]
 
 
+@pytest.mark.parametrize("hops, expected", [(2, ["premise"]), (3, [])])
+def test_paths_that_are_too_long_are_a_premise(tmp_path: Path, hops: int, expected: list[str]) -> None:
+    row = [device("a", "in 10.1.0.1/16", "ab 10.9.0.1/31", "out 10.8.0.1/31"), device("b", "ba 10.9.0.0/31", "bc 10.9.0.2/31"),
+           device("c", "cb 10.9.0.3/31", "out 10.7.0.1/31")]
+    declaration = declared(tmp_path, row, TRAFFIC + f'from = ["a:in"]\nto = ["a:out", "c:out"]\nhops = {hops}\n')
+    assert grades(declaration.findings, f"over more than {hops} devices") == expected
+
+
 def test_an_empty_role_is_wrong(tmp_path: Path) -> None:
     declaration = declared(tmp_path, [device("a", "in 10.1.0.1/16", "out 172.31.0.1/31")],
                            '[roles]\ncustomers = []\n' + TRAFFIC + 'from = ["customers"]\nto = ["a:out"]\n')

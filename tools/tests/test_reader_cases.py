@@ -140,9 +140,10 @@ def test_nfacctd_that_filters_is_not_carried_over() -> None:
     assert finding(device, "aggregate_filter").grade is Grade.NOT_CARRIED_OVER
 
 
-@pytest.mark.parametrize("line", ["networks_file_filter: true", "sql_preprocess: minp=5", "print_preprocess: minb=100"])
+@pytest.mark.parametrize("line", ["networks_file_filter: true", "sql_preprocess: minp=5", "print_preprocess: minb=100",
+                                  "nfacctd_ext_sampling_rate: 10"])
 def test_nfacctd_that_changes_or_leaves_out_totals_is_not_carried_over(line: str) -> None:
-    device = read_text("nfacctd", f"plugins: print[p]\nnfacctd_port: 4739\n{line}\n")
+    device = read_text("nfacctd", f"plugins: print[p]\nnfacctd_port: 4739\nnfacctd_renormalize: true\n{line}\n")
     assert [one.place.text for one in device.findings if one.grade is Grade.NOT_CARRIED_OVER] == [line]
 
 

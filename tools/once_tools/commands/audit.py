@@ -62,17 +62,17 @@ def answered(program: str, folder: Path) -> tuple[Run, str]:
     return audit, name
 
 
-def summary(pair: Pair, run: Run, name: str, is_whole: bool) -> str:
-    """Returns in a line what an answer says; `is_whole` says that everything was carried over, or is accepted."""
+def summary(pair: Pair, run: Run, name: str, report: Report) -> str:
+    """Returns in a line what an answer says."""
     version = f" of {pair.folder.replace('ipv', 'IPv')}" if pair.folder else ""
-    if name == "certificate.txt" and not is_whole:
-        return (f"certificate{version}, checked, but of documents that differ from the devices: see the lines 'not carried "
-                "over'")
-    if name == "certificate.txt":
-        return f"certificate{version}, checked: each packet of the declared traffic is counted exactly once"
     if name == "refutation.txt":
         return f"refutation{version}, confirmed: a packet of the declared traffic is not counted exactly once"
-    return f"no answer{version}: {(run.output + run.errors).strip()}"
+    if name != "certificate.txt":
+        return f"no answer{version}: {(run.output + run.errors).strip()}"
+    if report.status:
+        return f"certificate{version}, checked, but of documents that differ from the devices: see the lines 'not carried over'"
+    except_for = ", apart from what is accepted" if any(report.accepted(one) for one in report.findings) else ""
+    return f"certificate{version}, checked: each packet of the declared traffic is counted exactly once{except_for}"
 
 
 def blamed_in_full(program: str, project: Project, options: Options, folder: str) -> list[Finding]:
@@ -94,10 +94,10 @@ def forget(out: Path) -> None:
             (out / folder / name).unlink(missing_ok=True)
 
 
-def audit_pair(program: str, pair: Pair, folder: Path, is_whole: bool) -> tuple[Run, str]:
+def audit_pair(program: str, pair: Pair, folder: Path, report: Report) -> tuple[Run, str]:
     """Returns the answer about a pair of documents that was written into a folder, and what it says in a line."""
     answer, name = answered(program, folder)
-    return known(answer), summary(pair, answer, name, is_whole)
+    return known(answer), summary(pair, answer, name, report)
 
 
 def meaning_of_certificates(meaning: Sequence[str], statuses: list[int]) -> list[str]:
@@ -119,8 +119,7 @@ def run(arguments: argparse.Namespace) -> int:
         out = arguments.out or Path(made)
         write_texts(imported.texts(), out)
         forget(out)
-        answers = [(pair, *audit_pair(program, pair, out / pair.folder, imported.report.status == 0))
-                   for pair in imported.pairs]
+        answers = [(pair, *audit_pair(program, pair, out / pair.folder, imported.report)) for pair in imported.pairs]
     blamed: list[Finding] = []
     for pair, answer, _ in answers:
         found = blamed_in_full(program, project, options, pair.folder) if answer.status == 1 and not options.full else []

@@ -90,9 +90,13 @@ class _Declaring:
     def _between(self, one: Traffic) -> list[Path]:
         starts, ends = self.nodes(one.start, one.place), self.nodes(one.end, one.place)
         search = Search(starts, ends, one.hops, one.hairpin, one.place)
-        found = simple_paths(self.topology, search)
+        cut: set[Node] = set()
+        found = simple_paths(self.topology, search, cut)
         if starts and ends:
-            found = list(dict.fromkeys([*found, *self._between_vrfs(one, search, found)]))
+            found = list(dict.fromkeys([*found, *self._between_vrfs(one, search, found, cut)]))
+        if cut:
+            self.findings.append(Finding(Grade.PREMISE, one.place, f"paths of '{one.name}' over more than {one.hops} devices, as "
+                                         f"over {listed(sorted(cut)[:1])}, are not declared", "write hops = N for more"))
         for end in ends:
             for peer in self.topology.peers.get(end, []):
                 self.findings.append(Finding(Grade.PREMISE, one.place, f"'{one.name}' ends at {end[0]} {end[1]}, which leads to "
@@ -111,14 +115,14 @@ class _Declaring:
                                          f"no packet of '{one.name}' over IPv{version} comes in there"))
         return [path for path in paths if (path[0].device, path[0].interface) not in lacking]
 
-    def _between_vrfs(self, one: Traffic, search: Search, found: list[Path]) -> list[Path]:
+    def _between_vrfs(self, one: Traffic, search: Search, found: list[Path], cut: set[Node]) -> list[Path]:
         """Returns paths for the interfaces that no path begins or ends at unless it leads from one VRF into another."""
         begun = {(path[0].device, path[0].interface) for path in found}
         ended = {(path[-1].device, path[-1].interface) for path in found}
         alone = [node for node in search.starts if node not in begun]
         unreached = [node for node in search.ends if node not in ended]
-        more = simple_paths(self.topology, replace(search, starts=alone, keeps_vrf=False)) if alone else []
-        more += simple_paths(self.topology, replace(search, ends=unreached, keeps_vrf=False)) if unreached else []
+        more = simple_paths(self.topology, replace(search, starts=alone, keeps_vrf=False), cut) if alone else []
+        more += simple_paths(self.topology, replace(search, ends=unreached, keeps_vrf=False), cut) if unreached else []
         crossed = {(each.device, each.interface) for path in more for each in (path[0], path[-1])}
         joined = [node for node in dict.fromkeys([*alone, *unreached]) if node in crossed and self.topology.vrf(node)]
         if more:

@@ -31,8 +31,9 @@ class Search:
     keeps_vrf: bool = True
 
 
-def simple_paths(topology: Topology, search: Search) -> list[Path]:
-    """Returns the paths of a search, in the order of the configurations."""
+def simple_paths(topology: Topology, search: Search, cut: set[Node]) -> list[Path]:
+    """Returns the paths of a search, in the order of the configurations. The interfaces at which paths go on that are longer
+    than asked for are added to `cut`."""
     found: dict[Path, None] = {}
     targets = set(search.ends)
 
@@ -49,6 +50,8 @@ def simple_paths(topology: Topology, search: Search) -> list[Path]:
                 place = (peer[0], topology.vrf(peer))
                 if place not in seen and len(seen) < search.hops:
                     walk(peer, left, (*seen, place))
+                elif place not in seen:
+                    cut.add(peer)
 
     for start in search.starts:
         walk(start, (), ((start[0], topology.vrf(start)),))

@@ -184,6 +184,10 @@ class _Reading:
                 self.log.lost(one.place, "records do not come in over the network, so no exporter is linked to this "
                               "collector",
                               "name the address and port that exporters send to as `listen` of the collector")
+            elif one.key in SCALING and self.settings.is_true("nfacctd_renormalize", False):
+                self.log.lost(one.place, "totals are multiplied by a rate that this sets, whether the exporter samples or not; "
+                              "the document counts each packet once", "take out nfacctd_renormalize, or this line",
+                              Topic.SAMPLER)
             elif one.key in SCALING:
                 self.log.note(one.place, "sets the sampling rate of exporters; totals are scaled by it only with "
                               "nfacctd_renormalize: true")

@@ -242,6 +242,9 @@ class _Reading:
                 self.log.sampler(one.place, one.value if one.value.isdigit() else "N", exporters)
             elif is_networks_filter(one):
                 self.log.lost(one.place, NETWORKS_FILTER, "take it out", Topic.FILTER, None, exporters)
+            elif one.key == "pcap_savefile" and (self.settings.last("pcap_interface") or self.settings.last("pcap_interfaces_map")):
+                self.log.lost(one.place, "packets come from this file, and not from the interface that the document has",
+                              "take one of them out", Topic.OTHER, None, exporters)
             elif one.key in TAGS:
                 self.log.lost(one.place, "whether it leaves packets out is not read; the document meters all packets",
                               "filter with aggregate_filter", Topic.FILTER, None, exporters)
