@@ -77,7 +77,9 @@ class Topology:
     def interface(self, device: str, name: str, place: Place) -> str | None:
         """Returns the interface that a name stands for, or None after a finding."""
         known = self.interfaces.get(device, {})
-        found = [one for one in known if one == name] or same_names(name, list(known.values()))
+        if name in known:
+            return name
+        found = same_names(name, list(known.values()))
         if len(found) == 1:
             return found[0]
         if len(found) > 1:
