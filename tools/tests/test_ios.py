@@ -290,3 +290,9 @@ def test_route_cache_flow_covers_subinterfaces() -> None:
             "interface FastEthernet0/0.10\n ip address 10.0.0.1 255.0.0.0\n")
     assert [one.interfaces for one in read(text).points] == [["FastEthernet0/0", "FastEthernet0/0.10"]]
     assert "ip route-cache flow" in findings(text, Grade.PREMISE)
+
+
+def test_a_monitor_beside_subinterfaces_is_a_premise() -> None:
+    text = interface("ip flow monitor M input") + "interface GigabitEthernet0/0.10\n ip flow monitor M input\n"
+    assert findings(text, Grade.PREMISE) == ["ip flow monitor M input"]
+    assert findings(interface("ip flow monitor M input"), Grade.PREMISE) == []

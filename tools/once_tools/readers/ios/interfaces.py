@@ -238,10 +238,17 @@ def tell_versions(port: Port, is_labelled: bool) -> None:
 
 
 def hand_down(ports: Ports) -> None:
-    """Attaches `ip route-cache flow` of an interface to its subinterfaces too, which it covers."""
+    """Attaches `ip route-cache flow` of an interface to its subinterfaces too, which it covers; other statements do not."""
+    subinterfaces: dict[str, list[Port]] = {}
+    for one in ports.ports.values():
+        subinterfaces.setdefault(one.interface.parent, []).append(one)
     for port in list(ports.ports.values()):
-        below = [one for one in ports.ports.values() if one.interface.parent == port.interface.name]
-        for use in [one for one in port.attached if one.place.text.startswith("ip route-cache flow")] if below else []:
+        below = subinterfaces.get(port.interface.name, [])
+        for use in port.attached if below else []:
+            if not use.place.text.startswith("ip route-cache flow"):
+                ports.notes.premise(use.place, f"packets of the subinterfaces of {port.interface.name} are taken not to be metered "
+                                               "here", "compare with 'show flow monitor', and meter at the subinterfaces alone")
+                continue
             ports.notes.premise(use.place, "the statement is taken to meter the subinterfaces too, which was not confirmed "
                                            "on each version of IOS", "write 'ip flow ingress' at each subinterface")
             for one in below:
