@@ -79,7 +79,8 @@ def nowhere(view: NetworkView, path: Sequence[Json], name: str, packet: Mapping[
             seen.append(f"{at} has no monitor")
             places += [(1 if device.meters(direction) else 2, device.interface_place(interface))] if device else []
         else:
-            seen.append(f"{at} has {' and '.join(device.describe(one) for one in pointers)}, which does not take it")
+            takes = "which does not take it" if len(pointers) == 1 else "which do not take it"
+            seen.append(f"{at} has {' and '.join(device.describe(one) for one in pointers)}, {takes}")
             places.append((0, device.place(pointers[0])))
     known = sorted([one for one in places if one[1].file], key=lambda one: one[0])
     says = f"'{name}': {packet_words(packet)} is metered nowhere: {'; '.join(seen) or 'nothing on its path is metered (--full keeps the crossings)'}"

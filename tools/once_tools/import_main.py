@@ -5,9 +5,11 @@ import argparse
 import importlib
 import os
 import sys
+import traceback
 from typing import NoReturn, Sequence
 
 from once_tools.model import Unusable
+from once_tools.once_program import Failed
 from once_tools.report import line_of
 
 # The commands, with their modules.
@@ -46,6 +48,12 @@ def with_command(words: Sequence[str]) -> list[str]:
     return ["import", *words]
 
 
+def fault_of(error: Exception) -> str:
+    """Returns what an exception says, and where it was raised."""
+    last = traceback.extract_tb(error.__traceback__)[-1]
+    return f"{type(error).__name__} at {os.path.basename(last.filename)}:{last.lineno}: {error}"
+
+
 def main(words: Sequence[str] | None = None) -> int:
     """Runs a command; returns its exit status."""
     words = with_command(sys.argv[1:] if words is None else words)
@@ -56,7 +64,7 @@ def main(words: Sequence[str] | None = None) -> int:
         return status
     except Unusable as why:
         print(line_of(why.finding), file=sys.stderr)
-        return NO_DOCUMENT
+        return FAILED if isinstance(why, Failed) else NO_DOCUMENT
     except BrokenPipeError:
         os.dup2(os.open(os.devnull, os.O_WRONLY), sys.stdout.fileno())
         return FAILED
@@ -66,6 +74,9 @@ def main(words: Sequence[str] | None = None) -> int:
     except MemoryError:
         print("out of memory", file=sys.stderr)
         return OUT_OF_MEMORY
+    except Exception as error:  # a fault of this program must not end with the status of an answer
+        print(f"once-import has a fault: {fault_of(error)}; please report it", file=sys.stderr)
+        return FAILED
 
 
 if __name__ == "__main__":

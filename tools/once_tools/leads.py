@@ -31,6 +31,9 @@ def report_destination(network: Network, device: Device, exporter: Exporter, to:
     """Reports a destination from which nothing reaches the report, where something else does or should."""
     link = network.link_of(device.name, exporter.name, to.name)
     if link and (link.to_device, link.to_process) in listeners:
+        if to.vrf:
+            add(network, Grade.PREMISE, to.place, f"vrf {to.vrf} is taken to lead to {link.to_device}: addresses may mean "
+                "another host in it", "", device, ())
         return
     collector = network.report[0]
     chooses = exporter.mode != "parallel" and (device.name, exporter.name) in leads

@@ -1,6 +1,7 @@
 """Matches what exporters send to with where collectors listen."""
 from __future__ import annotations
 
+import ipaddress
 from dataclasses import replace
 
 from once_tools.endpoints import Endpoint, endpoint_of, normal
@@ -78,7 +79,15 @@ def is_allowed(listener: Listener, exporter: Exporter) -> bool | None:
         return True
     if not exporter.source:
         return None
-    return normal(exporter.source) in [normal(one.split("/")[0]) for one in listener.accepts]
+    return any(is_within(normal(exporter.source), one) for one in listener.accepts)
+
+
+def is_within(address: str, allowed: str) -> bool:
+    """Returns whether an address is the allowed one, or in the allowed prefix."""
+    try:
+        return ipaddress.ip_address(address) in ipaddress.ip_network(allowed, strict=False)
+    except ValueError:
+        return address == normal(allowed)
 
 
 class Linker:

@@ -12,7 +12,7 @@ def metering(network: Network) -> list[str]:
     leading = leading_exporters(network)
     found = []
     for device in network.devices:
-        count = sum(len(point.interfaces) for point in device.points if is_leading(device, point, leading))
+        count = len({name for point in device.points if is_leading(device, point, leading) for name in point.interfaces})
         if count:
             found.append(f"{device.name} ({count} interface{'s' if count > 1 else ''})")
     return found

@@ -9,6 +9,7 @@ from once_tools.links import Addresses, Linker, spread
 from once_tools.model import Aggregation, Destination, Device, Exporter, Finding, Grade, Place
 from once_tools.names import make_unique
 from once_tools.network import Network, leading_exporters
+from once_tools.old_versions import check_versions
 from once_tools.project import CollectorEntry, Project
 from once_tools.toml_table import nearest
 
@@ -121,6 +122,7 @@ def merge(project: Project, devices: list[Device], collectors: list[Device]) -> 
         if entry.name in by_name:
             forward(entry, by_name, network)
     for device in network.devices:
+        network.findings += check_versions(device)
         spread(device, addresses)
         make_unique(device)
     report_listener(project, network, by_name)

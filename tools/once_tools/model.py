@@ -70,7 +70,8 @@ class Direction(enum.Enum):
 @dataclass
 class Interface:
     """An interface as the configuration spells it. `addresses` are `ADDRESS/LENGTH`; `members` are the interfaces of a
-    bundle or VLAN; `parent` is the main interface of a subinterface."""
+    bundle or VLAN; `parent` is the main interface of a subinterface; `lacks` are the versions of IP that the configuration
+    shows to be off; `has` those that it shows to be on, also without an address of their own."""
 
     name: str
     place: Place
@@ -85,6 +86,8 @@ class Interface:
     index: int | None = None
     description: str = ""
     is_shut: bool = False
+    lacks: frozenset[int] = frozenset()
+    has: frozenset[int] = frozenset()
 
 
 # The values that packets must have: an axis or prefix element (`ipVersion`, `sourceIPv4Prefix`, ..) and its value as a

@@ -9,6 +9,10 @@ from pathlib import Path
 from once_tools.model import Place, Unusable
 
 
+class Failed(Unusable):
+    """A program that cannot be run."""
+
+
 @dataclass(frozen=True)
 class Run:
     """What `once` printed, and its exit status."""
@@ -19,11 +23,11 @@ class Run:
 
 
 def find_once(named: str | None) -> str:
-    """Returns the path of the program `once`; raises `Unusable` if there is none."""
+    """Returns the path of the program `once`; raises `Failed` if there is none."""
     found = shutil.which(named or "once")
     if found is None:
-        raise Unusable(Place(""), f"there is no program '{named or 'once'}'",
-                       "put `once` on the PATH, or name it by --once PROGRAM")
+        raise Failed(Place(""), f"there is no program '{named or 'once'}'",
+                     "put `once` on the PATH, or name it by --once PROGRAM")
     return found
 
 
@@ -32,5 +36,5 @@ def run_once(program: str, *arguments: str | Path) -> Run:
     try:
         ran = subprocess.run([program, *map(str, arguments)], capture_output=True, text=True, errors="backslashreplace")
     except OSError as error:
-        raise Unusable(Place(""), f"'{program}' cannot be run: {error.strerror}", "name `once` by --once PROGRAM") from error
+        raise Failed(Place(""), f"'{program}' cannot be run: {error.strerror}", "name `once` by --once PROGRAM") from error
     return Run(ran.returncode, ran.stdout, ran.stderr)

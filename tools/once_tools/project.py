@@ -7,6 +7,7 @@ from dataclasses import dataclass, field
 from pathlib import Path
 from typing import Mapping
 
+from once_tools.elements import form_of, is_range
 from once_tools.model import Direction, Finding, Grade, Place, Topic, Unusable
 from once_tools.source import Source, read_source
 from once_tools.toml_places import TomlPlaces
@@ -189,10 +190,13 @@ def _axes(table: Table) -> dict[str, str]:
     for name, element in AXES.items():
         for key in (name, element):
             value = table.value(key)
-            if isinstance(value, (str, int)) and not isinstance(value, bool):
+            if isinstance(value, (str, int)) and not isinstance(value, bool) and is_range(element, str(value)):
                 found[element] = str(value)
             elif value is not None:
-                table.wrong(key, f"'{key}' must be a number or a range", f'write {key} = 6 or {key} = "1024-65535"')
+                table.wrong(key, f"'{key}' must be {form_of(element)}, or a range", f'write {key} = 6 or {key} = "4-6"')
+    if found.get("ipVersion", "4") not in ("4", "6"):
+        table.wrong("version", "'version' must be 4 or 6", "leave it out for both")
+        del found["ipVersion"]
     return found
 
 
@@ -215,6 +219,9 @@ def _traffic(table: Table) -> Traffic:
     if not (found.start or found.end or found.ingress or found.paths or found.batfish or found.destinations):
         table.wrong("", f"traffic '{found.name}' has no way to find its paths",
                     "add 'from' and 'to' (roles or interfaces), or 'destination' (routing tables), or 'paths'")
+    if found.start and found.ingress:
+        table.wrong("ingress", f"traffic '{found.name}' has both 'from' and 'ingress'", "write 'from' and 'to' for paths between "
+                    "interfaces, or 'ingress' and 'destination' for those of routing tables")
     if bool(found.start) != bool(found.end):
         table.wrong("", f"traffic '{found.name}' has only one of 'from' and 'to'", "add the other one")
     return found

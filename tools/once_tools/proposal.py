@@ -174,8 +174,9 @@ def metered(device: Device) -> set[str]:
 
 def roles_of(device: Device) -> tuple[dict[str, str], list[str]]:
     """Returns the role of each interface that has one, and the interfaces that may need one. An interface with units or
-    subinterfaces hands its role down to them."""
-    parents = {one.parent for one in device.interfaces if one.parent}
+    subinterfaces hands its role down to them; a bundle stands for its members."""
+    parents = {one.parent for one in device.interfaces if one.parent} | {name for one in device.interfaces
+                                                                         for name in one.members}
     described = {one.name: role_of(one) for one in device.interfaces}
     roles: dict[str, str] = {}
     left: list[str] = []

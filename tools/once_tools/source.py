@@ -1,6 +1,7 @@
 """Input files as lines with their places."""
 from __future__ import annotations
 
+import codecs
 from dataclasses import dataclass
 from pathlib import Path
 
@@ -26,13 +27,22 @@ class Source:
         return Place(self.name, line, lines[line - 1].strip() if 0 < line <= len(lines) else "")
 
 
+def decoded(octets: bytes) -> str:
+    """Returns the text of a file: UTF-8, or UTF-16 with its mark, as Windows writes. Where no line feed is in it, carriage
+    returns end the lines."""
+    is_wide = octets.startswith((codecs.BOM_UTF16_LE, codecs.BOM_UTF16_BE))
+    text = octets.decode("utf-16" if is_wide else "utf-8", errors="replace" if is_wide else "backslashreplace")
+    text = text.removeprefix("\ufeff")
+    return text if "\n" in text else text.replace("\r", "\n")
+
+
 def read_source(path: Path, name: str | None = None) -> Source:
     """Reads a file of UTF-8; octets that are not UTF-8 are kept as backslash escapes, so that they can be cited."""
     name = name or path.name
     try:
         if path.stat().st_size > MOST_OCTETS:
             raise Unusable(Place(name), f"has more than {MOST_OCTETS} octets", "give a configuration, not a dump")
-        return Source(name, path.read_bytes().decode("utf-8", errors="backslashreplace"))
+        return Source(name, decoded(path.read_bytes()))
     except ValueError:
         raise Unusable(Place(name), "is no name of a file", "name a file that can be read") from None
     except OSError as error:

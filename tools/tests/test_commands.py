@@ -76,7 +76,7 @@ def test_audit(once: str, tmp_path: Path, config: str, status: int) -> None:
 def test_audit_without_once(tmp_path: Path) -> None:
     project(tmp_path, PROJECT)
     found = run("audit", "project.toml", "--once", "none-of-this-name", cwd=tmp_path)
-    assert found.returncode == 2
+    assert found.returncode == 5
     assert "there is no program 'none-of-this-name'" in found.stderr
 
 
@@ -161,8 +161,72 @@ def test_a_new_project_is_audited_as_it_is(once: str, tmp_path: Path) -> None:
     assert found.returncode == 0
     (tmp_path / "project.toml").write_text(found.stdout)
     found = run("audit", "project.toml", "--once", once, cwd=tmp_path)
-    assert found.returncode == 1  # customer B has IPv6 and no monitor of it
+    assert found.returncode == 0
+    assert "IPv6 is not configured at edge-1 GigabitEthernet0/0/1" in found.stdout
+    config = tmp_path / "edge-1.cfg"
+    text = config.read_text()
+    config.write_text(text.replace(" ip address 10.2.0.1 255.255.0.0\n", " ip address 10.2.0.1 255.255.0.0\n ipv6 enable\n"))
+    assert text != config.read_text()
+    found = run("audit", "project.toml", "--once", once, cwd=tmp_path)
+    assert found.returncode == 1  # now customer B has IPv6, and no monitor of it
     assert "certificate of IPv4, checked" in found.stdout and "refutation of IPv6, confirmed" in found.stdout
+
+
+def program_that(folder: Path, does: str) -> Path:
+    """Returns a program in the place of `once`."""
+    made = folder / "once-that-fails"
+    made.write_text(f"#!/bin/sh\n{does}\n")
+    made.chmod(0o755)
+    return made
+
+
+@pytest.mark.parametrize("does, status", [("kill -9 $$", 5), ("exit 134", 5), ("exit 4", 4), ("exit 0", 5)])
+def test_a_program_that_fails_is_no_certificate(tmp_path: Path, does: str, status: int) -> None:
+    project(tmp_path, PROJECT)
+    found = run("audit", "project.toml", "--once", program_that(tmp_path, does), cwd=tmp_path)
+    assert found.returncode == status and "no answer" in found.stdout
+
+
+def test_a_certificate_of_documents_that_differ_says_so(once: str, tmp_path: Path) -> None:
+    project(tmp_path, PROJECT, SAMPLED)
+    found = run("audit", "project.toml", "--once", once, cwd=tmp_path)
+    assert found.returncode == 7
+    assert found.stdout.endswith("certificate, checked, but of documents that differ from the devices: see the lines 'not "
+                                 "carried over'\n")
+
+
+def test_a_certificate_says_that_something_is_accepted(once: str, tmp_path: Path) -> None:
+    project(tmp_path, PROJECT + '[accept]\nsampler = ["r"]\n', SAMPLED)
+    found = run("audit", "project.toml", "--once", once, cwd=tmp_path)
+    assert found.returncode == 0
+    assert found.stdout.endswith("is counted exactly once, apart from what is accepted\n")
+
+
+def test_a_fault_of_the_program_is_no_answer(tmp_path: Path, monkeypatch: pytest.MonkeyPatch) -> None:
+    def fails(*_: object) -> None:
+        raise KeyError("lost")
+    monkeypatch.setattr("once_tools.commands.convert.import_project", fails)
+    project(tmp_path, PROJECT)
+    found = run("project.toml", cwd=tmp_path)
+    assert found.returncode == 5
+    assert found.stderr.startswith("once-import has a fault: KeyError at test_commands.py:")
+
+
+def test_answers_of_an_earlier_audit_are_taken_out(once: str, tmp_path: Path) -> None:
+    project(tmp_path, PROJECT.replace('"sourceIPv4Address"', '"source"'))
+    assert run("audit", "project.toml", "--out", "made", "--once", once, cwd=tmp_path).returncode == 0
+    assert (tmp_path / "made" / "ipv4" / "certificate.txt").is_file()
+    project(tmp_path, PROJECT)
+    assert run("audit", "project.toml", "--out", "made", "--once", once, cwd=tmp_path).returncode == 0
+    assert [str(one.relative_to(tmp_path)) for one in tmp_path.rglob("certificate.txt")] == ["made/certificate.txt"]
+
+
+@pytest.mark.parametrize("encoding", ["utf-16", "utf-8-sig"])
+def test_configurations_as_windows_writes_them(tmp_path: Path, encoding: str) -> None:
+    project(tmp_path, PROJECT)
+    first = run("project.toml", cwd=tmp_path).stdout
+    (tmp_path / "r.cfg").write_bytes(IN.replace("\n", "\r\n").encode(encoding))
+    assert run("project.toml", cwd=tmp_path).stdout == first
 
 
 def test_the_program_in_a_pipe_that_is_closed(tmp_path: Path) -> None:

@@ -241,3 +241,58 @@ def test_no_change_of_older_forms_is_passed_over_in_silence() -> None:
                 "double", "swap") and not re.fullmatch(r"\s*(!.*|hostname .*|end)?", line):
             silent.append((what, line))
     assert silent == []
+
+
+@pytest.mark.parametrize("statement", [
+    "service-policy type performance-monitor input P", "et-analytics enable", "mls netflow sampling", "ip flow mon M output",
+    "IP FLOW MONITOR M output", "no ip flow monitor M input", "service instance 10 ethernet\n  ip flow monitor M input"])
+def test_what_meters_at_an_interface_in_another_spelling_is_reported(statement: str) -> None:
+    found = findings(interface("ip flow monitor M input", statement), Grade.NOT_CARRIED_OVER)
+    assert found == [statement.split("\n")[-1].strip()]
+
+
+@pytest.mark.parametrize("section", [
+    "wireless profile policy P\n ipv4 flow monitor M input", "int gi0/0/7\n ip flow monitor M input",
+    "bridge-domain 10\n ip flow monitor M input", "template T\n ip flow monitor M input", "mls sampling packet-based 64",
+    "control-plane\n ip flow monitor M input", "ipv6 flow monitor M input"])
+def test_monitors_in_sections_that_are_not_read_are_reported(section: str) -> None:
+    found = findings(interface("ip flow monitor M input") + section + "\n", Grade.NOT_CARRIED_OVER)
+    assert found == [section.split("\n")[-1].strip()]
+
+
+@pytest.mark.parametrize("section", [
+    'event manager applet X\n action 1.0 cli command "ip flow monitor M input"', "alias exec f show flow monitor M",
+    "ip nat log translations flow-export v9 udp destination 192.0.2.1 9995",
+    "parameter-map type inspect-global\n log flow-export v9 udp destination 192.0.2.1 9995"])
+def test_lines_that_meter_nothing_are_no_fault(section: str) -> None:
+    assert findings(interface("ip flow monitor M input") + section + "\n", Grade.NOT_CARRIED_OVER) == []
+
+
+def test_sections_of_one_name_are_one() -> None:
+    second = "flow exporter F\n destination 192.0.2.11\n transport udp 4739\nflow monitor M\n exporter F\n"
+    device = read(interface("ip flow monitor M input") + second)
+    assert device.caches[0].exporters == ["E", "F"]
+    assert [one.destinations[0].address for one in device.exporters] == ["192.0.2.10", "192.0.2.11"]
+
+
+def test_lines_of_a_record_may_be_indented_further() -> None:
+    text = interface("ip flow monitor M input").replace("\n match ipv4 destination", "\n  match ipv4 destination")
+    assert [one.element for one in read(text).caches[0].fields if one.is_key] == [
+        "sourceIPv4Address", "destinationIPv4Address"]
+
+
+def test_a_banner_without_an_end_hides_nothing() -> None:
+    assert [one.name for one in read("banner motd ^C\nwelcome\n" + interface("ip flow monitor M input")).points] == ["M input"]
+
+
+def test_route_cache_flow_covers_subinterfaces() -> None:
+    text = ("ip flow-export destination 192.0.2.10 2055\ninterface FastEthernet0/0\n ip route-cache flow\n"
+            "interface FastEthernet0/0.10\n ip address 10.0.0.1 255.0.0.0\n")
+    assert [one.interfaces for one in read(text).points] == [["FastEthernet0/0", "FastEthernet0/0.10"]]
+    assert "ip route-cache flow" in findings(text, Grade.PREMISE)
+
+
+def test_a_monitor_beside_subinterfaces_is_a_premise() -> None:
+    text = interface("ip flow monitor M input") + "interface GigabitEthernet0/0.10\n ip flow monitor M input\n"
+    assert findings(text, Grade.PREMISE) == ["ip flow monitor M input"]
+    assert findings(interface("ip flow monitor M input"), Grade.PREMISE) == []

@@ -85,7 +85,8 @@ def test_host_name_needs_an_address(once: str, tmp_path: Path) -> None:
     assert answer(once, tmp_path, PROJECT + '[addresses]\n"flows.example.net" = "192.0.2.10"\n', text) == "once-certificate"
 
 
-@pytest.mark.parametrize("accepted, expected", [("198.51.100.1", "once-certificate"), ("198.51.100.2", "once-refutation")])
+@pytest.mark.parametrize("accepted, expected", [("198.51.100.1", "once-certificate"), ("198.51.100.2", "once-refutation"),
+                                                ("198.51.100.0/24", "once-certificate"), ("198.51.99.0/24", "once-refutation")])
 def test_sources_that_a_collector_accepts(once: str, tmp_path: Path, accepted: str, expected: str) -> None:
     project = PROJECT.replace(COLLECTOR, COLLECTOR + f'accept_from = ["{accepted}"]\n')
     assert answer(once, tmp_path, project) == expected
@@ -157,3 +158,29 @@ def test_a_device_that_cannot_be_read_is_reported(tmp_path: Path) -> None:
     found = made(tmp_path, PROJECT.replace("r.cfg", "gone.cfg"), r_cfg=IN)
     assert found.report.lines() == ["wrong project.toml:4: '[[devices]]': file gone.cfg cannot be read: No such file or "
                                     "directory; name a file that can be read"]
+
+
+V6 = IN.replace("match ipv4", "match ipv6").replace("ip flow monitor", "ipv6 flow monitor")
+V6_PROJECT = PROJECT.replace("sourceIPv4Address", "sourceIPv6Address").replace("10.0.0.0/8", "2001:db8::/32")
+
+
+@pytest.mark.parametrize("protocol, expected", [("ipfix", "once-certificate"), ("netflow-v9", "once-certificate"),
+                                                ("netflow-v5", "once-refutation")])
+def test_records_of_ipv6_are_not_sent_by_netflow_5(once: str, tmp_path: Path, protocol: str, expected: str) -> None:
+    """NetFlow version 5 has fixed records of IPv4."""
+    assert answer(once, tmp_path, V6_PROJECT, V6.replace("export-protocol ipfix", f"export-protocol {protocol}")) == expected
+
+
+def test_a_destination_in_a_vrf_is_a_premise(tmp_path: Path) -> None:
+    found = lines(tmp_path, PROJECT, IN.replace("destination 192.0.2.10", "destination 192.0.2.10 vrf OTHER"))
+    assert any(one.startswith("premise r.cfg:9: 'destination 192.0.2.10 vrf OTHER': vrf OTHER is taken to lead to") for one in found)
+
+
+@pytest.mark.parametrize("key, grades", [
+    ('"sourceIPv4Address"', []), ('"sourceIPv4Prefix/24"', []), ('["source"]', []),
+    ('["source", "destination"]', ["not carried over"]), ('"destinationIPv4Address"', ["not carried over"])])
+def test_a_key_that_the_collector_does_not_store_by(tmp_path: Path, key: str, grades: list[str]) -> None:
+    collector = '[[collectors]]\nname = "billing"\nkind = "nfacctd"\nconfig = "c.conf"\n'
+    found = made(tmp_path, PROJECT.replace(COLLECTOR, collector).replace('"sourceIPv4Address"', key), r_cfg=IN,
+                 c_conf="plugins: print[bill]\nnfacctd_ip: 192.0.2.10\nnfacctd_port: 4739\naggregate[bill]: src_host\n")
+    assert [one.grade.value for one in found.report.findings if "has no totals by" in one.says] == grades

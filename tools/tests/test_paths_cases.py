@@ -113,6 +113,61 @@ def test_vrfs_without_a_pair_are_a_premise(tmp_path: Path) -> None:
     assert ways(declaration) == ["a:in:in a:out:eg"] and grades(declaration.findings, "different VRFs") == ["premise"]
 
 
+def test_an_interface_that_only_a_leak_joins_has_paths_beside_those_that_have_some(tmp_path: Path) -> None:
+    leak = device("a", "in 10.1.0.1/16", "vpn 10.2.0.1/16 vrf=A", "out 172.31.0.1/31")
+    declaration = declared(tmp_path, [leak], TRAFFIC + 'from = ["a:in", "a:vpn"]\nto = ["a:out"]\n')
+    assert ways(declaration) == ["a:in:in a:out:eg", "a:vpn:in a:out:eg"]
+    assert grades(declaration.findings, "different VRFs (a vpn)") == ["premise"]
+
+
+def test_an_interface_without_a_path_is_reported(tmp_path: Path) -> None:
+    apart = [device("a", "in 10.1.0.1/16", "out 172.31.0.1/31"), device("b", "in 10.2.0.1/16")]
+    declaration = declared(tmp_path, apart, TRAFFIC + 'from = ["a:in", "b:in"]\nto = ["a:out"]\n')
+    assert grades(declaration.findings, "names b in, and no path") == ["not carried over"]
+
+
+@pytest.mark.parametrize("hops, expected", [(2, ["premise"]), (3, [])])
+def test_paths_that_are_too_long_are_a_premise(tmp_path: Path, hops: int, expected: list[str]) -> None:
+    row = [device("a", "in 10.1.0.1/16", "ab 10.9.0.1/31", "out 10.8.0.1/31"), device("b", "ba 10.9.0.0/31", "bc 10.9.0.2/31"),
+           device("c", "cb 10.9.0.3/31", "out 10.7.0.1/31")]
+    declaration = declared(tmp_path, row, TRAFFIC + f'from = ["a:in"]\nto = ["a:out", "c:out"]\nhops = {hops}\n')
+    assert grades(declaration.findings, f"over more than {hops} devices") == expected
+
+
+def test_an_empty_role_is_wrong(tmp_path: Path) -> None:
+    declaration = declared(tmp_path, [device("a", "in 10.1.0.1/16", "out 172.31.0.1/31")],
+                           '[roles]\ncustomers = []\n' + TRAFFIC + 'from = ["customers"]\nto = ["a:out"]\n')
+    assert wrongs(declaration) == ["role 'customers' names no interface"]
+
+
+@pytest.mark.parametrize("vrf", ["vrf=CUSTOMER", ""])
+def test_a_router_of_a_customer_is_joined_to_a_vrf(tmp_path: Path, vrf: str) -> None:
+    """Names of VRFs are local to a router: the customer's router has none."""
+    both = [device("ce", "lan 10.1.0.1/16", "wan 10.9.0.1/30"), device("pe", f"in 10.9.0.2/30 {vrf}", f"out 172.31.0.1/31 {vrf}")]
+    declaration = declared(tmp_path, both, TRAFFIC + 'from = ["ce:lan"]\nto = ["pe:out"]\n')
+    assert ways(declaration) == ["ce:lan:in ce:wan:eg pe:in:in pe:out:eg"]
+
+
+def test_vrfs_of_one_name_are_joined_first(tmp_path: Path) -> None:
+    three = [device("a", "lan 10.1.0.1/16 vrf=A", "wan 10.9.0.1/29 vrf=A"), device("b", "in 10.9.0.2/29 vrf=A", "out 172.31.0.1/31 vrf=A"),
+             device("c", "in 10.9.0.3/29 vrf=C", "out 172.31.0.3/31 vrf=C")]
+    declaration = declared(tmp_path, three, TRAFFIC + 'from = ["a:lan"]\nto = ["b:out"]\n')
+    assert ways(declaration) == ["a:lan:in a:wan:eg b:in:in b:out:eg"]
+
+
+def test_two_devices_in_one_large_subnet_are_a_premise(tmp_path: Path) -> None:
+    both = [device("a", "in 10.1.0.1/16", "out 172.16.0.1/24"), device("b", "in 172.16.0.2/24", "out 172.31.0.1/31")]
+    declaration = declared(tmp_path, both, TRAFFIC + 'from = ["a:in"]\nto = ["a:out"]\n')
+    assert grades(declaration.findings, "a out, b in are in one subnet, 172.16.0.0/24") == ["premise"]
+
+
+def test_a_probe_sees_packets_of_a_vlan_at_the_main_interface_too(tmp_path: Path) -> None:
+    probe = device("gw", "eth0", "eth0.100 10.1.0.1/16", "eth1 172.31.0.1/31", metered=("eth0:ingress", "eth0.100:ingress"))
+    probe.kind = "pmacctd"
+    declaration = declared(tmp_path, [probe], TRAFFIC + 'from = ["gw:eth0.100"]\nto = ["gw:eth1"]\n')
+    assert ways(declaration) == ["gw:eth0:in gw:eth0.100:in gw:eth1:eg"]
+
+
 @pytest.mark.parametrize("metered, expected", [
     (("Gi1/0/1:ingress", "Vlan100:ingress"), ["sw:Gi1/0/1:in sw:Vlan100:in sw:Te1:eg", "sw:Gi1/0/2:in sw:Vlan100:in sw:Te1:eg"]),
     (("Vlan100:ingress",), ["sw:Vlan100:in sw:Te1:eg"]),

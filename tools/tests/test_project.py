@@ -37,6 +37,17 @@ def test_a_good_project_has_no_findings() -> None:
     assert project.devices[0].place.line == 4
 
 
+@pytest.mark.parametrize("member, wanted", [
+    ('protocol = "tcp"', "'protocol' must be a number from 0 to 255, or a range"),
+    ('protocol = "6-5"', "'protocol' must be a number from 0 to 255, or a range"),
+    ("destination_port = 65536", "'destination_port' must be a number from 0 to 65535, or a range"),
+    ('version = "4-6"', "'version' must be 4 or 6"), ("version = 5", "'version' must be 4 or 6"),
+    ('ingress = ["a:b"]', "traffic 'up' has both 'from' and 'ingress'")])
+def test_values_of_traffic_that_packets_cannot_have(member: str, wanted: str) -> None:
+    found = lines(GOOD + f'[[traffic]]\nname = "up"\nfrom = ["a:b"]\nto = ["a:c"]\n{member}\n')
+    assert len(found) == 1 and f"'{member}': {wanted}" in found[0]
+
+
 @pytest.mark.parametrize("added, wanted", [
     ("[roless]\n", "wrong project.toml:10: '[roless]': no table 'roless'; write 'roles'"),
     ("[[devices]]\nname = \"b\"\nconfg = \"c\"\n",

@@ -140,6 +140,29 @@ def test_nfacctd_that_filters_is_not_carried_over() -> None:
     assert finding(device, "aggregate_filter").grade is Grade.NOT_CARRIED_OVER
 
 
+@pytest.mark.parametrize("line", ["networks_file_filter: true", "sql_preprocess: minp=5", "print_preprocess: minb=100",
+                                  "nfacctd_ext_sampling_rate: 10"])
+def test_nfacctd_that_changes_or_leaves_out_totals_is_not_carried_over(line: str) -> None:
+    device = read_text("nfacctd", f"plugins: print[p]\nnfacctd_port: 4739\nnfacctd_renormalize: true\n{line}\n")
+    assert [one.place.text for one in device.findings if one.grade is Grade.NOT_CARRIED_OVER] == [line]
+
+
+def test_pmacctd_that_leaves_out_addresses_is_not_carried_over() -> None:
+    device = read_text("pmacctd", PROBE + "networks_file: /etc/n.lst\nnetworks_file_filter: true\n")
+    assert finding(device, "outside of networks_file").grade is Grade.NOT_CARRIED_OVER
+
+
+def test_a_second_probe_in_one_device_is_reported() -> None:
+    device = read_text("pmacctd", PROBE, other_conf=PROBE.replace("eth0", "eth1"))
+    one = finding(device, "is not read")
+    assert (one.grade, one.place.file) == (Grade.NOT_CARRIED_OVER, "other.conf")
+
+
+def test_nfacctd_without_its_list_of_senders_is_a_premise() -> None:
+    device = read_text("nfacctd", "plugins: print\nnfacctd_port: 4739\nnfacctd_allow_file: /etc/a.lst\n")
+    assert finding(device, "was not given").grade is Grade.PREMISE
+
+
 def test_nfcapd_listens_at_its_usual_port_and_takes_named_senders() -> None:
     device = read_text("nfcapd", "ExecStart=/usr/bin/nfcapd -w /var/flows -n gw1,198.51.100.1,/var/flows/gw1 -s 100\n")
     assert device.listeners[0].listens == [("*", 9995, "udp")] and device.listeners[0].accepts == ["198.51.100.1"]
@@ -251,6 +274,20 @@ def test_junos_next_term_goes_on() -> None:
     found = [match["sourceIPv4Prefix"] for name, (match, _) in shape(read_text("junos", text))["selections"].items()
              if name.startswith("BILL-D")]
     assert found[0] == "10.4.255.0/24" and len(found) == 9
+
+
+@pytest.mark.parametrize("line", [
+    "set forwarding-options family inet filter input BILL-D", "set interfaces xe-0/0/0 unit 0 filter input NONE",
+    "set routing-instances R forwarding-options family inet filter input BILL-D",
+    "set firewall family ethernet-switching filter F term T then sample",
+    "set firewall family inet filter F term T then inline-monitoring-instance I",
+    "set services inline-monitoring instance I collector C destination-address 192.0.2.1",
+    "set forwarding-options monitoring G family inet output flow-export-destination cflowd-collector",
+    "set dynamic-profiles P firewall family inet filter F term T then sample",
+    "insert firewall family inet filter BILL-D term rest before term customers", "wildcard delete interfaces xe-*"])
+def test_junos_meters_in_other_places_are_not_carried_over(line: str) -> None:
+    found = read_text("junos", JUNOS + line + "\n").findings
+    assert [one.place.text for one in found if one.grade is Grade.NOT_CARRIED_OVER] == [line]
 
 
 def test_junos_deactivated_interface_is_left_out() -> None:

@@ -19,8 +19,10 @@ from once_tools.report import Report
 
 NAME = "audit"
 NOT_ALL = 7
+FAILED = 5
 # Of the statuses of several pairs of documents, the first of these is the answer.
-WORST = [2, 4, 5, 6, 1, 3]
+WORST = [2, 4, FAILED, 6, 1, 3]
+ANSWERS = ("certificate.txt", "refutation.txt")
 
 
 def add_parser(subparsers: Subparsers) -> None:
@@ -33,6 +35,13 @@ def add_parser(subparsers: Subparsers) -> None:
     add_import_options(parser)
     parser.add_argument("--once", metavar="PROGRAM", help="the program `once` (found on the PATH otherwise)")
     parser.set_defaults(run=run)
+
+
+def known(run: Run) -> Run:
+    """Returns what `once` answered; a status that it does not have, as of a program that a signal ended, is a failure."""
+    if run.status in (0, *WORST):
+        return run
+    return Run(FAILED, f"`once` ended with status {run.status}: {run.output}", run.errors)
 
 
 def answered(program: str, folder: Path) -> tuple[Run, str]:
@@ -49,18 +58,21 @@ def answered(program: str, folder: Path) -> tuple[Run, str]:
     judged = run_once(program, command, *documents, folder / name)
     wanted = "yes\n" if command == "check" else "refuted\n"
     if judged.status or not judged.output.startswith(wanted):
-        return Run(judged.status or 3, f"`once {command}` does not agree with `once audit`:\n{judged.output}", judged.errors), ""
+        return Run(FAILED, f"`once {command}` does not agree with `once audit`:\n{judged.output}", judged.errors), ""
     return audit, name
 
 
-def summary(pair: Pair, run: Run, name: str) -> str:
+def summary(pair: Pair, run: Run, name: str, report: Report) -> str:
     """Returns in a line what an answer says."""
     version = f" of {pair.folder.replace('ipv', 'IPv')}" if pair.folder else ""
-    if name == "certificate.txt":
-        return f"certificate{version}, checked: each packet of the declared traffic is counted exactly once"
     if name == "refutation.txt":
         return f"refutation{version}, confirmed: a packet of the declared traffic is not counted exactly once"
-    return f"no answer{version}: {(run.output + run.errors).strip()}"
+    if name != "certificate.txt":
+        return f"no answer{version}: {(run.output + run.errors).strip()}"
+    if report.status:
+        return f"certificate{version}, checked, but of documents that differ from the devices: see the lines 'not carried over'"
+    except_for = ", apart from what is accepted" if any(report.accepted(one) for one in report.findings) else ""
+    return f"certificate{version}, checked: each packet of the declared traffic is counted exactly once{except_for}"
 
 
 def blamed_in_full(program: str, project: Project, options: Options, folder: str) -> list[Finding]:
@@ -75,12 +87,17 @@ def blamed_in_full(program: str, project: Project, options: Options, folder: str
     return blame(pairs[0].network, pairs[0].traffic, answer.output) if answer.status == 1 else []
 
 
-def audit_pair(program: str, pair: Pair, folder: Path) -> tuple[Run, str]:
+def forget(out: Path) -> None:
+    """Takes out the answers of an earlier audit, also those of a version of IP that is not declared any more."""
+    for folder in ("", "ipv4", "ipv6"):
+        for name in ANSWERS:
+            (out / folder / name).unlink(missing_ok=True)
+
+
+def audit_pair(program: str, pair: Pair, folder: Path, report: Report) -> tuple[Run, str]:
     """Returns the answer about a pair of documents that was written into a folder, and what it says in a line."""
-    for old in ("certificate.txt", "refutation.txt"):
-        (folder / old).unlink(missing_ok=True)
     answer, name = answered(program, folder)
-    return answer, summary(pair, answer, name)
+    return known(answer), summary(pair, answer, name, report)
 
 
 def meaning_of_certificates(meaning: Sequence[str], statuses: list[int]) -> list[str]:
@@ -101,7 +118,8 @@ def run(arguments: argparse.Namespace) -> int:
     with tempfile.TemporaryDirectory() as made:
         out = arguments.out or Path(made)
         write_texts(imported.texts(), out)
-        answers = [(pair, *audit_pair(program, pair, out / pair.folder)) for pair in imported.pairs]
+        forget(out)
+        answers = [(pair, *audit_pair(program, pair, out / pair.folder, imported.report)) for pair in imported.pairs]
     blamed: list[Finding] = []
     for pair, answer, _ in answers:
         found = blamed_in_full(program, project, options, pair.folder) if answer.status == 1 and not options.full else []

@@ -6,6 +6,7 @@ from dataclasses import dataclass, field, replace
 from once_tools.model import Crossing, Device, Direction, Finding, Grade, Place, Unusable
 from once_tools.paths.batfish import batfish_paths
 from once_tools.paths.control import control_pieces
+from once_tools.paths.links import report_subnets
 from once_tools.paths.layers import layered, metered_by
 from once_tools.paths.pieces import Declaration, Piece, beginnings
 from once_tools.paths.premises import meaning, premises
@@ -22,6 +23,11 @@ MOST_PIECES = 10_000
 BACK = {"sourceTransportPort": "destinationTransportPort", "destinationTransportPort": "sourceTransportPort"}
 
 
+def listed(nodes: list[Node]) -> str:
+    """Returns the first of some interfaces in words."""
+    return ", ".join(f"{device} {name}" for device, name in nodes[:8]) + (", .." if len(nodes) > 8 else "")
+
+
 @dataclass
 class _Declaring:
     """A declaration in the making."""
@@ -31,6 +37,7 @@ class _Declaring:
     tables: dict[str, list[Tables]]
     findings: list[Finding] = field(default_factory=list)
     pieces: list[Piece] = field(default_factory=list)
+    named: dict[Node, Traffic] = field(default_factory=dict)
     uses_tables: bool = False
     uses_roles: bool = False
 
@@ -44,15 +51,18 @@ class _Declaring:
             try:
                 before = len(self.pieces)
                 self._way(way)
-                if len(self.pieces) == before and not any(each.grade is Grade.WRONG for each in self.topology.findings):
+                told = [*self.topology.findings, *self.findings]
+                if len(self.pieces) == before and not any(each.grade is Grade.WRONG for each in told):
                     self.wrong(one.place, f"traffic '{way.name}' has no path", "correct 'from' and 'to', or give links")
             except Unusable as error:
                 self.findings.append(error.finding)
 
     def _way(self, one: Traffic) -> None:
         if one.paths or one.batfish or one.start:
+            whole_paths = self._whole_paths(one)
             for version, source, destination in self._regions(one):
-                self._add(one, version, source, destination, self._whole_paths(one))
+                paths = self._of_version(one, version, whole_paths) if one.start else whole_paths
+                self._add(one, version, source, destination, paths)
         else:
             self.uses_tables = True
             walker = Walker(self.topology, self.tables, one.loops == "drop")
@@ -80,13 +90,13 @@ class _Declaring:
     def _between(self, one: Traffic) -> list[Path]:
         starts, ends = self.nodes(one.start, one.place), self.nodes(one.end, one.place)
         search = Search(starts, ends, one.hops, one.hairpin, one.place)
-        found = simple_paths(self.topology, search)
-        if not found and starts and ends:
-            found = simple_paths(self.topology, replace(search, keeps_vrf=False))
-            if found:
-                self.findings.append(Finding(Grade.PREMISE, one.place, f"'from' and 'to' of '{one.name}' are in different "
-                                             "VRFs: routes are taken to lead from one to the other within a device",
-                                             "give the interfaces that join the VRFs in a table of links"))
+        cut: set[Node] = set()
+        found = simple_paths(self.topology, search, cut)
+        if starts and ends:
+            found = list(dict.fromkeys([*found, *self._between_vrfs(one, search, found, cut)]))
+        if cut:
+            self.findings.append(Finding(Grade.PREMISE, one.place, f"paths of '{one.name}' over more than {one.hops} devices, as "
+                                         f"over {listed(sorted(cut)[:1])}, are not declared", "write hops = N for more"))
         for end in ends:
             for peer in self.topology.peers.get(end, []):
                 self.findings.append(Finding(Grade.PREMISE, one.place, f"'{one.name}' ends at {end[0]} {end[1]}, which leads to "
@@ -94,12 +104,53 @@ class _Declaring:
                                              "name the interfaces by which it leaves the network"))
         return found
 
+    def _of_version(self, one: Traffic, version: int, paths: list[Path]) -> list[Path]:
+        """Returns the paths that packets of a version can begin. Where the traffic names its packets, they can begin all."""
+        if one.sources or one.destinations or "ipVersion" in one.axes:
+            return paths
+        lacking = list(dict.fromkeys((path[0].device, path[0].interface) for path in paths if version in
+                                     self.topology.interfaces[path[0].device][path[0].interface].lacks))
+        if lacking:
+            self.findings.append(Finding(Grade.PREMISE, one.place, f"IPv{version} is not configured at {listed(lacking)}: "
+                                         f"no packet of '{one.name}' over IPv{version} comes in there"))
+        return [path for path in paths if (path[0].device, path[0].interface) not in lacking]
+
+    def _between_vrfs(self, one: Traffic, search: Search, found: list[Path], cut: set[Node]) -> list[Path]:
+        """Returns paths for the interfaces that no path begins or ends at unless it leads from one VRF into another."""
+        begun = {(path[0].device, path[0].interface) for path in found}
+        ended = {(path[-1].device, path[-1].interface) for path in found}
+        alone = [node for node in search.starts if node not in begun]
+        unreached = [node for node in search.ends if node not in ended]
+        more = simple_paths(self.topology, replace(search, starts=alone, keeps_vrf=False), cut) if alone else []
+        more += simple_paths(self.topology, replace(search, ends=unreached, keeps_vrf=False), cut) if unreached else []
+        crossed = {(each.device, each.interface) for path in more for each in (path[0], path[-1])}
+        joined = [node for node in dict.fromkeys([*alone, *unreached]) if node in crossed and self.topology.vrf(node)]
+        if more:
+            which = " (" + listed(joined) + ")" if found and joined else ""
+            self.findings.append(Finding(Grade.PREMISE, one.place, f"'from' and 'to' of '{one.name}' are in different "
+                                         f"VRFs{which}: routes are taken to lead from one to the other within a device",
+                                         "give the interfaces that join the VRFs in a table of links"))
+        self.named |= {node: one for node in [*alone, *unreached] if node not in crossed}
+        return more
+
+    def report_named(self) -> None:
+        """Reports interfaces that the project names and that no path of any traffic begins or ends at."""
+        ends = {(each.device, each.interface) for piece in self.pieces for path in piece.paths if path
+                for each in (path[0], path[-1])}
+        for (device, name), one in self.named.items() if self.pieces else ():
+            if (device, name) not in ends:
+                self.findings.append(Finding(Grade.NOT_CARRIED_OVER, one.place, f"'{one.name}' names {device} {name}, and no "
+                                             "path begins or ends there: its packets are not declared",
+                                             "give the links of its device, or take it out of the role"))
+
     def nodes(self, texts: tuple[str, ...], place: Place) -> list[Node]:
         """Returns the interfaces that roles and `DEVICE:INTERFACE` stand for."""
         roles = {role.name: role for role in self.project.roles}
         found: dict[Node, None] = {}
         for text in texts:
-            if text in roles:
+            if text in roles and not roles[text].interfaces:
+                self.wrong(roles[text].place, f"role '{text}' names no interface", "name interfaces as \"DEVICE:INTERFACE\"")
+            elif text in roles:
                 for entry in roles[text].interfaces:
                     found |= dict.fromkeys(self.topology.matching(entry, roles[text].place))
             elif ":" in text:
@@ -137,8 +188,9 @@ class _Declaring:
     def _versions(self, one: Traffic) -> set[int]:
         """Returns the versions that the ends have addresses of; 4 where no addresses are known."""
         nodes = self.nodes((*one.start, *one.end), one.place)
-        texts = [text for device, name in nodes for text in self.topology.interfaces[device][name].addresses]
-        found = {6 if ":" in text else 4 for text in texts}
+        ends = [self.topology.interfaces[device][name] for device, name in nodes]
+        found = {6 if ":" in text else 4 for end in ends for text in end.addresses}
+        found |= {version for end in ends for version in end.has}
         if not found and "ipVersion" not in one.axes:
             self.findings.append(Finding(Grade.PREMISE, one.place, f"'{one.name}' names no addresses, and none of its interfaces "
                                          "is known to have any: it is taken to be IPv4", "add source, destination or version"))
@@ -227,6 +279,7 @@ def declare(devices: list[Device], project: Project) -> Declaration:
     making = _Declaring(project, topology, tables_of(project, topology))
     for one in project.traffic:
         making.traffic(one)
+    making.report_named()
     making.pieces += outer_pieces(topology, making.tables, project, making.pieces)
     control = control_pieces(topology, Place(project.file))
     if project.paths.control:
@@ -246,7 +299,8 @@ def declare(devices: list[Device], project: Project) -> Declaration:
     findings = list(topology.findings)
     for moments in making.tables.values():
         findings += [each for tables in moments for each in tables.findings]
-    findings += making.findings + _premises(devices, project, pieces)
+    ends = {(path[-1].device, path[-1].interface) for piece in making.pieces for path in piece.paths if path}
+    findings += making.findings + report_subnets(topology, ends) + _premises(devices, project, pieces)
     return Declaration(pieces, topology, list(dict.fromkeys(findings)), _meaning(making))
 
 

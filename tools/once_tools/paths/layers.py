@@ -56,6 +56,10 @@ def _layers(one: Crossing, topology: Topology, metered: set[Crossing]) -> list[P
     above = [Crossing(one.device, other.name, one.direction) for other in interfaces.values()
              if one.interface in other.members]
     above = [other for other in above if other in metered]
+    main, dot, _ = one.interface.rpartition(".")
+    below = Crossing(one.device, main, one.direction)
+    if dot and one.device in topology.capturing and below in metered:
+        return [_in_order(below, one)]
     return [_in_order(one, other) for other in above] or [(one,)]
 
 

@@ -14,6 +14,7 @@ from once_tools.source import Source
 
 COLUMNS = ["a", "a_interface", "b", "b_interface"]
 MOST_HOSTS = 8
+Network = ipaddress.IPv4Network | ipaddress.IPv6Network
 
 
 @dataclass(frozen=True)
@@ -155,25 +156,61 @@ def _text(node: Node) -> str:
 
 
 def add_subnets(topology: Topology) -> None:
-    """Joins interfaces of different devices that share a subnet of at most 8 hosts, where no link is known."""
+    """Joins interfaces of different devices that share a subnet of at most 8 hosts, where no link is known: first those of
+    VRFs of one name, then the others, since names of VRFs mean nothing to a neighbour."""
+    shared: dict[object, list[Node]] = {}
+    for node, network in _networks(topology):
+        if network.num_addresses <= MOST_HOSTS:
+            shared.setdefault(network, []).append(node)
+    linked = set(topology.peers)
+    for nodes in shared.values():
+        for a, b in _pairs(nodes, linked):
+            if topology.vrf(a) == topology.vrf(b):
+                topology.add_peers(a, b)
+        for a, b in _pairs(nodes, set(topology.peers)):
+            topology.add_peers(a, b)
+
+
+def report_subnets(topology: Topology, ends: set[Node]) -> list[Finding]:
+    """Returns a premise for each subnet of more than 8 hosts by which packets may pass from an interface of `ends`, at which
+    paths end, to another device: without a link, no path does."""
     shared: dict[tuple[str, object], list[Node]] = {}
+    for node, network in _networks(topology):
+        if network.num_addresses > MOST_HOSTS:
+            shared.setdefault((topology.vrf(node), network), []).append(node)
+    found = []
+    for (_, subnet), nodes in shared.items():
+        apart = [pair for pair in _pairs(nodes, set(topology.peers)) if set(pair) & ends]
+        if apart:
+            names = ", ".join(dict.fromkeys(_text(node) for pair in apart for node in pair))
+            place = topology.interfaces[apart[0][0][0]][apart[0][0][1]].place
+            found.append(Finding(Grade.PREMISE, place, f"{names} are in one subnet, {subnet}, which is too large to be taken "
+                                 "for a link: no packet is taken to pass from one to another", "give their links in a table "
+                                 "of links if packets do"))
+    return found
+
+
+def _networks(topology: Topology) -> Iterator[tuple[Node, Network]]:
+    """Yields the subnets of the interfaces that are up."""
     for device, interfaces in topology.interfaces.items():
         for interface in interfaces.values():
             for text in interface.addresses if not interface.is_shut else []:
-                network = _small_network(text)
+                network = _network(text)
                 if network:
-                    shared.setdefault((interface.vrf, network), []).append((device, interface.name))
-    linked = set(topology.peers)
-    for nodes in shared.values():
-        for at, a in enumerate(nodes):
-            for b in nodes[at + 1:]:
-                if a[0] != b[0] and a not in linked and b not in linked:
-                    topology.add_peers(a, b)
+                    yield (device, interface.name), network
 
 
-def _small_network(text: str) -> object | None:
+def _pairs(nodes: list[Node], linked: set[Node]) -> Iterator[tuple[Node, Node]]:
+    """Yields the pairs of interfaces of different devices of which neither has a link."""
+    for at, a in enumerate(nodes):
+        for b in nodes[at + 1:]:
+            if a[0] != b[0] and a not in linked and b not in linked:
+                yield a, b
+
+
+def _network(text: str) -> Network | None:
     try:
         network = ipaddress.ip_interface(text).network
     except ValueError:
         return None
-    return network if 2 <= network.num_addresses <= MOST_HOSTS and not network.is_link_local else None
+    return network if network.num_addresses >= 2 and not network.is_link_local else None

@@ -47,7 +47,7 @@ PATTERNS = [
              "declare traffic between VRFs with 'paths'"),
     _pattern(r"^\s*ip access-group |^\s*ipv6 traffic-filter |^\s*ipv4 access-group ", Grade.PREMISE,
              "a packet filter: packets that it denies end here, and are declared only with may_drop",
-             "write may_drop = true under [paths] if a meter stands after the filter"),
+             "write may_drop = true under [paths] if a meter comes after the filter"),
     _pattern(r"^\s*ip mtu |^\s*ip tcp adjust-mss|^\s*(ipv6 )?mtu (?!1500\b)\d|^set interfaces .* mtu ", Grade.PREMISE,
              "an MTU of its own: where a packet is fragmented, meters after it count each fragment, with its header",
              "make all MTUs on metered paths equal, or meter before this interface"),

@@ -12,9 +12,12 @@ from once_tools.paths.tunnels import join_tunnels
 from once_tools.project import DeviceEntry, Project
 
 
+CAPTURING = ("pmacctd", "softflowd")
+
+
 def topology_of(devices: list[Device], project: Project) -> Topology:
     """Returns the devices with their interfaces, and the links between them."""
-    topology = Topology()
+    topology = Topology(capturing={device.name for device in devices if device.kind in CAPTURING})
     known = {device.name: device for device in devices}
     for entry in project.devices:
         topology.interfaces.setdefault(entry.name, {})

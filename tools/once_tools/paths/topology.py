@@ -19,13 +19,15 @@ SHORT = {"be": "bundleether", "ge": "gigabitethernet", "xge": "xgigabitethernet"
 
 @dataclass
 class Topology:
-    """What is known of the network between the devices. Interfaces stand in the order of their configurations."""
+    """What is known of the network between the devices. Interfaces are in the order of their configurations; `capturing` are
+    the devices whose meters capture frames, so that they see packets of a VLAN's interface at its main interface too."""
 
     interfaces: dict[str, dict[str, Interface]] = field(default_factory=dict)
     aliases: dict[str, list[str]] = field(default_factory=dict)
     peers: dict[Node, list[Node]] = field(default_factory=dict)
     owners: dict[Address, list[Node]] = field(default_factory=dict)
     findings: list[Finding] = field(default_factory=list)
+    capturing: set[str] = field(default_factory=set)
 
     def add_interface(self, device: str, interface: Interface) -> None:
         """Adds an interface, or what is new of one that is known."""
@@ -75,7 +77,9 @@ class Topology:
     def interface(self, device: str, name: str, place: Place) -> str | None:
         """Returns the interface that a name stands for, or None after a finding."""
         known = self.interfaces.get(device, {})
-        found = [one for one in known if one == name] or same_names(name, list(known.values()))
+        if name in known:
+            return name
+        found = same_names(name, list(known.values()))
         if len(found) == 1:
             return found[0]
         if len(found) > 1:

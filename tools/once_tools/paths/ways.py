@@ -4,13 +4,14 @@ from __future__ import annotations
 import ipaddress
 from dataclasses import dataclass, field
 
-from once_tools.model import Crossing, Direction, Finding, Grade, Place, Unusable
+from once_tools.model import Crossing, Direction, Finding, Grade, Interface, Place, Unusable
 from once_tools.paths.routes import Hop, Tables
 from once_tools.paths.topology import Address, Node, Topology
 
 Path = tuple[Crossing, ...]
 Seen = tuple[tuple[str, str], ...]  # devices with their routing instances
 MOST_PATHS = 100_000
+MOST_STEPS = 200_000
 MOST_RECURSION = 8
 
 
@@ -31,14 +32,23 @@ class Search:
     keeps_vrf: bool = True
 
 
-def simple_paths(topology: Topology, search: Search) -> list[Path]:
-    """Returns the paths of a search, in the order of the configurations."""
+def simple_paths(topology: Topology, search: Search, cut: set[Node]) -> list[Path]:
+    """Returns the paths of a search, in the order of the configurations. The interfaces at which paths go on that are longer
+    than asked for are added to `cut`."""
     found: dict[Path, None] = {}
-    targets = set(search.ends)
+    targets, steps = set(search.ends), 0
+    exits: dict[str, list[Interface]] = {}
 
     def walk(node: Node, path: Path, seen: tuple[tuple[str, str], ...]) -> None:
+        nonlocal steps
+        steps += 1
+        if steps > MOST_STEPS:
+            raise Unusable(search.place, f"has more than {MOST_STEPS} ways to look at",
+                           "give routing tables for this traffic, or fewer hops")
         here = path + (crossing(node, Direction.INGRESS),)
-        for out in _ways_out(topology, node, search):
+        if node[0] not in exits:
+            exits[node[0]] = _exits(topology, node[0], targets)
+        for out in _ways_out(topology, node, exits[node[0]], search):
             left = here + (crossing(out, Direction.EGRESS),)
             if out in targets:
                 found[left] = None
@@ -49,18 +59,25 @@ def simple_paths(topology: Topology, search: Search) -> list[Path]:
                 place = (peer[0], topology.vrf(peer))
                 if place not in seen and len(seen) < search.hops:
                     walk(peer, left, (*seen, place))
+                elif place not in seen:
+                    cut.add(peer)
 
     for start in search.starts:
         walk(start, (), ((start[0], topology.vrf(start)),))
     return list(found)
 
 
-def _ways_out(topology: Topology, node: Node, search: Search) -> list[Node]:
-    """Returns the interfaces of a device by which what came in at one may leave."""
+def _exits(topology: Topology, device: str, targets: set[Node]) -> list[Interface]:
+    """Returns the interfaces of a device that are up and are a target or lead to another device."""
+    return [one for name, one in topology.interfaces.get(device, {}).items()
+            if not one.is_shut and ((device, name) in targets or topology.peers.get((device, name)))]
+
+
+def _ways_out(topology: Topology, node: Node, exits: list[Interface], search: Search) -> list[Node]:
+    """Returns the exits of a device by which what came in at an interface may leave."""
     vrf = topology.vrf(node)
-    return [(node[0], name) for name, interface in topology.interfaces.get(node[0], {}).items()
-            if not interface.is_shut and (name != node[1] or search.hairpin)
-            and (interface.vrf == vrf or not search.keeps_vrf)]
+    return [(node[0], one.name) for one in exits if (one.name != node[1] or search.hairpin)
+            and (one.vrf == vrf or not search.keeps_vrf)]
 
 
 @dataclass(frozen=True)

@@ -7,17 +7,18 @@ from typing import Mapping
 from once_tools.boxes import MOST_SELECTIONS, TooManyBoxes
 from once_tools.model import Cache, Destination, Device, Direction, Exporter, Place, Point, Selection, Topic, Unusable
 from once_tools.readers import filters
-from once_tools.readers.junos_config import FAMILIES, Collector, Instance, Sampling, Server
+from once_tools.readers.junos_config import FAMILIES, INHERITANCE, Collector, Instance, Sampling, Server
 from once_tools.readers.junos_terms import TermText, UnreadCondition, region_of, samples_and_ends
 from once_tools.readers.log import Log, sampling
 from once_tools.readers.records import ADDRESSES, PORTS, destination_name, fields
-from once_tools.readers.trees import braces, set_lines
+from once_tools.readers.trees import braces, numbered, set_lines
 from once_tools.source import Source
 
 KEYS = (*ADDRESSES, "protocolIdentifier", *PORTS, "ipClassOfService")
 VERSIONS = {"inet": 4, "inet6": 6}
 DIRECTIONS = {"input": Direction.INGRESS, "output": Direction.EGRESS}
 SET_LINE = re.compile(r"(?m)^\s*(set|deactivate)\s+\S+")
+EDIT = re.compile(r"^\s*(insert|rename|copy|replace|wildcard)\s+\S+[^;{]*$")
 MOST_INTERFACES = 256
 TOP = ("system", "interfaces", "chassis", "services", "forwarding-options", "firewall", "policy-options",
        "routing-instances", "routing-options",
@@ -39,8 +40,18 @@ class _Reading:
                            "give the output of `show configuration | display set`")
         for one in statements:
             collector.take(one)
+        collector.report_tables()
+        for source in sources:
+            self.report_edits(source)
         self.config = collector.config
         self.caches: set[str] = set()
+
+    def report_edits(self, source: Source) -> None:
+        """Reports commands that change a configuration, which no output of `display set` has."""
+        for number, line in numbered(source):
+            if EDIT.match(line):
+                place = Place(source.name, number, line.strip())
+                self.log.lost(place, "this command changes the configuration, and it is not applied here", INHERITANCE)
 
     def read(self) -> Device:
         self.device.hostname = self.config.hostname

@@ -3,7 +3,7 @@ from __future__ import annotations
 
 from dataclasses import dataclass, field
 
-from once_tools.model import Interface, Place
+from once_tools.model import Interface, Place, Topic
 from once_tools.readers.junos_terms import TermText
 from once_tools.readers.log import Log
 from once_tools.readers.statements import match
@@ -11,7 +11,8 @@ from once_tools.readers.trees import Statement, Words
 
 FAMILIES = ("inet", "inet6")
 INHERITANCE = "send the output of `show configuration | display inheritance no-comments | display set`"
-FLOW_WORDS = {"sampling", "flow-server", "inline-jflow", "flow-monitoring", "sampling-instance", "jflow-log"}
+FLOW_WORDS = {"sampling", "flow-server", "inline-jflow", "flow-monitoring", "sampling-instance", "jflow-log", "cflowd",
+              "flow-export-destination", "inline-monitoring", "inline-monitoring-instance"}
 
 
 @dataclass
@@ -85,7 +86,16 @@ class Collector:
 
     def __init__(self, log: Log) -> None:
         self.log, self.config = log, Config()
+        self.tables: list[tuple[str, str, Place]] = []
         self.sampled: set[tuple[str, ...]] = set()
+
+    def report_tables(self) -> None:
+        """Reports filters of forwarding tables that sample, and those that are applied to a unit for all families."""
+        for family, name, place in self.tables:
+            terms = self.config.filters.get((family, name), self.config.filters.get(("any", name), {}))
+            if not terms or any(action[:1] == ["sample"] for one in terms.values() for action, _ in one.actions):
+                self.log.lost(place, "the filter samples packets of many interfaces, or is not there, and the document does "
+                              "not have it", "sample at interfaces", Topic.FILTER)
 
     def take(self, one: Statement) -> None:
         words = one.words
@@ -103,7 +113,7 @@ class Collector:
                               "document", INHERITANCE)
         elif handler is not None:
             handler(words[1:], one.place)
-        elif FLOW_WORDS & set(words):
+        elif FLOW_WORDS & set(words) or words[-2:] == ("then", "sample"):
             self.log.unknown(one.place, words[0])
 
     def system(self, words: Words, place: Place) -> None:
@@ -114,6 +124,10 @@ class Collector:
         found = match(words, "* interface *")
         if found:
             self.config.vrfs[found[1]] = found[0]
+        elif match(words, "* forwarding-options"):
+            self.forwarding(words[2:], place)
+        elif FLOW_WORDS & set(words):
+            self.log.unknown(place, " ".join(words[1:3]))
 
     def policy(self, words: Words, place: Place) -> None:
         found = match(words, "prefix-list *")
@@ -161,6 +175,8 @@ class Collector:
             one.tunnel_source = words[2]
         elif words[:2] == ("tunnel", "destination") and len(words) > 2:
             one.tunnel_destination = words[2]
+        elif (found := match(words, "filter input|output *")) and len(found) > 1:
+            self.tables.append(("any", found[1], place))
         elif FLOW_WORDS & set(words):
             self.log.unknown(place, " ".join(words))
 
@@ -247,7 +263,10 @@ class Collector:
 
     def forwarding(self, words: Words, place: Place) -> None:
         if words[:1] != ("sampling",):
-            if FLOW_WORDS & set(words):
+            table = match(words, "family inet|inet6 filter input|output *")
+            if table and len(table) > 2:
+                self.tables.append((table[0], table[2], place))
+            elif FLOW_WORDS & set(words):
                 self.log.unknown(place, " ".join(words[:2]), ["sampling"])
             return
         found = match(words, "sampling instance *")
@@ -309,6 +328,9 @@ class Collector:
         found = match(words, "family inet|inet6|any|mpls filter *") or (["inet", *words[1:]] if words[:1] == ("filter",)
                                                                         else None)
         if not found or len(found) < 2:
+            if words[-2:] == ("then", "sample") or FLOW_WORDS & set(words):
+                self.log.lost(place, "a filter of this family samples packets, and the document does not have it",
+                              "sample in filters of family inet and inet6", Topic.FILTER)
             return
         key, rest = (found[0], found[1]), found[2:]
         terms = self.config.filters.setdefault(key, {})
@@ -321,6 +343,9 @@ class Collector:
             self.config.filter_faults.setdefault(key, place)
 
     def term(self, one: TermText, words: list[str], key: tuple[str, str], place: Place) -> None:
+        if words[:2] == ["then", "inline-monitoring-instance"]:
+            self.log.lost(place, "packets are metered here by inline monitoring, and the document does not have it",
+                          "meter by sampling", Topic.FILTER)
         if words[:1] == ["from"] and len(words) > 1:
             one.add(one.conditions, words[1:], place)
         elif words[:1] == ["then"] and len(words) > 1:

@@ -138,7 +138,7 @@ def _numbers(kind: str, conditions: list[tuple[list[str], Place]], version: int)
     whole = [boxes.family(version)]
     excluded = {words[0].endswith("-except") for words, _ in conditions}
     if len(excluded) > 1:
-        raise UnreadCondition(conditions[0][1], f"`{kind}` stands beside `{kind}-except`")
+        raise UnreadCondition(conditions[0][1], f"`{kind}` is used together with `{kind}-except`")
     found: list[Box] = []
     for words, place in conditions:
         if len(words) < 2:

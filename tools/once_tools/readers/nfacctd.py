@@ -8,9 +8,8 @@ from typing import Mapping
 from once_tools.model import Destination, Device, Exporter, Listener, Place, Topic, Unusable
 from once_tools.readers.log import Log
 from once_tools.readers.pmacct_keys import PRIMITIVES, USUAL, WITHOUT_AXIS
-from once_tools.readers.pmacct_settings import (Plugin, Settings, other_source, plugins_of, report_repeated,
-                                                report_unknown,
-                                                settings_of)
+from once_tools.readers.pmacct_settings import (NETWORKS_FILTER, Plugin, Settings, is_networks_filter, other_source,
+                                                plugins_of, report_others, report_repeated, report_unknown, settings_of)
 from once_tools.readers.records import destination_name
 from once_tools.readers.trees import numbered
 from once_tools.source import Source
@@ -23,6 +22,7 @@ NETWORKS = {"src_net": "sourceIPv4Prefix", "dst_net": "destinationIPv4Prefix"}
 QUEUES = ("nfacctd_kafka_broker_host", "nfacctd_kafka_topic", "nfacctd_zmq_address", "pcap_savefile")
 LEAVING_OUT = ("aggregate_filter", "pre_tag_map", "pre_tag_filter", "pre_tag2_filter", "pre_tag_label_filter")
 SCALING = ("nfacctd_ext_sampling_rate", "sampling_map")
+FILES = ("nfacctd_allow_file", "tee_receivers", "pre_tag_map", "sampling_map", "networks_file")
 KNOWN = {"plugins", "aggregate", "nfacctd_ip", "nfacctd_port", "nfacctd_allow_file", "nfacctd_renormalize",
          "nfacctd_time_new",
          "nfacctd_time_secs", "nfacctd_pro_rating", "nfacctd_templates_file", "nfacctd_templates_receiver",
@@ -34,7 +34,7 @@ KNOWN = {"plugins", "aggregate", "nfacctd_ip", "nfacctd_port", "nfacctd_allow_fi
          "tee_transparent", "tee_source_ip", "tee_pipe_size", "tee_ipprec", "tee_max_receivers",
          "tee_max_receiver_pools",
          "networks_file", "networks_mask", "networks_file_filter", "networks_file_no_lpm", "networks_no_mask_if_zero",
-         "networks_cache_entries", *QUEUES, *LEAVING_OUT, *SCALING}
+         "networks_cache_entries", "sql_preprocess", "print_preprocess", "kafka_preprocess", "amqp_preprocess", *QUEUES, *LEAVING_OUT, *SCALING}
 
 
 class _Reading:
@@ -66,6 +66,7 @@ class _Reading:
                 self.log.unknown(self.place("plugins"), plugin.kind, [*STORING, "tee"])
         self.device.listeners = [listener]
         self.report_rest()
+        report_others(self.sources, [self.settings.last(key) for key in FILES], self.log)
         report_repeated(self.settings, self.log)
         report_unknown(self.settings, self.plugins, KNOWN, self.log)
         return self.device
@@ -77,8 +78,8 @@ class _Reading:
             return None
         source = other_source(self.sources, line.value)
         if source is None:
-            self.log.note(line.place, "this file was not given: exporters that it does not name are taken as allowed",
-                          "add the file to `config` of the collector in the project")
+            self.log.premise(line.place, "this file was not given: all exporters are taken to be named in it",
+                             "add the file to `config` of the collector in the project")
             return None
         found = []
         for number, text in numbered(source):
@@ -174,10 +175,19 @@ class _Reading:
                 self.log.lost(one.place, "the collector may store only a part of what it receives, but the document "
                               "counts all of it",
                               "store all records, and filter in the report", Topic.FILTER)
+            elif is_networks_filter(one):
+                self.log.lost(one.place, NETWORKS_FILTER, "take it out", Topic.FILTER)
+            elif one.key.endswith("_preprocess"):
+                self.log.lost(one.place, "the plugin may leave out totals before it stores them, but the document counts "
+                              "all of them", "take it out", Topic.FILTER)
             elif one.key in QUEUES:
                 self.log.lost(one.place, "records do not come in over the network, so no exporter is linked to this "
                               "collector",
                               "name the address and port that exporters send to as `listen` of the collector")
+            elif one.key in SCALING and self.settings.is_true("nfacctd_renormalize", False):
+                self.log.lost(one.place, "totals are multiplied by a rate that this sets, whether the exporter samples or not; "
+                              "the document counts each packet once", "take out nfacctd_renormalize, or this line",
+                              Topic.SAMPLER)
             elif one.key in SCALING:
                 self.log.note(one.place, "sets the sampling rate of exporters; totals are scaled by it only with "
                               "nfacctd_renormalize: true")

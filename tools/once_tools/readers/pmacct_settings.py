@@ -18,7 +18,8 @@ PLUGIN = re.compile(r"\s*(\w+)\s*(?:\[([^\]]*)\])?\s*")
 HARMLESS = re.compile(
     r"daemonize|debug|debug_internal_msg|pidfile|syslog|logfile|core_proc_name|proc_name|proc_priority|plugin_exit_any|"
     r"propagate_signals|maps_(entries|row_len|refresh|index)|plugin_(pipe|buffer)_size|plugin_pipe_zmq(_\w+)?|"
-    r"(nfacctd|pmacctd)_pipe_size|(timestamps|files|print|imt|sql|kafka|amqp|avro|geoip|geoipv2|bgp|bmp|rpki|isis)_\w+|"
+    r"(nfacctd|pmacctd)_pipe_size|"
+    r"(timestamps|files|print|imt|sql|kafka|amqp|avro|geoip|geoipv2|bgp|bmp|rpki|isis)_(?!preprocess)\w+|"
     r"(bgp|bmp|isis)_daemon|ports_file|use_ip_next_hop")
 SWITCHES = ("promisc", "nfprobe_dont_cache", "nfacctd_renormalize", "tee_transparent", "pmacctd_renormalize")
 # Pairs of keys that mean the same.
@@ -120,6 +121,24 @@ def report_unknown(found: Settings, plugins: Sequence[Plugin], known: set[str], 
                      f"name one of the plugins: {', '.join(sorted(plugin.name for plugin in plugins)) or 'none'}")
         elif one.key not in known and not HARMLESS.fullmatch(one.key):
             log.unknown(one.place, one.key, sorted(known))
+
+
+NETWORKS_FILTER = ("addresses outside of networks_file are stored as 0.0.0.0 or ::, but the document has each address "
+                   "as it is")
+
+
+def is_networks_filter(one: Setting) -> bool:
+    """Returns whether a line makes networks_file a filter."""
+    return one.key == "networks_file_filter" and one.value.lower() == "true"
+
+
+def report_others(sources: Sequence[Source], lines: Sequence[Setting | None], log: Log) -> None:
+    """Reports texts beside the settings that no line names, so that they are not read."""
+    named = {line.value.rsplit("/", 1)[-1] for line in lines if line}
+    for source in sources[1:]:
+        if source.name.rsplit("/", 1)[-1] not in named:
+            log.lost(Place(source.name), "the first file does not name this one, so it is not read", "give each daemon a "
+                     "device or collector of its own, with its settings as the first file of `config`")
 
 
 def report_repeated(found: Settings, log: Log) -> None:

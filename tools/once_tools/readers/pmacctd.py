@@ -12,7 +12,8 @@ from once_tools.readers.capture import Capture, captures_of
 from once_tools.readers.log import Log, sampling
 from once_tools.readers.pcap_filter import UnreadFilter, region_of
 from once_tools.readers.pmacct_keys import PRIMITIVES, USUAL, WITHOUT_AXIS
-from once_tools.readers.pmacct_settings import Plugin, plugins_of, report_repeated, report_unknown, settings_of
+from once_tools.readers.pmacct_settings import (NETWORKS_FILTER, Plugin, is_networks_filter, plugins_of, report_others,
+                                                report_repeated, report_unknown, settings_of)
 from once_tools.readers.records import destination_name, fields
 from once_tools.readers.trees import Setting
 from once_tools.source import Source
@@ -32,6 +33,7 @@ KNOWN = {"aggregate", "plugins", "pcap_interface", "pcap_savefile", "pcap_filter
          "pmacctd_net", "pmacctd_nonroot", "pmacctd_time_new", "pmacctd_force_frag_handling",
          "pmacctd_frag_buffer_size",
          "pmacctd_flow_buffer_size", "pmacctd_flow_buffer_buckets", "pmacctd_renormalize", *SAMPLING, *TAGS}
+FILES = ("pcap_interfaces_map", "pre_tag_map", "sampling_map", "networks_file")
 USUAL_SNAPLEN = 128
 
 
@@ -60,6 +62,7 @@ class _Reading:
         self.device.points = [self.point(capture, selections, len(captures) > 1) for capture in captures]
         self.report_overlaps(selections)
         self.report_rest()
+        report_others(self.sources, [self.settings.last(key) for key in FILES], self.log)
         report_repeated(self.settings, self.log)
         report_unknown(self.settings, self.plugins, KNOWN, self.log)
         return self.device
@@ -237,6 +240,11 @@ class _Reading:
             exporters = (one.plugin,) if one.plugin else self.everywhere
             if one.key in SAMPLING and one.value not in ("0", "1"):
                 self.log.sampler(one.place, one.value if one.value.isdigit() else "N", exporters)
+            elif is_networks_filter(one):
+                self.log.lost(one.place, NETWORKS_FILTER, "take it out", Topic.FILTER, None, exporters)
+            elif one.key == "pcap_savefile" and (self.settings.last("pcap_interface") or self.settings.last("pcap_interfaces_map")):
+                self.log.lost(one.place, "packets come from this file, and not from the interface that the document has",
+                              "take one of them out", Topic.OTHER, None, exporters)
             elif one.key in TAGS:
                 self.log.lost(one.place, "whether it leaves packets out is not read; the document meters all packets",
                               "filter with aggregate_filter", Topic.FILTER, None, exporters)

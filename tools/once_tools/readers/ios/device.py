@@ -9,17 +9,13 @@ from once_tools.readers.ios.interfaces import Attachment, read_interfaces
 from once_tools.readers.ios.monitors import Monitor, read_monitor, read_sampler
 from once_tools.readers.ios.points import points_of, report_sampler
 from once_tools.readers.ios.records import PREDEFINED, V4, V6, Record, read_record
-from once_tools.readers.ios.text import named, sections
+from once_tools.readers.ios.overlooked import report_overlooked
+from once_tools.readers.ios.text import merged, sections
 from once_tools.readers.notes import Notes
-from once_tools.readers.trees import Words
 from once_tools.source import Source
 from once_tools.toml_table import nearest
 
 WITHIN = "within"
-# Sections about flows that do not bear on what is metered.
-HARMLESS: list[Words] = [("ip", "flow-top-talkers"), ("ip", "flow-capture"), ("ip", "flow-egress"), ("ip", "flow-export"),
-                         ("ip", "flow-cache"), ("ip", "flow-aggregation"), ("snmp",), ("flow", "record"),
-                         ("flow", "exporter"), ("flow", "monitor"), ("sampler",), ("flow-sampler-map",)]
 
 
 class Running:
@@ -28,11 +24,13 @@ class Running:
     def __init__(self, name: str, sources: list[Source]) -> None:
         self.nodes = sections(sources)
         self.device = Device(name, "cisco-ios", [one.name for one in sources])
-        self.records = {key: read_record(key, node) for key, node in named(self.nodes, "flow", "record")}
-        self.flow_exporters = {key: read_exporter(key, node) for key, node in named(self.nodes, "flow", "exporter")}
-        self.monitors = {key: read_monitor(key, node, self.records) for key, node in named(self.nodes, "flow", "monitor")}
+        self.records = {key: read_record(key, node) for key, node in merged(self.nodes, "flow", "record").items()}
+        self.flow_exporters = {key: read_exporter(key, node)
+                               for key, node in merged(self.nodes, "flow", "exporter").items()}
+        self.monitors = {key: read_monitor(key, node, self.records)
+                         for key, node in merged(self.nodes, "flow", "monitor").items()}
         self.samplers = {key: read_sampler(key, node) for words in (("sampler",), ("flow-sampler-map",))
-                         for key, node in named(self.nodes, *words)}
+                         for key, node in merged(self.nodes, *words).items()}
         self.classic = read_classic(self.nodes)
         self.ports = read_interfaces(self.nodes)
         self.notes = Notes()
@@ -83,7 +81,7 @@ class Running:
                 self.add(notes.bearing_on(self.exporters_of(use.monitor)))
         self.report_unused(monitors)
         self.report_families(attached)
-        self.report_unknown()
+        report_overlooked(self.nodes, self.notes)
         self.add(self.notes.findings + self.ports.notes.findings)
         self.add_interfaces()
         return self.device
@@ -203,15 +201,6 @@ class Running:
                                                  f"packets of IPv{other} there are metered nowhere (the interface has no "
                                                  f"address of IPv{other})")
             self.add(notes.bearing_on(tuple(each for use in uses for each in self.exporters_of(use.monitor))))
-
-    def report_unknown(self) -> None:
-        """Reports sections about flows that are not read."""
-        for node in self.nodes:
-            words = node.words
-            known = any(words[: len(one)] == one for one in HARMLESS)
-            is_flow = words[0] in ("flow", "netflow") or words[0] == "ip" and words[1:2] and words[1].startswith("flow")
-            if is_flow and not known or words[:2] in (("mls", "netflow"), ("mls", "nde"), ("mls", "flow")):
-                self.notes.unknown(node.place, "the configuration of flows")
 
     def add_interfaces(self) -> None:
         for port in self.ports.ports.values():

@@ -3,10 +3,11 @@ from __future__ import annotations
 
 import ipaddress
 import re
-from dataclasses import dataclass, field
+from dataclasses import dataclass, field, replace
 
 from once_tools.model import Interface, Place, Topic
 from once_tools.readers.interface_names import aliases_of, parent_of
+from once_tools.readers.ios.flow_lines import is_about_flows
 from once_tools.readers.ios.text import expanded, named
 from once_tools.readers.notes import Notes
 from once_tools.readers.trees import Node
@@ -188,7 +189,7 @@ def read_flow(ports: Ports, port: Port, line: Node) -> bool:
         ports.notes.lost(line.place, "a sample of the packets is metered. A total over a sample is not exact (108); the "
                                      "document meters all packets", "take the sampler off, or name the device under "
                                      "[accept] sampler", Topic.SAMPLER, 108)
-    elif words[0] in ("flow", "performance") or words[:2] == ("no", "flow") or "flow" in words[:3] and words[0] != "no":
+    elif is_about_flows(line):
         ports.notes.unknown(line.place, "an interface")
     else:
         return False
@@ -216,7 +217,44 @@ def read_interfaces(nodes: list[Node]) -> Ports:
         for line in port.lines:
             read_line(ports, port, line)
     read_vlans(ports, nodes)
+    hand_down(ports)
+    is_labelled = any(node.starts("mpls") and "autoconfig" in node.words for one in nodes for node in one.walk())
+    for port in ports.ports.values():
+        tell_versions(port, is_labelled)
     return ports
+
+
+def tell_versions(port: Port, is_labelled: bool) -> None:
+    """Tells an interface which versions of IP are on and off. Packets of either may have labels, so that where there may be
+    labels no version is off."""
+    statements = [line.words for line in port.lines if line.words[1:2] != ("flow",)]
+    may_label = is_labelled or any(words[0] in ("mpls", "tag-switching") for words in statements)
+    has6 = any(words[0] == "ipv6" for words in statements)
+    port.interface.has = frozenset(version for version, place in ((4, port.has_ipv4), (6, port.has_ipv6)) if place)
+    if port.has_ipv4 and not has6 and not may_label:
+        port.interface.lacks = frozenset([6])
+    elif port.has_ipv6 and not port.has_ipv4 and not may_label:
+        port.interface.lacks = frozenset([4])
+
+
+def hand_down(ports: Ports) -> None:
+    """Attaches `ip route-cache flow` of an interface to its subinterfaces too, which it covers; other statements do not."""
+    subinterfaces: dict[str, list[Port]] = {}
+    for one in ports.ports.values():
+        subinterfaces.setdefault(one.interface.parent, []).append(one)
+    for port in list(ports.ports.values()):
+        below = subinterfaces.get(port.interface.name, [])
+        for use in port.attached if below else []:
+            if not use.place.text.startswith("ip route-cache flow"):
+                ports.notes.premise(use.place, f"packets of the subinterfaces of {port.interface.name} are taken not to be metered "
+                                               "here", "compare with 'show flow monitor', and meter at the subinterfaces alone")
+                continue
+            ports.notes.premise(use.place, "the statement is taken to meter the subinterfaces too, which was not confirmed "
+                                           "on each version of IOS", "write 'ip flow ingress' at each subinterface")
+            for one in below:
+                if not any((other.monitor, other.direction, other.family) == ("", use.direction, use.family)
+                           for other in one.attached):
+                    one.attached.append(replace(use, interface=one.interface.name))
 
 
 def read_vlans(ports: Ports, nodes: list[Node]) -> None:

@@ -11,14 +11,15 @@ BANNER = re.compile(r"^banner\s+\S+\s+(\^C|\S)(.*)$")
 
 
 def banner_lines(source: Source) -> set[int]:
-    """Returns the numbers of the lines that are text of banners."""
+    """Returns the numbers of the lines that are text of banners; a banner that does not end has no lines."""
     found: set[int] = set()
+    within: set[int] = set()
     end = ""
     for number, line in enumerate(source.lines(), 1):
         if end:
-            found.add(number)
+            within.add(number)
             if end in line:
-                end = ""
+                found, within, end = found | within, set(), ""
             continue
         match = BANNER.match(line)
         if match and match[1] not in match[2]:
@@ -40,6 +41,16 @@ def named(nodes: list[Node], *words: str) -> Iterator[tuple[str, Node]]:
     for node in nodes:
         if node.starts(*words) and len(node.words) > len(words):
             yield " ".join(node.words[len(words):]), node
+
+
+def merged(nodes: list[Node], *words: str) -> dict[str, Node]:
+    """Returns the sections that begin with these words by their names. Sections of one name are one, and lines below them
+    are theirs, however far they are indented."""
+    found: dict[str, Node] = {}
+    for name, node in named(nodes, *words):
+        first = found.setdefault(name, Node(node.words, node.place, node.depth))
+        first.children += [line for child in node.children for line in child.walk()]
+    return found
 
 
 def expanded(text: str) -> list[str]:
