@@ -149,11 +149,11 @@ def test_nfcapd_listens_at_its_usual_port_and_takes_named_senders() -> None:
 def database(change: dict[str, Any], version: str = "3.1.0", bridge: str = "i1") -> str:
     """Returns a database of one bridge with one port and one row of IPFIX."""
     row = {"_uuid": ["uuid", "i1"], "targets": "192.0.2.10:4739", "sampling": 1, "other_config": ["map", []],
-           "obs_domain_id": 1}
+           "obs_domain_id": 1, "cache_active_timeout": ["set", []], "cache_max_flows": ["set", []]}
     row.update(change)
     tables: dict[str, dict[str, Any]] = {
         "Bridge": {"_uuid": ["uuid", "b"], "name": "br0", "ports": ["uuid", "p"], "ipfix": ["uuid", bridge] if bridge
-                   else ["set", []]},
+                   else ["set", []], "netflow": ["set", []], "mirrors": ["set", []]},
         "Port": {"_uuid": ["uuid", "p"], "name": "eth0", "interfaces": ["uuid", "e"]},
         "Interface": {"_uuid": ["uuid", "e"], "name": "eth0", "type": ""},
         "IPFIX": row, "Open_vSwitch": {"_uuid": ["uuid", "o"], "ovs_version": version}}
