@@ -66,8 +66,8 @@ class Settings:
 
     def own(self, key: str, plugin: str) -> str | None:
         """The value that is set for a plugin alone."""
-        own = [one.value for one in self.found.lines if one.key == key and one.plugin in (plugin, "default_" + plugin)]
-        return own[-1] if own else None
+        found = self.found.own(key, plugin)
+        return found.value if found else None
 
     def values(self, key: str) -> set[str]:
         """All values that a key is set to."""

@@ -54,6 +54,11 @@ class Settings:
                 return one
         return None
 
+    def own(self, key: str, plugin: str) -> Setting | None:
+        """Returns the last line of a key that is for one plugin alone."""
+        return next((one for one in reversed(self.lines) if one.key == key
+                     and one.plugin in (plugin, f"default_{plugin}")), None)
+
     def value(self, key: str, usual: str = "", plugin: str | None = None) -> str:
         """Returns the value in force, or the usual one."""
         found = self.last(key, plugin)
