@@ -10,7 +10,7 @@ from once_tools.readers.log import Log
 from once_tools.readers.nfacctd_filters import Key, aggregations_of
 from once_tools.readers.pcap_filter import UnreadFilter
 from once_tools.readers.pmacct_keys import PRIMITIVES, USUAL, WITHOUT_AXIS
-from once_tools.readers.pmacct_settings import (Plugin, Settings, other_source, plugins_of, report_repeated,
+from once_tools.readers.pmacct_settings import (ZEROED, Plugin, Settings, other_source, plugins_of, report_repeated,
                                                 report_unknown,
                                                 settings_of)
 from once_tools.readers.records import destination_name
@@ -215,6 +215,11 @@ class _Reading:
                               "nfacctd_renormalize: true")
             elif one.key == "nfacctd_renormalize" and one.value.lower() == "true":
                 self.log.note(one.place, "counters of sampled exporters are multiplied by their sampling rate")
+            elif one.key == "networks_file_filter" and one.value.lower() == "true":
+                self.log.lost(one.place, ZEROED, "leave it out", Topic.MASK)
+            elif one.key == "nfacctd_ipv6_only" and one.value.lower() == "true":
+                self.log.lost(one.place, "records that are sent over IPv4 do not come in, but the document takes them",
+                              "leave it out")
             elif one.key == "nfacctd_mcast_groups":
                 self.log.lost(one.place, "records that are sent to a multicast group come in too, but the document has "
                               "no link for them",

@@ -21,6 +21,9 @@ HARMLESS = re.compile(
     r"(nfacctd|pmacctd)_pipe_size|(timestamps|files|print|imt|sql|kafka|amqp|avro|geoip|geoipv2|bgp|bmp|rpki|isis)_\w+|"
     r"(bgp|bmp|isis)_daemon|ports_file|use_ip_next_hop")
 SWITCHES = ("promisc", "nfprobe_dont_cache", "nfacctd_renormalize", "tee_transparent", "pmacctd_renormalize")
+# What `networks_file_filter: true` does (measured with pmacctd 1.7.7).
+ZEROED = ("addresses of networks that networks_file does not name are counted as 0.0.0.0, but the document has them "
+          "as they are")
 # Pairs of keys that mean the same.
 OTHER_NAMES = {"interface": "pcap_interface"}
 # Keys of the daemon: pmacct applies a line with [PLUGIN] to the whole daemon.

@@ -12,7 +12,7 @@ from once_tools.readers.capture import Capture, captures_of
 from once_tools.readers.log import Log, sampling
 from once_tools.readers.pcap_filter import UnreadFilter, region_of
 from once_tools.readers.pmacct_keys import PRIMITIVES, USUAL, WITHOUT_AXIS
-from once_tools.readers.pmacct_settings import Plugin, plugins_of, report_repeated, report_unknown, settings_of
+from once_tools.readers.pmacct_settings import ZEROED, Plugin, plugins_of, report_repeated, report_unknown, settings_of
 from once_tools.readers.records import destination_name, fields
 from once_tools.readers.trees import Setting
 from once_tools.source import Source
@@ -249,6 +249,8 @@ class _Reading:
             elif one.key == "snaplen" and not (one.value.isdigit() and int(one.value) >= USUAL_SNAPLEN):
                 self.log.lost(one.place, "packets are captured in part: where headers are cut, ports are not seen",
                               f"write {USUAL_SNAPLEN} or more", Topic.OTHER, None, exporters)
+            elif one.key == "networks_file_filter" and one.value.lower() == "true":
+                self.log.lost(one.place, ZEROED, "leave it out", Topic.MASK, None, exporters)
             elif one.key == "pmacctd_renormalize" and one.value.lower() == "true":
                 self.log.note(one.place, "counters are multiplied by a sampling rate, if there is one",
                               exporters=exporters)
