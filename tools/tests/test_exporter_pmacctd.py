@@ -48,3 +48,8 @@ def test_a_filter_for_all_plugins_filters_nothing_as_in_a_project() -> None:
 def test_a_filter_of_a_plugin_does_not_apply_to_a_file() -> None:
     meter = read(["-I", "a.pcap", "-P", "nfprobe[p]", "aggregate_filter[p]=udp"])
     assert any("packets of a file" in one for one in meter.lost)
+
+
+def test_addresses_that_are_counted_as_zero_are_not_carried_over() -> None:
+    words = ["-i", "eth0", "-P", "nfprobe", "networks_file=/etc/networks.lst"]
+    assert any("0.0.0.0" in one for one in read([*words, "networks_file_filter=true"]).lost) and not read(words).lost

@@ -9,7 +9,7 @@ from once_tools import elements
 from once_tools.exporter.capture_filter import matches_of
 from once_tools.exporter.meter import VERSIONS, End, Meter, Plugin, Unusable
 from once_tools.model import Place
-from once_tools.readers.pmacct_settings import Settings as InForce
+from once_tools.readers.pmacct_settings import ZEROED, Settings as InForce
 from once_tools.readers.trees import Setting
 from once_tools.tables.table import text_of
 
@@ -206,6 +206,8 @@ def tell(settings: Settings, meter: Meter) -> None:
     for key in ("pre_tag_map", "pre_tag_filter"):
         if key in settings.keys():
             meter.lost.append("%s: whether it leaves packets out" % key)
+    if settings.get("networks_file_filter") == "true":
+        meter.lost.append("networks_file_filter: " + ZEROED)
     if "snaplen" in settings.keys():
         meter.lost.append("snaplen: packets are captured in part; where headers are cut, ports aren't seen")
     if settings.get("promisc", None, "true") == "true" and not settings.get("pcap_savefile"):
