@@ -96,23 +96,30 @@ def metered(folder: Path, once: str, version: int) -> Totals:
     return {tuple(map(plain, row[:-4])): (int(row[-3]), int(row[-1])) for row in rows}
 
 
+def send_all(folder: Path) -> None:
+    """Runs a collector for each exporter, and ends it when it has received all and written its files."""
+    ports = {name: free_port() for name in EXPORTERS}
+    collectors: list["subprocess.Popen[bytes]"] = []
+    try:
+        for name in EXPORTERS:
+            (folder / name).mkdir()
+            write_capture(folder / name / "a.pcap", udp_packets(1))
+            collectors.append(start_collector(folder / name, ports[name]))
+        exporters = [start_exporter(name, folder / name, ports[name]) for name in EXPORTERS]
+        for one in exporters:
+            one.wait(timeout=30)
+        time.sleep(1)
+    finally:
+        for one in collectors:
+            one.send_signal(signal.SIGINT)
+        for one in collectors:
+            one.wait(timeout=30)
+
+
 def test_nfacctd_stores_what_its_documents_total(tmp_path: Path, once: str) -> None:
-    ports, collectors, exporters = {}, {}, {}
-    for name in EXPORTERS:
-        (tmp_path / name).mkdir()
-        write_capture(tmp_path / name / "a.pcap", udp_packets(1))
-        ports[name] = free_port()
-        collectors[name] = start_collector(tmp_path / name, ports[name])
-    for name in EXPORTERS:
-        exporters[name] = start_exporter(name, tmp_path / name, ports[name])
-    for name in EXPORTERS:
-        exporters[name].wait(timeout=30)
-    time.sleep(1)
-    for name in EXPORTERS:
-        collectors[name].send_signal(signal.SIGINT)
-    for name in EXPORTERS:
-        collectors[name].wait(timeout=30)
-        for plugin, version in CASES[name]:
+    send_all(tmp_path)
+    for name, cases in CASES.items():
+        for plugin, version in cases:
             import_documents(tmp_path / name, name, plugin)
             wanted = stored(tmp_path / name / f"{plugin}.csv", version)
             assert wanted and metered(tmp_path / name, once, version) == wanted, (name, plugin, version)
