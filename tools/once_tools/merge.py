@@ -66,7 +66,7 @@ def forward(entry: CollectorEntry, collectors: dict[str, Device], network: Netwo
         names.append(f"to {target}")
         to = Destination(f"{address} port {port}", address, port, entry.place, transport or "udp")
         device.exporters.append(Exporter(names[-1], [to], entry.place))
-    for listener in device.listeners if names else []:
+    for listener in [one for one in device.listeners if not one.local_exporters] if names else []:
         key = key_of(entry.aggregates, None, entry.place, network.findings) if entry.aggregates else []
         if entry.aggregates:
             listener.aggregations.append(Aggregation("aggregates", list(key), names, entry.place))
@@ -91,11 +91,24 @@ def report_listener(project: Project, network: Network, collectors: dict[str, De
         network.findings.append(Finding(Grade.WRONG, report.place, says, nearest(report.process, names) if names else
                                         "add listen = [\"ADDRESS:PORT\"]"))
         return
-    if len(names) > 1 and not report.process:
+    process = report.process or process_of(report.plugin, device)
+    if not process:
         network.findings.append(Finding(Grade.WRONG, report.place, f"'{device.name}' has several collecting processes: "
-                                        + ", ".join(names), "write process = \"..\""))
+                                        + ", ".join(names), "write process = \"..\"" + (
+                                            ", or plugin = \"..\"" if device.proposed_keys else "")))
         return
-    network.report = (device.name, report.process or names[0])
+    network.report = (device.name, process)
+
+
+def process_of(plugin: str, device: Device) -> str:
+    """Returns the collecting process of what a plugin stores, or the device's only one; "" if there are several."""
+    names = [one.name for one in device.listeners]
+    stores = [name for name, _, _ in device.proposed_keys]
+    chosen = plugin or (stores[0] if len(stores) == 1 else "")
+    if chosen in names:
+        return chosen
+    outer = [one.name for one in device.listeners if not one.local_exporters] if chosen else names
+    return outer[0] if len(outer) == 1 else ""
 
 
 def check_limits(network: Network, place: Place) -> None:

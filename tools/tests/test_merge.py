@@ -184,3 +184,26 @@ def test_a_key_that_the_collector_does_not_store_by(tmp_path: Path, key: str, gr
     found = made(tmp_path, PROJECT.replace(COLLECTOR, collector).replace('"sourceIPv4Address"', key), r_cfg=IN,
                  c_conf="plugins: print[bill]\nnfacctd_ip: 192.0.2.10\nnfacctd_port: 4739\naggregate[bill]: src_host\n")
     assert [one.grade.value for one in found.report.findings if "has no totals by" in one.says] == grades
+
+
+STORES = ("nfacctd_port: 4739\nnfacctd_ip: 192.0.2.10\nplugins: print[all], print[part]\naggregate[all]: src_host\n"
+          "aggregate[part]: src_host, dst_host\naggregate_filter[part]: src net 10.0.0.0/8\n")
+STORING = '[[collectors]]\nname = "billing"\nkind = "nfacctd"\nconfig = "nf.conf"\n'
+
+
+@pytest.mark.parametrize("chosen,wanted", [('plugin = "all"\n', "udp 4739"), ('plugin = "part"\n', "part"), ("", ""),
+                                           ('process = "part"\n', "part")])
+def test_a_report_of_a_plugin_with_a_filter_is_of_its_own_process(tmp_path: Path, chosen: str, wanted: str) -> None:
+    found = made(tmp_path, REPORT + chosen + DEVICE + STORING + TRAFFIC, r_cfg=BOTH_WAYS, nf_conf=STORES)
+    assert found.network and found.network.report[1] == wanted
+    assert any(one.grade is Grade.WRONG and 'plugin = ".."' in one.todo for one in found.report.findings) == (not wanted)
+
+
+def test_what_a_filter_does_not_pass_is_not_counted(tmp_path: Path, once: str) -> None:
+    """The traffic of 10.0.0.0/8 passes the filter, and that of 11.0.0.0/8 does not."""
+    collector = STORES.replace("print[all], ", "").replace("aggregate[all]: src_host\n", "")
+    for octet, wanted in (("10", "once-certificate"), ("11", "once-refutation")):
+        found = made(tmp_path, REPORT + DEVICE + STORING + TRAFFIC.replace('"10.', f'"{octet}.'), r_cfg=IN.replace(
+            " match flow direction\n", ""), nf_conf=collector)
+        assert found.pairs, found.report.text()
+        assert audited(once, found.pairs[0], tmp_path).split(" ")[0] == wanted

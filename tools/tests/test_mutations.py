@@ -31,7 +31,6 @@ HARMLESS = {
     "softflowd": r"\s*#.*|\s*$|\[Service\]|ExecStart=$",
     "nfacctd": r"\s*[!#].*|\s*$|(nfacctd_time_new|print_\w+\[bill\]|nfacctd_renormalize|tee_transparent\[copy\]).*",
     "nfcapd": r"$^",
-    "openvswitch": r"$^",
     "junos": r"\s*#.*|\s*$|.*(description|template-refresh-rate|flow-table-size|static route|host-name).*"
              r"|.*xe-0/0/3 unit 0 family inet sampling( input)?"
              r"|.*(term management then accept|customers then accept|rest then accept)",
@@ -106,7 +105,7 @@ def is_silent_by_right(kind: str, what: str, before: str, text: str, place: int)
     return what in ("drop", "cut") and re.fullmatch(USUAL.get(kind, "$^"), line) is not None
 
 
-@pytest.mark.parametrize("kind", [kind for kind in FILES if kind != "openvswitch"])
+@pytest.mark.parametrize("kind", HARMLESS)
 def test_no_change_is_passed_over_in_silence(kind: str) -> None:
     first, *others = sources(kind)
     usual = heard(kind, [first, *others])

@@ -135,8 +135,51 @@ def test_nfacctd_forwards_by_balancing_pools_and_takes_allowed_senders() -> None
     assert shape(device)["exporters"]["t"][0] == "loadBalancing"
 
 
-def test_nfacctd_that_filters_is_not_carried_over() -> None:
-    device = read_text("nfacctd", "plugins: print[p]\nnfacctd_port: 4739\naggregate_filter[p]: src net 10.0.0.0/8\n")
+STORES = "plugins: print[p]\nnfacctd_port: 4739\naggregate[p]: src_host\n"
+BY_SOURCE = [("sourceIPv4Address", None)], [("sourceIPv6Address", None)]
+
+
+@pytest.mark.parametrize("text,wanted", [
+    ("src net 10.0.0.0/8", {"p IPv4": (BY_SOURCE[0], {"sourceIPv4Prefix": "10.0.0.0/8"})}),
+    ("src host 2001:db8::1", {"p IPv6": (BY_SOURCE[1], {"sourceIPv6Address": "2001:db8::1"})}),
+    ("tcp dst port 443", {f"p IPv{4 + 2 * at}": (BY_SOURCE[at], {"protocolIdentifier": "6", "destinationTransportPort": "443"})
+                          for at in (0, 1)}),
+    ("ip", {"p IPv4": (BY_SOURCE[0], {})}),
+])
+def test_nfacctd_plugin_with_a_filter_is_an_aggregation(text: str, wanted: dict[str, Any]) -> None:
+    device = read_text("nfacctd", f"{STORES}aggregate_filter[p]: {text}\n")
+    assert {one.name: (one.key, one.match) for one in device.listeners[0].aggregations} == wanted
+    assert [one.name for one in device.listeners] == ["udp 4739", "p"] and device.listeners[1].local_exporters == ["p"]
+    assert all(one.grade is Grade.NOTE for one in device.findings)
+
+
+def test_nfacctd_filter_and_key_without_addresses_are_one_aggregation_for_both_versions() -> None:
+    device = read_text("nfacctd", "plugins: print[p]\naggregate[p]: dst_port\naggregate_filter[p]: udp\n")
+    assert [(one.name, one.match) for one in device.listeners[0].aggregations] == [("p", {"protocolIdentifier": "17"})]
+
+
+@pytest.mark.parametrize("text", ["src net 10.0.0.0/8 or src net 192.168.0.0/16", "not udp", "vlan 7", "tcp[13] = 2", "net 10.0.0.0/8"])
+def test_nfacctd_filter_that_an_aggregation_cannot_have_is_not_carried_over(text: str) -> None:
+    device = read_text("nfacctd", f"{STORES}aggregate_filter[p]: {text}\n")
+    assert finding(device, "aggregate_filter").grade is Grade.NOT_CARRIED_OVER
+    assert len(device.listeners) == 1 and not device.listeners[0].aggregations
+
+
+def test_nfacctd_filter_of_both_versions_with_a_key_of_one_is_not_carried_over() -> None:
+    text = "plugins: print[p]\naggregate[p]: src_net\nnetworks_mask: 24\naggregate_filter[p]: "
+    assert finding(read_text("nfacctd", f"{text}udp\n"), "aggregate_filter").grade is Grade.NOT_CARRIED_OVER
+    device = read_text("nfacctd", f"{text}ip and udp\n")
+    assert device.listeners[0].aggregations[0].key == [("sourceIPv4Prefix", 24)]
+
+
+def test_nfacctd_does_not_apply_a_filter_without_a_plugin() -> None:
+    device = read_text("nfacctd", f"{STORES}aggregate_filter: src net 10.0.0.0/8\n")
+    assert "does not apply" in finding(device, "aggregate_filter").says and len(device.listeners) == 1
+
+
+def test_nfacctd_filter_of_a_replicator_is_not_carried_over() -> None:
+    device = read_text("nfacctd", "plugins: tee[t]\ntee_receivers: r.lst\naggregate_filter[t]: udp\n",
+                       r_lst="id=1 ip=192.0.2.1:1\n")
     assert finding(device, "aggregate_filter").grade is Grade.NOT_CARRIED_OVER
 
 
@@ -172,11 +215,11 @@ def test_nfcapd_listens_at_its_usual_port_and_takes_named_senders() -> None:
 def database(change: dict[str, Any], version: str = "3.1.0", bridge: str = "i1") -> str:
     """Returns a database of one bridge with one port and one row of IPFIX."""
     row = {"_uuid": ["uuid", "i1"], "targets": "192.0.2.10:4739", "sampling": 1, "other_config": ["map", []],
-           "obs_domain_id": 1}
+           "obs_domain_id": 1, "cache_active_timeout": ["set", []], "cache_max_flows": ["set", []]}
     row.update(change)
     tables: dict[str, dict[str, Any]] = {
         "Bridge": {"_uuid": ["uuid", "b"], "name": "br0", "ports": ["uuid", "p"], "ipfix": ["uuid", bridge] if bridge
-                   else ["set", []]},
+                   else ["set", []], "netflow": ["set", []], "mirrors": ["set", []]},
         "Port": {"_uuid": ["uuid", "p"], "name": "eth0", "interfaces": ["uuid", "e"]},
         "Interface": {"_uuid": ["uuid", "e"], "name": "eth0", "type": ""},
         "IPFIX": row, "Open_vSwitch": {"_uuid": ["uuid", "o"], "ovs_version": version}}

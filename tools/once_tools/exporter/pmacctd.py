@@ -8,6 +8,9 @@ from typing import Iterator, overload
 from once_tools import elements
 from once_tools.exporter.capture_filter import matches_of
 from once_tools.exporter.meter import VERSIONS, End, Meter, Plugin, Unusable
+from once_tools.model import Place
+from once_tools.readers.pmacct_settings import NETWORKS_FILTER, Settings as InForce
+from once_tools.readers.trees import Setting
 from once_tools.tables.table import text_of
 
 Found = tuple[str, str | None, str]
@@ -20,7 +23,7 @@ PRIMITIVES = {"src_host": "sourceAddress", "dst_host": "destinationAddress", "sr
               "dst_port": "destinationTransportPort", "proto": "protocolIdentifier", "tos": "ipClassOfService"}
 USUAL = "src_host,dst_host,src_port,dst_port,proto,tos"
 # Settings that are carried over, and those that don't bear on which packets are counted in which record.
-KNOWN = {"aggregate", "plugins", "pcap_interface", "interface", "pcap_savefile", "pcap_filter", "aggregate_filter",
+KNOWN = {"aggregate", "plugins", "pcap_interface", "pcap_savefile", "pcap_filter", "aggregate_filter",
          "pcap_direction", "nfprobe_receiver", "nfprobe_version", "nfprobe_maxflows", "nfprobe_timeouts",
          "nfprobe_engine", "nfprobe_dont_cache", "sampling_rate", "pmacctd_ext_sampling_rate", "sampling_map",
          "pcap_interfaces_map", "pre_tag_map", "pre_tag_filter", "snaplen", "promisc"}
@@ -45,10 +48,10 @@ def settings_in(path: str) -> Iterator[Found]:
 
 
 class Settings:
-    """Settings by their keys, those of one plugin before those of all."""
+    """Settings as pmacctd has them in force: the last line of a key, also one for all plugins after one of a plugin."""
 
     def __init__(self, found: list[Found]) -> None:
-        self.values = {(key, plugin): value for key, plugin, value in found}
+        self.found = InForce([Setting(key, value, Place(""), plugin or "") for key, plugin, value in found], [])
 
     @overload
     def get(self, key: str, plugin: str | None, usual: str) -> str: ...
@@ -57,12 +60,22 @@ class Settings:
     def get(self, key: str, plugin: str | None = None, usual: None = None) -> str | None: ...
 
     def get(self, key: str, plugin: str | None = None, usual: str | None = None) -> str | None:
-        """The value of a key, that of the plugin first."""
-        return self.values.get((key, plugin), self.values.get((key, None), usual))
+        """The value in force for a plugin, or for all."""
+        found = self.found.last(key, plugin)
+        return found.value if found else usual
+
+    def own(self, key: str, plugin: str) -> str | None:
+        """The value that is set for a plugin alone."""
+        found = self.found.own(key, plugin)
+        return found.value if found else None
+
+    def values(self, key: str) -> set[str]:
+        """All values that a key is set to."""
+        return {one.value for one in self.found.lines if one.key == key}
 
     def keys(self) -> list[str]:
         """The keys that are set."""
-        return sorted({key for key, _ in self.values})
+        return sorted({one.key for one in self.found.lines})
 
 
 def settings_of(words: list[str]) -> Settings:
@@ -139,6 +152,19 @@ def cache_settings(settings: Settings, name: str) -> dict[str, int]:
     return found
 
 
+def filter_of(settings: Settings, name: str, meter: Meter) -> str:
+    """The filter of a plugin; pmacctd applies none that is set for all plugins, and none to a file's packets."""
+    found = settings.own("aggregate_filter", name)
+    if found is None:
+        if settings.values("aggregate_filter"):
+            meter.told.append("aggregate_filter: none is set for plugin %s, so it exports all packets; write "
+                              "aggregate_filter[%s]" % (name, name))
+        return ""
+    if settings.get("pcap_savefile"):
+        meter.lost.append("aggregate_filter: pmacctd doesn't apply it to the packets of a file, but the document does")
+    return found
+
+
 def plugin_of(settings: Settings, name: str, meter: Meter) -> Plugin:
     """A plugin that exports flow records."""
     version = settings.get("nfprobe_version", name, "10")
@@ -151,7 +177,7 @@ def plugin_of(settings: Settings, name: str, meter: Meter) -> Plugin:
     return Plugin(
         name=name, axes=axes_of(settings, name, meter), versions=(4,) if version == "5" else VERSIONS,
         kind="immediate" if at_once else "timeout", settings=cache_settings(settings, name),
-        matches=matches_of(settings.get("aggregate_filter", name, ""), meter.lost),
+        matches=matches_of(filter_of(settings, name, meter), meter.lost),
         destinations=[receiver(settings, name)])
 
 
@@ -160,7 +186,7 @@ def interface_of(settings: Settings, meter: Meter) -> str:
     if settings.get("pcap_interfaces_map"):
         meter.lost.append("pcap_interfaces_map: its interfaces stand in another file; name them in ifName")
         return "of the map"
-    name = settings.get("pcap_interface") or settings.get("interface")
+    name = settings.get("pcap_interface")
     if name == "any":
         meter.lost.append("pcap_interface any: which interfaces these are; name them in ifName")
     if name:
@@ -174,13 +200,14 @@ def interface_of(settings: Settings, meter: Meter) -> str:
 def tell(settings: Settings, meter: Meter) -> None:
     """What an audit can't be told, setting by setting."""
     for key in ("sampling_rate", "pmacctd_ext_sampling_rate", "sampling_map"):
-        rates = {value for (name, _), value in settings.values.items() if name == key}
-        if rates - {"0", "1"}:
+        if settings.values(key) - {"0", "1"}:
             meter.lost.append("%s: sampling. A total over a sample isn't exact (108); the document meters all packets"
                               % key)
     for key in ("pre_tag_map", "pre_tag_filter"):
         if key in settings.keys():
             meter.lost.append("%s: whether it leaves packets out" % key)
+    if settings.get("networks_file_filter") == "true":
+        meter.lost.append("networks_file_filter: " + NETWORKS_FILTER)
     if "snaplen" in settings.keys():
         meter.lost.append("snaplen: packets are captured in part; where headers are cut, ports aren't seen")
     if settings.get("promisc", None, "true") == "true" and not settings.get("pcap_savefile"):

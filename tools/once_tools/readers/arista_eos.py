@@ -107,8 +107,9 @@ class _Reading:
             port = collector[2] if collector[1:2] == ["port"] and len(collector) == 3 else ""
             if len(collector) > 1 and not (port.isdigit() and 0 < int(port) < 65536):
                 self.log.unknown(place, " ".join(words), ["collector ADDRESS port PORT"], bears_on)
-            one.destinations.append((collector[0], int(port) if port.isdigit() and 0 < int(port) < 65536 else None,
-                                     place))
+            known = int(port) if port.isdigit() and 0 < int(port) < 65536 else None
+            if all(one[:2] != (collector[0], known) for one in one.destinations):
+                one.destinations.append((collector[0], known, place))
         elif words[:2] == ["local", "interface"] and len(words) == 3:
             one.source = words[2]
         elif words and not " ".join(words).startswith(HARMLESS_EXPORTER):
@@ -119,7 +120,8 @@ class _Reading:
         tracker, group = match(words, "flow tracker *"), match(words, "channel-group *")
         if words[:1] == ["flow"]:
             if tracker and tracker[0] in ("hardware", "sampled") and len(tracker) == 2:
-                self.uses.append((name, tracker[0], tracker[1], place))
+                if all(one[:3] != (name, tracker[0], tracker[1]) for one in self.uses):
+                    self.uses.append((name, tracker[0], tracker[1], place))
             else:
                 self.log.unknown(place, " ".join(words), ["flow tracker hardware", "flow tracker sampled"])
         elif words[:2] in (["ip", "address"], ["ipv6", "address"]) and len(words) > 2:

@@ -4,7 +4,7 @@ from __future__ import annotations
 import difflib
 import ipaddress
 import re
-from dataclasses import dataclass, field
+from dataclasses import dataclass, field, replace
 from typing import Mapping
 
 from once_tools.model import Cache, Destination, Device, Direction, Exporter, Interface, Place, Point, Topic, Unusable
@@ -21,6 +21,7 @@ KEYS = (*ADDRESSES, "protocolIdentifier", *PORTS, "ipClassOfService")
 VERSIONS = {"ipv4": 4, "ipv6": 6}
 DIRECTIONS = {"ingress": Direction.INGRESS, "egress": Direction.EGRESS}
 HARMLESS_EXPORTER = ("dscp", "packet-length", "df-bit", "version")
+HARMLESS_OPTIONS = ("bgpattr", "outphysint", "outbundlemember")
 MOST_INTERFACES = 256
 # What only a text of IOS-XR has.
 OWN = re.compile(r"(?m)^(!! IOS XR|interface (Bundle-Ether|TenGigE|HundredGigE|FortyGigE|MgmtEth)"
@@ -130,8 +131,12 @@ class _Reading:
             one.settings["maxFlows"] = int(words[2])
         elif words in (["cache", "permanent"], ["cache", "immediate"]):
             one.kind = words[1]
+        elif words == ["option", "filtered"]:
+            self.log.lost(place, "only packets that an access list captures are metered; the document meters all packets",
+                          "take the option out", Topic.FILTER, None, [exporter for exporter, _ in one.exporters])
         elif words and words[:3] not in (["cache", "timeout", "update"],
-                                         ["cache", "timeout", "rate-limit"]) and words[0] != "option":
+                                         ["cache", "timeout", "rate-limit"]) and (
+                words[0] != "option" or words[1:2] and words[1] not in HARMLESS_OPTIONS):
             self.log.unknown(place, " ".join(words), ["record ipv4", "record ipv6", "exporter", "cache entries",
                                                       "cache timeout active",
                                                       "cache timeout inactive"],
@@ -183,11 +188,16 @@ class _Reading:
         plain = match(words, "flow ipv4|ipv6|mpls monitor * ingress|egress")
         sampled = match(words, "flow ipv4|ipv6|mpls monitor * sampler * ingress|egress")
         if plain and len(plain) == 3:
-            self.uses.append(Use(name, plain[0], plain[1], "", plain[2], place))
+            self.add_use(Use(name, plain[0], plain[1], "", plain[2], place))
         elif sampled and len(sampled) == 4:
-            self.uses.append(Use(name, sampled[0], sampled[1], sampled[2], sampled[3], place))
+            self.add_use(Use(name, sampled[0], sampled[1], sampled[2], sampled[3], place))
         else:
             self.log.unknown(place, " ".join(words), ["flow ipv4 monitor", "flow ipv6 monitor", "flow mpls monitor"])
+
+    def add_use(self, use: Use) -> None:
+        """Adds a monitor at an interface, once if a text has it twice."""
+        if all(replace(one, place=use.place) != use for one in self.uses):
+            self.uses.append(use)
 
     def read(self) -> Device:
         self.device.interfaces = list(self.interfaces.values())

@@ -89,7 +89,8 @@ class _Reading:
         """Takes a statement of NetStream, of the router or of an interface."""
         sampler = match(words, "sampler * * inbound|outbound")
         if interface and words in (["inbound"], ["outbound"]):
-            self.uses.append((interface, family, words[0], place))
+            if all(one[:3] != (interface, family, words[0]) for one in self.uses):
+                self.uses.append((interface, family, words[0], place))
         elif sampler and sampler[0] in SAMPLERS and sampler[1].isdigit() and len(sampler) == 3:
             self.samplers[(interface, family, sampler[2])] = (sampler[0], int(sampler[1]), place)
         elif words[:1] == ["export"]:
@@ -105,8 +106,11 @@ class _Reading:
         host = match(words, "host * *")
         if host and host[1].isdigit() and 0 < int(host[1]) < 65536 and host[2:3] in ([], ["vpn-instance"], ["version"]):
             vrf = host[3] if host[2:3] == ["vpn-instance"] and len(host) > 3 else ""
-            self.hosts[family].append(Destination(destination_name(host[0], int(host[1])), host[0], int(host[1]), place,
-                                                  "udp", vrf))
+            found = Destination(destination_name(host[0], int(host[1])), host[0], int(host[1]), place, "udp", vrf)
+            if found.name not in [one.name for one in self.hosts[family]]:
+                self.hosts[family].append(found)
+            if host[2:3] == ["version"] or len(host) > 4:
+                self.log.unknown(place, " ".join(host[2 if host[2] == "version" else 4:]), KNOWN)
         elif words[:1] == ["version"] and len(words) > 1 and words[1] in ("5", "9", "ipfix"):
             self.versions[family] = (words[1], place)
         elif words[:1] == ["source"] and len(words) > 1:

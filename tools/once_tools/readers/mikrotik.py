@@ -100,9 +100,10 @@ class _Reading:
             self.log.unknown(one.place, f"{one.menu} {one.verb}", ["ip traffic-flow set", "ip traffic-flow target add"])
         elif one.menu == "system identity":
             self.device.hostname = one.values.get("name", self.device.hostname)
-        elif one.menu == "ip address" and one.verb == "add" and one.values.get("disabled") != "yes":
+        elif one.menu in ("ip address", "ipv6 address") and one.verb == "add" and one.values.get("disabled") != "yes":
             name = one.values.get("interface", "")
-            self.interfaces.setdefault(name, Interface(name, one.place)).addresses += [one.values.get("address", "")]
+            known = self.interfaces.setdefault(name, Interface(name, one.place)).addresses
+            known += [one.values["address"]] if one.values.get("address", "") not in ("", *known) else []
         elif one.menu.startswith("interface ") and one.values.get("name"):
             found = self.interfaces.setdefault(one.values["name"], Interface(one.values["name"], one.place))
             found.description = one.values.get("comment", "")
@@ -191,6 +192,10 @@ class _Reading:
                               "them under those that the meter sees",
                               "report by addresses that are not translated, or accept this", Topic.NAT, None,
                               exporters)
+            elif one.values.get("l3-hw-offloading") == "yes":
+                self.log.lost(one.place, "packets that the switch chip routes may pass traffic-flow by, but the document "
+                              "meters them", "set l3-hw-offloading=no, or compare totals with counters of the device",
+                              Topic.OTHER, None, exporters)
             elif one.menu == "ip firewall filter" and one.values.get("action") == "fasttrack-connection":
                 self.log.premise(one.place, "packets of fasttracked connections are metered too", "", Topic.OTHER, None,
                                  exporters)

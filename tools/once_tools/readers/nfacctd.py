@@ -7,6 +7,8 @@ from typing import Mapping
 
 from once_tools.model import Destination, Device, Exporter, Listener, Place, Topic, Unusable
 from once_tools.readers.log import Log
+from once_tools.readers.nfacctd_filters import Key, aggregations_of
+from once_tools.readers.pcap_filter import UnreadFilter
 from once_tools.readers.pmacct_keys import PRIMITIVES, USUAL, WITHOUT_AXIS
 from once_tools.readers.pmacct_settings import (NETWORKS_FILTER, Plugin, Settings, is_networks_filter, other_source,
                                                 plugins_of, report_others, report_repeated, report_unknown, settings_of)
@@ -61,10 +63,10 @@ class _Reading:
                 self.device.exporters.append(self.tee(plugin))
                 listener.forwards.append(plugin.name)
             elif plugin.kind in STORING:
-                self.propose(plugin)
+                self.store(plugin, self.propose(plugin), listener)
             else:
                 self.log.unknown(self.place("plugins"), plugin.kind, [*STORING, "tee"])
-        self.device.listeners = [listener]
+        self.device.listeners.insert(0, listener)
         self.report_rest()
         report_others(self.sources, [self.settings.last(key) for key in FILES], self.log)
         report_repeated(self.settings, self.log)
@@ -149,10 +151,35 @@ class _Reading:
         address, port = words[1] or words[3], int(words[2] or words[4])
         return Destination(destination_name(address, port), address, port, place)
 
-    def propose(self, plugin: Plugin) -> None:
-        """Proposes the key that a plugin stores by as the report's key."""
+    def store(self, plugin: Plugin, key: Key, listener: Listener) -> None:
+        """Adds what a plugin with a filter stores: a collecting process of its own, which an aggregation feeds."""
+        line = self.settings.own("aggregate_filter", plugin.name)
+        if line is None:
+            return
+        try:
+            found = aggregations_of(plugin.name, line, key)
+        except UnreadFilter as error:
+            self.lost_filter(line.place, f"`{error.part}` {error}; ")
+            return
+        if not found:
+            self.log.warning(line.place, f"no packet passes the filter: {plugin.name} stores nothing", "mend the filter",
+                             (plugin.name,))
+        listener.aggregations += found
+        inner = Destination(f"stored by {plugin.name}", "", 0, line.place, "tcp")
+        self.device.exporters.append(Exporter(plugin.name, [inner], line.place))
+        self.device.listeners.append(Listener(plugin.name, [], line.place, local_exporters=[plugin.name]))
+        axes = ", ".join(dict.fromkeys(name for one in found for name in [*one.match, *(element for element, _ in one.key)]))
+        self.log.note(line.place, f"{plugin.name} is a collecting process of its own, which gets what passes the filter: "
+                      f"records whose flow keys have {axes or 'nothing'}", exporters=(plugin.name,))
+
+    def lost_filter(self, place: Place, why: str = "") -> None:
+        self.log.lost(place, f"{why}the collector may store only a part of what it receives, but the document counts all "
+                      "of it", "store all records, and filter in the report", Topic.FILTER)
+
+    def propose(self, plugin: Plugin) -> Key:
+        """Proposes the key that a plugin stores by as the report's key, and returns it."""
         place = self.place("aggregate", plugin.name)
-        key: list[tuple[str, int | None]] = []
+        key: Key = []
         mask = self.settings.number("networks_mask", 1, 32, plugin.name)
         for word in re.split(r"[,\s]+", self.settings.value("aggregate", USUAL, plugin.name)):
             if word in PRIMITIVES:
@@ -167,14 +194,19 @@ class _Reading:
         names = ", ".join(name if length is None else f"{name}/{length}" for name, length in key)
         self.log.note(place, f"{plugin.name} stores by {names or 'nothing'}: proposed as the report's key")
         self.device.proposed_keys.append((plugin.name, key, place))
+        return key
 
     def report_rest(self) -> None:
         """Reports the settings that have no form in the document."""
+        storing = {name for one in self.plugins if one.kind in STORING for name in (one.name, f"default_{one.name}")}
         for one in self.settings.lines:
-            if one.key in LEAVING_OUT:
-                self.log.lost(one.place, "the collector may store only a part of what it receives, but the document "
-                              "counts all of it",
-                              "store all records, and filter in the report", Topic.FILTER)
+            if one.key == "aggregate_filter" and not one.plugin:
+                self.log.note(one.place, "nfacctd does not apply an aggregate_filter without a plugin, so it filters nothing",
+                              "write aggregate_filter[PLUGIN]")
+            elif one.key == "aggregate_filter" and one.plugin in storing:
+                continue
+            elif one.key in LEAVING_OUT:
+                self.lost_filter(one.place)
             elif is_networks_filter(one):
                 self.log.lost(one.place, NETWORKS_FILTER, "take it out", Topic.FILTER)
             elif one.key.endswith("_preprocess"):
@@ -193,6 +225,9 @@ class _Reading:
                               "nfacctd_renormalize: true")
             elif one.key == "nfacctd_renormalize" and one.value.lower() == "true":
                 self.log.note(one.place, "counters of sampled exporters are multiplied by their sampling rate")
+            elif one.key == "nfacctd_ipv6_only" and one.value.lower() == "true":
+                self.log.lost(one.place, "records that are sent over IPv4 do not come in, but the document takes them",
+                              "leave it out")
             elif one.key == "nfacctd_mcast_groups":
                 self.log.lost(one.place, "records that are sent to a multicast group come in too, but the document has "
                               "no link for them",

@@ -19,7 +19,7 @@ DIRECTIONS = {"ingress-only": Direction.INGRESS, "egress-only": Direction.EGRESS
 USUAL_RATE = 1000
 HARMLESS = ("active-timeout", "inactive-timeout", "cache-size", "overflow", "template-retransmit", "export-mode",
             "use-vrtr-if-index", "description",
-            "autonomous-system-type", "template-set", "exit", "analyze-gre-payload", "enhanced-distribution")
+            "autonomous-system-type", "template-set", "exit", "enhanced-distribution")
 
 
 @dataclass
@@ -50,6 +50,7 @@ class _Reading:
         self.section: Place | None = None
         self.is_on = False
         self.interfaces: dict[str, Interface] = {}
+        self.owners: dict[str, tuple[str, ...]] = {}
         self.uses: list[Use] = []
         found = [one for source in sources for one in statements(source)]
         if not any("cflowd" in one.words or one.words[0] in ("configure", "/configure") for one in found):
@@ -67,9 +68,18 @@ class _Reading:
         elif match(words, "system name *"):
             self.device.hostname = words[2]
         elif words[:1] in (["router"], ["service"]) and names and len(words) > names[0] + 1:
+            owner = words[:3] if words[0] == "service" else [word for word in words[:2] if word not in ("interface", "Base")]
+            self.check_owner(words[names[0] + 1], tuple(owner), one.place)
             self.interface(words[names[0] + 1], words[names[0] + 2:], one.place)
         elif "cflowd" in words or "cflowd-parameters" in words:
             self.log.unknown(one.place, " ".join(words[:3]), ["cflowd"])
+
+    def check_owner(self, name: str, owner: tuple[str, ...], place: Place) -> None:
+        """Reports an interface whose name another service has too."""
+        first = self.owners.setdefault(name, owner)
+        if first != owner:
+            self.log.lost(place, f"`{' '.join(first)}` also has an interface {name}, and the document has both as one",
+                          "give the interfaces different names, or read the services apart")
 
     def cflowd(self, words: list[str], place: Place) -> None:
         collector, rate = match(words, "collector *"), match(words, "rate *")
@@ -79,6 +89,12 @@ class _Reading:
             self.rate = (int(rate[0]), place)
         elif words in (["no", "shutdown"], ["shutdown"]):
             self.is_on = words[0] == "no"
+        elif words == ["analyze-gre-payload"]:
+            self.log.lost(place, "packets of GRE are metered by the headers of the packets inside, but the document has "
+                          "the outer ones", "take it out, or accept this", Topic.OTHER)
+        elif words == ["export-mode", "manual"]:
+            self.log.premise(place, "records are exported when an operator has them exported: the audit speaks of totals "
+                             "after that", "set export-mode automatic")
         elif words and words[0] not in HARMLESS:
             self.log.unknown(place, " ".join(words), ["collector", "rate", "no shutdown", *HARMLESS])
 
@@ -114,7 +130,8 @@ class _Reading:
             direction = found[2] if found[1:2] == ["direction"] and found[2:] and found[2] in DIRECTIONS else ""
             if len(found) > 1 and (not direction or len(found) > 3):
                 self.log.unknown(place, " ".join(found[1:]), [f"direction {one}" for one in DIRECTIONS])
-            self.uses.append(Use(name, found[0], direction, place))
+            if all((one.interface, one.kind, one.direction) != (name, found[0], direction) for one in self.uses):
+                self.uses.append(Use(name, found[0], direction, place))
         elif words[:3] == ["cflowd-parameters", "sampling", "multicast"]:
             self.log.note(place, "multicast is not declared as traffic")
         elif words[-1] not in ("cflowd-parameters", "exit", "shutdown"):

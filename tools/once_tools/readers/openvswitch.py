@@ -12,18 +12,24 @@ from typing import Mapping
 from once_tools.model import (Cache, Destination, Device, Direction, Exporter, Interface, Place, Point, Topic, Unusable)
 from once_tools.readers import filters
 from once_tools.readers.log import Log, sampling
-from once_tools.readers.ovsdb import Database, Row, read_database
+from once_tools.readers.ovsdb import TABLES, Database, Row, read_database
 from once_tools.readers.records import ADDRESSES, PORTS, destination_name, fields
 from once_tools.source import Source
 
 KEYS = ("ipVersion", *ADDRESSES, "protocolIdentifier", "ipClassOfService")
 SWITCHES = {Direction.INGRESS: "enable-input-sampling", Direction.EGRESS: "enable-output-sampling"}
-MEASURED = "3.1."
+MEASURED = "3.1.0"
 USUAL_RATE = 400
 COLUMNS = {"_uuid", "_version", "cache_active_timeout", "cache_max_flows", "external_ids", "obs_domain_id",
            "obs_point_id",
            "other_config", "sampling", "targets", "stats_interval", "template_interval"}
 OPTIONS = {*SWITCHES.values(), "enable-tunnel-sampling", "virtual_obs_id"}
+NETFLOW_COLUMNS = {"_uuid", "_version", "active_timeout", "add_id_to_interface", "engine_id", "engine_type",
+                   "external_ids", "targets"}
+SET_COLUMNS = {"_uuid", "_version", "bridge", "external_ids", "id", "ipfix"}
+TYPES = {"", "system", "internal", "tap", "patch", "geneve", "gre", "ip6gre", "vxlan", "lisp", "stt", "erspan", "ip6erspan",
+         "gtpu", "bareudp", "srv6", "dpdk", "dpdkvhostuser", "dpdkvhostuserclient", "afxdp", "afxdp-nonpmd", "dummy",
+         "dummy-pmd"}
 
 
 class _Reading:
@@ -37,12 +43,14 @@ class _Reading:
         switch = self.database.rows("Open_vSwitch")
         self.version = switch[0].text("ovs_version") if switch else ""
         self.used: set[str] = set()
+        self.known: set[str] = set()
 
     def at(self, row: Row) -> Place:
         """Returns the file of a row: a database has no lines that a user writes."""
         return Place(row.place.file)
 
     def read(self) -> Device:
+        self.check_tables()
         for bridge in sorted(self.database.rows("Bridge"), key=lambda row: row.text("name")):
             self.bridge(bridge)
         for row in self.database.rows("Flow_Sample_Collector_Set"):
@@ -53,6 +61,20 @@ class _Reading:
                               f"is used by no "
                               "bridge: it meters nothing")
         return self.device
+
+    def check_tables(self) -> None:
+        """Reports tables that are not known or not here. Raises Unusable if a bridge of the switch is missing."""
+        for place, table in self.database.unknown:
+            self.log.unknown(place, f"table {table}" if table else "a table with these columns",
+                             [f"table {one}" for one in TABLES])
+        if "Flow_Sample_Collector_Set" not in self.database.tables:
+            self.log.premise(Place(self.device.files[0]), "no OpenFlow rule samples packets: the table "
+                             "Flow_Sample_Collector_Set, which would show it, is not here", "give this table too")
+        for switch in self.database.rows("Open_vSwitch"):
+            for uuid in switch.texts("bridges"):
+                if self.database.row("Bridge", uuid) is None:
+                    raise Unusable(self.at(switch), f"the switch names a bridge {uuid} that is not here",
+                                   "give the table Bridge whole")
 
     def bridge(self, bridge: Row) -> None:
         name = bridge.text("name")
@@ -93,10 +115,19 @@ class _Reading:
             found += [row for row in rows if row.text("type") != "patch"]
         self.report_patches(bridge, patches)
         found.sort(key=lambda row: (row.text("name") == name, row.number("ofport") or 1 << 16, row.text("name")))
-        known = {one.name for one in self.device.interfaces}
-        self.device.interfaces += [Interface(row.text("name"), self.at(row), index=row.number("ifindex"))
-                                   for row in found if row.text("name") not in known]
+        for row in found:
+            self.report_interface(row)
+            if row.text("name") not in self.known:
+                self.device.interfaces.append(Interface(row.text("name"), self.at(row), index=row.number("ifindex")))
+        self.known |= {row.text("name") for row in found}
         return [row.text("name") for row in found]
+
+    def report_interface(self, row: Row) -> None:
+        if row.text("type") not in TYPES:
+            self.log.unknown(self.at(row), f"type {row.text('type')} of Interface {row.text('name')}", sorted(TYPES))
+        if row.number("ofport") == -1:
+            self.log.note(self.at(row), f"Open vSwitch could not open Interface {row.text('name')}: no packets are seen "
+                          "there")
 
     def report_patches(self, bridge: Row, patches: list[Row]) -> None:
         if patches and bridge.texts("ipfix"):
@@ -212,7 +243,7 @@ class _Reading:
         effect = "turns sampling off" if value == "true" else "leaves sampling on"
         says = (f"IPFIX of Bridge {name}: {key}={value} {effect}: Open vSwitch 3.1.0 was measured to do the opposite of its "
                 "manual")
-        if self.version.startswith(MEASURED):
+        if self.version == MEASURED:
             self.log.note(self.at(row), says, exporters=(name,))
         else:
             version = f"version {self.version} was not measured" if self.version else "this database does not name its version"
@@ -222,13 +253,20 @@ class _Reading:
                              "manual holds", Topic.OTHER, None, (name,))
         return value == "true"
 
+    def report_columns(self, row: Row, known: set[str], exporters: tuple[str, ...] = ()) -> None:
+        for column in sorted(set(row.columns) - known):
+            self.log.unknown(self.at(row), column, sorted(known), exporters)
+
     def report_unknown(self, name: str, row: Row) -> None:
-        for column in sorted(set(row.columns) - COLUMNS):
-            self.log.unknown(self.at(row), column, sorted(COLUMNS), (name,))
+        self.report_columns(row, COLUMNS, (name,))
         for key, value in sorted(row.mapping("other_config").items()):
             if key not in OPTIONS:
                 self.log.unknown(self.at(row), f"other_config:{key}", [f"other_config:{one}" for one in OPTIONS],
                                  (name,))
+            elif key == "enable-tunnel-sampling" and value not in ("true", "false"):
+                self.log.lost(self.at(row), f"IPFIX of Bridge {name}: {key} is {value!r}, neither true nor false; fields "
+                              "of tunnels are left out of the flow keys", "set it to true or false", Topic.UNKNOWN,
+                              None, (name,))
             elif key == "enable-tunnel-sampling" and value == "false":
                 self.log.note(self.at(row), f"IPFIX of Bridge {name}: records have no fields of tunnels",
                               exporters=(name,))
@@ -248,12 +286,20 @@ class _Reading:
     def collector_set(self, row: Row) -> None:
         """Reports flow-based sampling, whose packets OpenFlow rules choose."""
         number = row.number("id")
+        bridge = self.database.row("Bridge", row.text("bridge"))
+        if bridge is None:
+            raise Unusable(self.at(row), f"Flow_Sample_Collector_Set {number} names a bridge that is not here",
+                           "give the table Bridge whole")
+        self.report_columns(row, SET_COLUMNS)
+        if not row.texts("ipfix"):
+            self.log.note(self.at(row), f"Flow_Sample_Collector_Set {number} has no IPFIX: it exports nothing")
         for uuid in row.texts("ipfix"):
             ipfix = self.database.row("IPFIX", uuid)
             self.used.add(uuid)
             if ipfix is None:
-                continue
-            name = f"collector set {number}"
+                raise Unusable(self.at(row), f"Flow_Sample_Collector_Set {number} names an IPFIX row that is not here",
+                               "give the table IPFIX too")
+            name = f"{bridge.text('name')} collector set {number}"
             self.device.exporters.append(self.exporter(name, ipfix, "IPFIX", 10))
             self.log.lost(self.at(row), f"Flow_Sample_Collector_Set {number}: OpenFlow rules say which packets are "
                           f"sampled, and the document has "
@@ -266,6 +312,7 @@ class _Reading:
             raise Unusable(self.at(bridge), f"Bridge {name} names a NetFlow row that is not here",
                            "give the table NetFlow too")
         what, place = f"{name} NetFlow", self.at(row)
+        self.report_columns(row, NETFLOW_COLUMNS, (what,))
         self.device.exporters.append(self.exporter(what, row, "NetFlow", 5))
         cache = f"{what} IPv4"
         keys = (*KEYS, *PORTS)

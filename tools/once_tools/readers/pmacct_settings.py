@@ -55,6 +55,11 @@ class Settings:
                 return one
         return None
 
+    def own(self, key: str, plugin: str) -> Setting | None:
+        """Returns the last line of a key that is for one plugin alone."""
+        return next((one for one in reversed(self.lines) if one.key == key
+                     and one.plugin in (plugin, f"default_{plugin}")), None)
+
     def value(self, key: str, usual: str = "", plugin: str | None = None) -> str:
         """Returns the value in force, or the usual one."""
         found = self.last(key, plugin)
@@ -123,6 +128,7 @@ def report_unknown(found: Settings, plugins: Sequence[Plugin], known: set[str], 
             log.unknown(one.place, one.key, sorted(known))
 
 
+# What `networks_file_filter: true` does (measured with pmacctd 1.7.7).
 NETWORKS_FILTER = ("addresses outside of networks_file are stored as 0.0.0.0 or ::, but the document has each address "
                    "as it is")
 

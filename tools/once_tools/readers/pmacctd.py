@@ -150,9 +150,7 @@ class _Reading:
 
     def own_filter(self, name: str) -> Setting | None:
         """Returns the filter of a plugin; pmacctd does not apply one without a plugin."""
-        named = (name, f"default_{name}")
-        return next((one for one in reversed(self.settings.lines) if one.key == "aggregate_filter"
-                     and one.plugin in named), None)
+        return self.settings.own("aggregate_filter", name)
 
     def filtered(self, name: str, version: int, cache: str, place: Place) -> list[Selection]:
         """Returns the selection processes of the filters before a plugin."""

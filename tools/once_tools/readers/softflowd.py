@@ -214,6 +214,8 @@ class Softflowd:
     def read(self, name: str, sources: list[Source], options: Mapping[str, str]) -> Device:
         commands = commands_of(sources, "softflowd")
         values = variables_of(sources)
+        if not commands and "options" in values and not values.get("interface"):
+            raise Unusable(sources[0].place(0), "sets no interface", "write interface=\"NAME\"")
         if not commands and "options" in values:
             words = ["-i", values.get("interface", "")] + values["options"].split()
             line = next((number for number, text in enumerate(sources[0].lines(), 1) if text.startswith("options=")), 0)

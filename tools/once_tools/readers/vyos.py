@@ -81,8 +81,8 @@ class _Reading:
             self.device.hostname = host[0]
         elif interface:
             self.interface(interface[1], interface[2:], one.place)
-        elif one.words[0] == "nat":
-            self.nat(list(one.words[1:]), one.place)
+        elif one.words[0] in ("nat", "nat66", "nat64"):
+            self.nat(one.words[0], list(one.words[1:]), one.place)
         elif match(one.words, "system sflow") is not None:
             self.log.note(one.place, "sFlow sends samples of packets and no flow records")
         elif "flow-accounting" in one.words or "netflow" in one.words or "ipfix" in one.words:
@@ -157,11 +157,13 @@ class _Reading:
         elif words[:2] == ["member", "interface"] and len(words) > 2:
             one.members += [words[2]] if words[2] not in one.members else []
 
-    def nat(self, words: list[str], place: Place) -> None:
+    def nat(self, what: str, words: list[str], place: Place) -> None:
         found = match(words, "source|destination|static rule *")
         if not found:
+            if words:
+                self.log.unknown(place, " ".join([what, *words[:1]]), ["nat source", "nat destination", "nat static"])
             return
-        rule = self.rules.setdefault((found[0], found[1]), Rule(found[0], found[1], place))
+        rule = self.rules.setdefault((f"{what} {found[0]}", found[1]), Rule(f"{what} {found[0]}", found[1], place))
         rest = found[2:]
         if rest[:1] in (["outbound-interface"], ["inbound-interface"]) and len(rest) > 1:
             rule.interface, rule.place = rest[-1], place
@@ -260,17 +262,17 @@ class _Reading:
         exporters = list(self.accounting.servers)
         for rule in self.rules.values():
             if rule.is_disabled:
-                self.log.note(rule.place, f"nat {rule.kind} rule {rule.number} is disabled")
+                self.log.note(rule.place, f"{rule.kind} rule {rule.number} is disabled")
                 continue
             who = f"packets of {rule.source}" if rule.source else "packets that it translates"
             where = rule.interface or "it"
-            if rule.kind == "source":
-                says = (f"nat source rule {rule.number}: beyond {where} {who} have another source, and packets that "
+            if rule.kind.endswith(" source"):
+                says = (f"{rule.kind} rule {rule.number}: beyond {where} {who} have another source, and packets that "
                         f"come back have the address of "
                         f"{where} as their destination, where they are metered: a report by destination counts them "
                         f"under that address")
             else:
-                says = (f"nat {rule.kind} rule {rule.number}: packets have another destination beyond this router than "
+                says = (f"{rule.kind} rule {rule.number}: packets have another destination beyond this router than "
                         f"where they are metered: a "
                         "report by address counts them under the one that the meter sees")
             self.log.lost(rule.place, says, "report by addresses that are not translated, or accept this", Topic.NAT,
