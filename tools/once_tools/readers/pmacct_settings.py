@@ -129,7 +129,7 @@ def report_unknown(found: Settings, plugins: Sequence[Plugin], known: set[str], 
 
 
 # What `networks_file_filter: true` does (measured with pmacctd 1.7.7).
-NETWORKS_FILTER = ("addresses outside of networks_file are stored as 0.0.0.0 or ::, but the document has each address "
+NETWORKS_FILTER = ("addresses outside of networks_file are counted as 0.0.0.0 or ::, but the document has each address "
                    "as it is")
 
 
