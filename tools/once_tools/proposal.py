@@ -221,8 +221,8 @@ def project_text(folder: Path) -> str:
     """Returns the text of a project for a folder."""
     proposal = look_at(folder)
     collectors, first = collector_lines(proposal)
-    lines = ["# A project of once-import. Two things to look at: which collector the report is of, and which interfaces are",
-             "# in which role. Then: once-import audit PROJECT", "[report]",
+    lines = ["# A project of once-import. Check two things: which collector's totals the report asks for, and which role each",
+             "# interface has. Then run: once-import audit PROJECT", "[report]",
              f"collector = {quoted(first or '?')}", f"key = {key_text(proposal.collectors)}", ""]
     for one in proposal.devices:
         lines += device_lines(one, folder, "devices")

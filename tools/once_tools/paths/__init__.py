@@ -1,4 +1,4 @@
-"""Paths of packets through the network, and the traffic declaration that comes of them."""
+"""Paths of packets through the network, and the traffic declaration made from them."""
 from __future__ import annotations
 
 from dataclasses import replace

@@ -43,7 +43,7 @@ def layered(path: Path, topology: Topology, metered: set[Crossing], place: Place
         count *= len(each)
     if count > MOST:
         raise Unusable(place, f"has more than {MOST} paths over ports of VLANs and members of bundles",
-                       "meter VLANs and bundles in place of their ports")
+                       "meter VLANs and bundles instead of their ports")
     return [tuple(itertools.chain(*chosen)) for chosen in itertools.product(*choices)]
 
 

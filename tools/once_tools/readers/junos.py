@@ -150,7 +150,7 @@ class _Reading:
         else:
             self.log.note(one.rate[1], "rate 1: all packets", exporters=exporters)
         for place in one.limits:
-            self.log.lost(place, "only so many packets a second are sampled, and a total over a sample is not exact; "
+            self.log.lost(place, "only a limited number of packets a second is sampled, and a total over a sample is not exact; "
                           "the document meters all "
                           "packets", "take the limit out", Topic.SAMPLER, 108, exporters)
 

@@ -11,7 +11,7 @@ SAMPLES = ("the document meters all packets: a certificate then says that each p
            "times {rate} are estimates")
 
 
-# Near names are looked up for so many unknown statements; a text with more is not what it should be.
+# Near names are looked up for this number of unknown statements; a text with more is of another kind.
 MOST_NEAR = 200
 
 
@@ -66,5 +66,5 @@ class Log:
 
 
 def sampling(population: int) -> dict[str, object]:
-    """Returns the selector of a sampler that takes one packet out of so many, as RFC 6728 has it."""
+    """Returns the selector of a sampler that takes one packet out of a number of packets (RFC 6728)."""
     return {"sampRandOutOfN": {"size": 1, "population": population}}

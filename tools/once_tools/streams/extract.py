@@ -228,7 +228,7 @@ class Extraction:
 
 
 def _padded(frame: Frame) -> Frame:
-    """Returns a quoted packet with zeros in place of what the quotation leaves out, so that its headers can be read."""
+    """Returns a quoted packet with zeros for what the quotation leaves out, so that its headers can be read."""
     octets = frame.octets
     if octets[0] >> 4 == 4:
         wanted = int.from_bytes(octets[2:4], "big")
