@@ -3,7 +3,7 @@
 
 SHELL := /bin/bash
 .DEFAULT_GOAL := help
-.PHONY: help kit replay once packages test proofs mutants check pending rows examples pictures torture clean \
+.PHONY: help kit replay once packages test proofs mutants shown check pending rows examples pictures torture clean \
 	install uninstall deb manual tools run-tools
 
 # Prints what the part took when it ends.
@@ -21,6 +21,7 @@ help:
 	@echo 'make check             in minutes, before a proof: front ends, lists, rows, and proofs of the crates that changed'
 	@echo 'make pending           lists what the gate would still have to prove and try on this machine'
 	@echo 'make mutants NAME=CRATE  tries the mutants of one crate; NAME=CRATE/WORD those with WORD in their names'
+	@echo 'make shown             runs the rows that mutants name over one program that has all mutants'
 	@echo 'make rows              proves and builds the program, and runs the steps of the gate over it'
 	@echo 'make examples          the same for the examples alone'
 	@echo 'make tools             checks the types of once-import and runs its tests, over ./once or ONCE=PROGRAM'
@@ -65,6 +66,10 @@ proofs:
 # Tries mutants over the work that checks have kept.
 mutants: kit
 	python3 tests/mutants.py --kept --jobs 2 $(NAME)
+
+# Builds one program with all mutants, without a proof, and holds each line `shows: row NAME` of a mutant against it.
+shown: kit
+	python3 tests/show_mutants.py $(NAME)
 
 # What can be said in minutes, before the gate: the front ends of all crates, the lists, the steps over a program that is built without
 # a proof, and proofs of the crates that changed since the last commit known to pass.

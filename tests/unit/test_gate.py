@@ -1,6 +1,9 @@
 """When a step of the gate fails, and which tests did not run."""
+import subprocess
+from types import SimpleNamespace
+
 import pytest
-from gate import Outcome
+from gate import Outcome, versions
 from steps import STEPS
 
 LACKS = "not run: links read by nfcapd: it is missing (Debian's package nfdump)\n4 passed, 0 failed\n"
@@ -36,3 +39,11 @@ def test_packages_of_steps_are_listed():
     with open("packaging/test-packages", encoding="utf-8") as file:
         listed = {line.strip() for line in file}
     assert {package for step in STEPS for package in step.needs} <= listed
+
+
+def test_a_removed_package_is_another_version(monkeypatch):
+    """dpkg-query goes on to name the version of a package that was removed and not purged."""
+    asked = []
+    monkeypatch.setattr(subprocess, "run", lambda words, **how: asked.append(words) or SimpleNamespace(stdout=""))
+    versions(("nfdump",))
+    assert "${db:Status-Status}" in asked[0][2]
