@@ -68,7 +68,7 @@ def run(step):
 
 
 def versions(packages):
-    """Returns the versions of Debian packages, as far as they are installed."""
+    """Returns the versions of Debian packages, and whether each is installed."""
     words = ["dpkg-query", "-W", "-f=${Package} ${Version} ${db:Status-Status}\n", *packages]
     try:
         return subprocess.run(words, stdout=subprocess.PIPE, stderr=subprocess.DEVNULL, text=True).stdout if packages else ""

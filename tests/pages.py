@@ -2,7 +2,7 @@
 """pages.py PROGRAM: runs the command lines of pages for users as they are written, and compares what they print.
 
 Blocks that are set in by four spaces and begin with `$ ` are run, those of one heading in one session from the top of
-the repository: each line behind `$ `, with PROGRAM as `once` and tools/once-import, and what it prints must be the lines behind it. Blocks
+the repository: each line behind `$ `, with PROGRAM as `once` and tools/once-import, and what it prints must be the lines that follow. Blocks
 without `$ ` are of a network of the reader's. Prints a line for each that differs, and last how many passed.
 """
 import os
