@@ -3,10 +3,10 @@
 
 usage: pending.py
 
-Run at the top of the repository. A crate is listed if `rt ci` keeps no proof of its present files over the present libraries below
-it, and none of its tests; its mutants are listed if no verdict on them is kept. Times are in seconds of processor time, of the table of
-docs/GATE.md; a crate that the table lacks is counted by its lines. The last line has the sum, and what it takes by the
-clock on the processors of this machine.
+Run at the top of the repository. A crate is listed if `rt ci` keeps no proof of its present files over the present libraries below it,
+its tests if no proof of them is kept, and its mutants if no verdict on them is. Times are in seconds of processor time, from
+the table of docs/GATE.md; a crate that the table lacks is counted by its lines. The last line has the sum, and what it takes by
+the clock on the processors of this machine.
 """
 import hashlib
 import json
