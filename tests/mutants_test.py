@@ -5,7 +5,7 @@ usage: mutants_test.py [--kept | --as-built]
 
 The edits tests/mutation_cases/NAME/*.edit are edits of the crate NAME, with a line `wants:`, the beginning of the verdict:
 REFUSED, NOT REFUSED (harmless ones) or BAD EDIT and why (those that cannot be read, that change a contract, that do not
-compile, that a stored answer alone refuses). All of a crate are judged together. Prints a line for each edit with another
+compile, whose proof file names what they remove). All of a crate are judged together. Prints a line for each edit with another
 verdict, and last `N passed, N failed`.
 """
 import os

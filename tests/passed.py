@@ -9,12 +9,12 @@ there is no such commit.
 """
 import argparse
 import os
-import shutil
 import subprocess
 import sys
 
 sys.dont_write_bytecode = True
 sys.path.insert(0, os.path.dirname(os.path.realpath(__file__)))
+from gate import kit_folder
 from mutation.store import Store, digest, store_folder
 
 PARTS = ("src", "specs", "proofs")
@@ -23,10 +23,6 @@ PARTS = ("src", "specs", "proofs")
 def git(*arguments):
     ran = subprocess.run(["git", *arguments], stdout=subprocess.PIPE, stderr=subprocess.DEVNULL, text=True)
     return ran.stdout if ran.returncode == 0 else ""
-
-
-def kit_folder():
-    return os.path.dirname(os.path.dirname(os.path.realpath(shutil.which("rt") or "/opt/rattle/bin/rt")))
 
 
 def changed_since(commit):

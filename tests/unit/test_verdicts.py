@@ -1,4 +1,4 @@
-"""Verdicts on what checks print. The texts are excerpts of what the kit's prover printed for mutants of this repository."""
+"""Verdicts on what checks print. The texts are shortened from what the kit's prover prints for mutants of this repository."""
 import pytest
 from mutation.answers import without
 from mutation.verdicts import answer_errors, judged, lines_of

@@ -45,7 +45,7 @@ class Topic(enum.Enum):
 
 @dataclass(frozen=True)
 class Finding:
-    """A statement of a report. `number` is the refusal of `once` behind it, if there is one.
+    """A statement of a report. `number` is the refusal of `once` that it leads to, if any.
 
     `exporters` names the exporting processes of the device that the finding bears on: if none of them leads to the
     report, the merge lowers the finding to a note. An empty tuple bears on the device as a whole and is never lowered.

@@ -34,7 +34,7 @@ def plain(document: object) -> object:
 
 
 def imported(folder: Path, faithful: bool = False, full: bool = False) -> Imported:
-    """Returns what comes of the project of a folder."""
+    """Returns the outcome of importing the project of a folder."""
     return import_project(read_project(folder / "project.toml"), Options(faithful, full))
 
 

@@ -38,7 +38,7 @@ TRAFFIC = '[[traffic]]\nname = "up"\nsource = "10.0.0.0/8"\nfrom = ["r:Gi0/0"]\n
 
 
 def made(folder: Path, project: str, options: Options = Options(), **files: str) -> Imported:
-    """Returns what comes of a project; a file's name is spelled with `_` for the dot."""
+    """Returns the outcome of importing a project; a file's name is spelled with `_` for the dot."""
     for name, text in files.items():
         (folder / name.replace("_", ".")).write_text(text, encoding="utf-8")
     (folder / "project.toml").write_text(project, encoding="utf-8")

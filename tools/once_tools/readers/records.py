@@ -19,7 +19,7 @@ def of_version(element: str, version: int) -> str:
 
 
 def fields(keys: Iterable[str], version: int, place: Place, octets: int | None = None) -> list[CacheField]:
-    """Returns the fields of records: the keys in the order of the axes, then the two counters of so many octets."""
+    """Returns the fields of records: the keys in the order of the axes, then the two counters, each of this length in octets."""
     axes = {of_version(key, version) for key in keys}
     found = [CacheField(axis, True, place) for axis in AXES if axis in axes]
     return found + [CacheField(counter, False, place, octets) for counter in COUNTERS]

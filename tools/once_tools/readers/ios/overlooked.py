@@ -22,7 +22,7 @@ def begins(node: Node, patterns: list[Words]) -> bool:
 
 
 def below(node: Node, levels: int) -> Iterator[Node]:
-    """Yields the lines that are so many levels or more below a section."""
+    """Yields the lines at this depth or more below a section."""
     for child in node.children:
         yield from child.walk() if levels <= 1 else below(child, levels - 1)
 
