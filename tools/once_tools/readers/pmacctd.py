@@ -261,9 +261,9 @@ class _Reading:
                 self.log.note(one.place, "counters are multiplied by a sampling rate, if there is one",
                               exporters=exporters)
         if self.settings.is_true("promisc", True) and not self.settings.last("pcap_savefile"):
-            self.log.note(self.whole, "without `promisc: false` the interface is promiscuous: it also sees packets on "
-                          "the wire that "
-                          "are not for this host")
+            self.log.premise(self.whole, "without `promisc: false` the interface is promiscuous: it also sees packets on "
+                             "the wire that are not for this host, and the document has none of those",
+                             "write `promisc: false` if they must not count", exporters=self.everywhere)
 
 
 class Pmacctd:

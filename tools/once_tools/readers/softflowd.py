@@ -188,8 +188,9 @@ class _Reading:
                      "leave -C out", Topic.OTHER,
                      None, bears_on)
         if "-N" not in self.options and "-i" in self.options:
-            log.note(self.place, "without -N the interface is promiscuous: it also sees packets on the wire that are "
-                     "not for this host")
+            log.premise(self.place, "without -N the interface is promiscuous: it also sees packets on the wire that are "
+                        "not for this host, and the document has none of those", "add -N if they must not count",
+                        exporters=bears_on)
         finer = LEVELS[self.level()][1]
         if finer:
             log.note(self.place, f"-T {self.level()}: {finer} is not an axis and is left out of the flow keys: records are "
