@@ -48,7 +48,7 @@ def test_traffic_of_the_sample() -> None:
     declaration = declare(devices_of(load("network.expected.json")), read_project(TOPOLOGY / "project.toml"))
     assert as_json(declaration.classes) == load("traffic.expected.json")["classes"]
     assert says(declaration.findings) == [
-        "note: 'B up' names no ingress: packets from 10.2.0.0/16 are taken to come in where routes to them lead out: "
+        "premise: 'B up' names no ingress: packets from 10.2.0.0/16 are taken to come in where routes to them lead out: "
         "edge-1:eth1",
         "note: border-1 drops packets to 10.3.0.0/16: it has no route for them, or one that discards",
         "note: packets that the routers themselves send and receive are in no class"]
