@@ -108,6 +108,16 @@ def report_keys(network: Network, key: list[KeyField], versions: set[int]) -> No
                         device, ())
 
 
+def report_unlinked(network: Network, device: Device, exporters: list[Exporter]) -> None:
+    """Notes the destinations of exporters where no collector of the project listens."""
+    for exporter in exporters:
+        for to in exporter.destinations:
+            if to.address and network.link_of(device.name, exporter.name, to.name) is None:
+                add(network, Grade.NOTE, to.place, f"port {to.port} of this address is no collector of the project: there is "
+                    f"no link, and nothing else of {exporter.name} bears on the report. Known are {known_ends(network, to)}",
+                    "", device, ())
+
+
 def prune(network: Network) -> None:
     """Takes out points that sample and do not lead to the report, with what they alone use: they cannot bear on it."""
     leading = leading_exporters(network)
@@ -122,6 +132,7 @@ def prune(network: Network) -> None:
         kept |= {name for one in device.listeners for name in exporters_of_listener(one)}
         unused = {name for one in gone for cache in [cache_of(device, one)] if cache for name in cache.exporters} - kept
         device.caches = [one for one in device.caches if one.name not in gone]
+        report_unlinked(network, device, [one for one in device.exporters if one.name in unused])
         device.exporters = [one for one in device.exporters if one.name not in unused]
         network.links = [one for one in network.links if one.device != device.name or one.exporter not in unused]
 

@@ -207,3 +207,23 @@ def test_what_a_filter_does_not_pass_is_not_counted(tmp_path: Path, once: str) -
             " match flow direction\n", ""), nf_conf=collector)
         assert found.pairs, found.report.text()
         assert audited(once, found.pairs[0], tmp_path).split(" ")[0] == wanted
+
+
+def test_destination_of_a_sampled_monitor_that_nothing_listens_at_is_a_note(tmp_path: Path) -> None:
+    """The monitor is left out of the document, and the line of its destination is in the report all the same."""
+    sampled = """flow exporter F
+ destination 192.0.2.20
+ transport udp 9999
+flow monitor N
+ record R
+ exporter F
+sampler S
+ mode random 1 out-of 100
+interface GigabitEthernet0/2
+ ip flow monitor N sampler S input
+"""
+    found = made(tmp_path, PROJECT, r_cfg=IN + sampled)
+    says = [(one.grade, one.says) for one in found.report.findings if one.place.text == "destination 192.0.2.20"]
+    assert [grade for grade, _ in says] == [Grade.NOTE]
+    assert "port 9999" in says[0][1] and "192.0.2.10:4739 (billing)" in says[0][1]
+    assert found.report.status == 0
