@@ -27,3 +27,24 @@ def test_the_key_that_a_collector_stores_by(tmp_path: Path) -> None:
     assert [one.todo for one in wrong] == ['add plugin = "..": a stores by source; b stores by destination']
     found = made(tmp_path, plain + 'plugin = "c"\n' + DEVICE + STORING + TRAFFIC, r_cfg=IN, nfacctd_conf=NFACCTD)
     assert "'billing' has no plugin 'c' that stores" in found.report.text()
+
+
+def test_metered_interfaces_without_traffic_of_their_version_are_named(tmp_path: Path) -> None:
+    """Traffic of IPv4 crosses both interfaces, and nothing is declared of the IPv6 that is metered at one of them."""
+    six = """flow record R6
+ match ipv6 source address
+ match ipv6 destination address
+ collect counter bytes long
+ collect counter packets long
+flow monitor M6
+ record R6
+ exporter E
+interface GigabitEthernet0/0
+ ip flow monitor M input
+ ipv6 flow monitor M6 input
+interface GigabitEthernet0/1
+"""
+    found = made(tmp_path, REPORT + DEVICE + COLLECTOR + TRAFFIC, r_cfg=RECORD + six)
+    named = [(one.grade, one.place.text) for one in found.report.findings if "no declared traffic" in one.says]
+    assert named == [(Grade.NOTE, "ipv6 flow monitor M6 input")]
+    assert "no declared traffic of IPv6 comes in there" in found.report.text()
