@@ -228,8 +228,12 @@ class _Reading:
         return on[0] if on else None
 
     def advice(self) -> str:
-        value = "false" if self.options.get("switches") == "manual" else "true"
-        return f"set other_config:{SWITCHES[Direction.EGRESS]}={value}"
+        """Returns how sampling is turned off where packets leave."""
+        key = f"other_config:{SWITCHES[Direction.EGRESS]}"
+        if self.options.get("switches") == "manual":
+            return f"set {key}=false"
+        measured = f"set {key}=true, which turns sampling off in Open vSwitch 3.1.0, against its manual"
+        return measured if self.version == MEASURED else f"{measured}; where the manual holds, set it to false"
 
     def is_off(self, name: str, row: Row, key: str, value: str | None) -> bool:
         """Returns whether a switch turns sampling off, and says what that rests on."""
