@@ -32,6 +32,24 @@ def way(path: Sequence[Json]) -> str:
     return ", ".join(f"{one.get('device')} {one.get('interface')} {one.get('direction')}" for one in path)
 
 
+def taken_twice(first: Sighting, other: Sighting, name: str) -> Finding:
+    """Returns what is to be said of a packet that two selection processes of one point take."""
+    device = first.device
+    says = f"this and {device.describe(other.taken_by)} take the same packets: '{name}' {metered_at(first)}, and " \
+           f"{device.named(first.taken_by)} and {device.named(other.taken_by)} both take it, so each packet counts twice"
+    return Finding(Grade.WARNING, device.place(first.taken_by), says, "leave what one of them takes out of the other, or export "
+                   "one of them to another collector", device=device.name)
+
+
+def advice(first: Sighting, other: Sighting) -> str:
+    """Returns what to do about two points that meter the same packets."""
+    if first.crossing == other.crossing:
+        return "take one of them off, or export one of them to another collector"
+    if first.device is other.device and first.direction != other.direction:
+        return "meter input on all interfaces and output on none"
+    return "meter where packets come into the network, and nowhere after that"
+
+
 def counted_twice(counted: list[Sighting], name: str, path: Sequence[Json]) -> list[Finding]:
     """Returns what is to be said of a packet that is counted more than once."""
     first = counted[0]
@@ -40,18 +58,19 @@ def counted_twice(counted: list[Sighting], name: str, path: Sequence[Json]) -> l
                                "packet counts that many times", "send it to the report once")]
     found = []
     for other in counted[1:]:
+        if first.crossing == other.crossing and first.point == other.point:
+            found.append(taken_twice(first, other, name))
+            continue
         other_line = other.device.describe(other.pointer)
         between = path[first.crossing - 1:other.crossing]
         how = f"{metered_at(first)} and {metered_at(other)}" if first.crossing != other.crossing else \
             f"{metered_at(first)}, where both take it"
         how += f" ({way(between)})" if len(between) > 2 else ""
-        turned = first.device is other.device and first.direction != other.direction
         if first.device.place(first.pointer) == other.device.place(other.pointer):
             says = f"'{name}' {how}: both are metered here, so each packet counts twice"
         else:
             says = f"this and {other_line} meter the same packets: '{name}' {how}, so each counts twice"
-        found.append(finding(first, says, "meter input on all interfaces and output on none" if turned else
-                             "meter where packets come into the network, and nowhere after that"))
+        found.append(finding(first, says, advice(first, other)))
     return found
 
 

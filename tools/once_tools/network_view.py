@@ -95,6 +95,7 @@ class Sighting:
     direction: str
     point: int
     at: int
+    process: int
     cache: int | None
     ways: int = 0
     unassigned: int = 0
@@ -105,6 +106,11 @@ class Sighting:
     def pointer(self) -> str:
         """Returns the pointer of the interface of the point."""
         return f"/observationPoint/{self.point}/ifName/{self.at}"
+
+    @property
+    def taken_by(self) -> str:
+        """Returns the pointer of the selection process."""
+        return f"/selectionProcess/{self.process}"
 
 
 def passes(match: Json, packet: Mapping[str, str]) -> bool:
@@ -176,7 +182,7 @@ class NetworkView:
                 process = device.find("selectionProcess", name)
                 if process and "cache" in process[1] and selects(process[1], packet):
                     cache = device.find("cache", process[1]["cache"])
-                    yield Sighting(device, number, interface, direction, at, names.index(interface),
+                    yield Sighting(device, number, interface, direction, at, names.index(interface), process[0],
                                    cache[0] if cache else None)
 
     def follow(self, sighting: Sighting, choices: Sequence[int]) -> None:
