@@ -31,7 +31,7 @@ HARMLESS = {
     "softflowd": r"\s*#.*|\s*$|\[Service\]|ExecStart=$",
     "nfacctd": r"\s*[!#].*|\s*$|(nfacctd_time_new|print_\w+\[bill\]|nfacctd_renormalize|tee_transparent\[copy\]).*",
     "nfcapd": r"$^",
-    "junos": r"\s*#.*|\s*$|.*(description|template-refresh-rate|flow-table-size|static route|host-name).*"
+    "junos": r"\s*#.*|\s*$|.*(description|template-refresh-rate|static route|host-name).*"
              r"|.*xe-0/0/3 unit 0 family inet sampling( input)?"
              r"|.*(term management then accept|customers then accept|rest then accept)",
     "cisco-ios": r"\s*!.*|\s*$|\s*(version|hostname|description|collect (interface|timestamp)|template data).*|end",

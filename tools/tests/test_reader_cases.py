@@ -347,6 +347,15 @@ def test_junos_deactivated_interface_is_left_out() -> None:
     assert "xe-0/0/3.0" not in read_text("junos", text).points[0].interfaces
 
 
+def test_junos_flow_table_is_a_premise_whether_its_size_is_set_or_not() -> None:
+    """A flow that the table has no room for is not made (Flow Creation Failures), and its packets are not counted."""
+    size = "set chassis fpc 0 inline-services flow-table-size ipv4-flow-table-size 10"
+    one = finding(read_text("junos", JUNOS), "flow table")
+    assert one.grade is Grade.PREMISE and one.place.text == size
+    one = finding(read_text("junos", JUNOS.replace(size, "")), "no flow-table-size")
+    assert one.grade is Grade.PREMISE and one.place.text == "set forwarding-options sampling instance BILL input rate 1"
+
+
 def test_junos_without_a_rate_or_an_fpc_is_told() -> None:
     text = JUNOS.replace("set forwarding-options sampling instance BILL input rate 1\n", "")
     assert finding(read_text("junos", text), "`input rate` is not set").grade is Grade.NOT_CARRIED_OVER

@@ -85,6 +85,7 @@ class _Reading:
                                             self.timeouts(list(servers.values()))))
             self.caches.add(name)
         self.rate(one, [f"{one.name} {family}" for family in one.servers])
+        self.room(one)
 
     def exporter(self, one: Instance, family: str, servers: list[Server]) -> Exporter:
         name = f"{one.name} {family}"
@@ -153,6 +154,16 @@ class _Reading:
             self.log.lost(place, "only a limited number of packets a second is sampled, and a total over a sample is not exact; "
                           "the document meters all "
                           "packets", "take the limit out", Topic.SAMPLER, 108, exporters)
+
+    def room(self, one: Instance) -> None:
+        """Says that inline-jflow meters the flows that its table has room for."""
+        exporters = [f"{one.name} {family}" for family in one.servers if family in one.inline]
+        sizes = self.config.table_sizes
+        for place in (sizes or [one.place]) if exporters else []:
+            self.log.premise(place, "packets of flows that the flow table has no room for are not metered, and the document "
+                             "counts them" + ("" if sizes else "; no flow-table-size is in the text"),
+                             "look for flow creation failures in `show services accounting errors inline-jflow`",
+                             exporters=exporters)
 
     def points(self) -> None:
         """Adds a point for each instance, family and direction, and for each chain of filters that samples."""

@@ -75,6 +75,7 @@ class Config:
     instances: dict[str, Instance] = field(default_factory=dict)
     templates: dict[tuple[int, str], Template] = field(default_factory=dict)
     chassis: dict[int, tuple[str, Place]] = field(default_factory=dict)
+    table_sizes: list[Place] = field(default_factory=list)
     filters: dict[tuple[str, str], dict[str, TermText]] = field(default_factory=dict)
     filter_faults: dict[tuple[str, str], Place] = field(default_factory=dict)
     prefix_lists: dict[str, list[str]] = field(default_factory=dict)
@@ -136,6 +137,8 @@ class Collector:
                                                                      else "apply-path")
 
     def chassis(self, words: Words, place: Place) -> None:
+        if "flow-table-size" in words:
+            self.config.table_sizes.append(place)
         if "sampling-instance" not in words:
             return
         found = match(words, "fpc * sampling-instance *")
