@@ -13,7 +13,7 @@ from once_tools.model import Cache, Destination, Device, Direction, Exporter, In
 from once_tools.readers import filters
 from once_tools.readers.command_line import logical_lines
 from once_tools.readers.log import Log
-from once_tools.readers.records import SEVEN, destination_name, fields
+from once_tools.readers.records import ADDRESSES, PORTS, destination_name, fields
 from once_tools.source import Source
 
 VERBS = ("add", "set", "remove", "disable", "enable")
@@ -26,6 +26,8 @@ TARGET = {"dst-address", "port", "version", "src-address", "v9-template-refresh"
 FIELDS = {"src-address": "sourceAddress", "dst-address": "destinationAddress", "protocol": "protocolIdentifier",
           "src-port": "sourceTransportPort",
           "dst-port": "destinationTransportPort", "tos": "ipClassOfService"}
+# The version of IP is not among the fields that are documented for records: a report by it is not promised.
+KEYS = (*ADDRESSES, "protocolIdentifier", *PORTS, "ipClassOfService")
 VERSIONS = {"1": 1, "5": 5, "9": 9, "ipfix": 10}
 COUNTS = {"ingress": Direction.INGRESS, "both": Direction.BOTH}
 NAME = "traffic-flow"
@@ -135,7 +137,7 @@ class _Reading:
     def meter(self) -> None:
         """Adds the point, and the caches of both versions of IP."""
         exporters = [one.name for one in self.device.exporters]
-        keys = [axis for axis in SEVEN if not self.is_left_out(axis)]
+        keys = [axis for axis in KEYS if not self.is_left_out(axis)]
         selections = []
         for version in (4, 6):
             able = [one.name for one in self.device.exporters if version == 4 or one.destinations[0].version in (9, 10)]
@@ -199,9 +201,8 @@ class _Reading:
             elif one.menu == "ip firewall filter" and one.values.get("action") == "fasttrack-connection":
                 self.log.premise(one.place, "packets of fasttracked connections are metered too", "", Topic.OTHER, None,
                                  exporters)
-        self.log.premise(self.place, "the flow keys are addresses, ports, protocol, class of service and version, and "
-                         "counters have 8 octets", "look at its "
-                         "templates with `once-import template`", Topic.COUNTERS, 618, exporters)
+        self.log.premise(self.place, "the flow keys are addresses, ports, protocol and class of service, and counters "
+                         "have 8 octets", "look at its templates with `once-import template`", Topic.COUNTERS, 618, exporters)
 
 
 class Mikrotik:
