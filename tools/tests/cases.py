@@ -1,17 +1,15 @@
-"""Cases in folders: a project with its configurations, and the documents, the answer and the report that must come out."""
+"""Cases in folders: a project with its configurations, and the documents and the answer that must come out."""
 from __future__ import annotations
 
 import json
 from pathlib import Path
 
 from once_tools.answers import refusal_of
-from once_tools.blame import blame
 from once_tools.documents import MODULE
 from once_tools.importing import Imported, Options, Pair, import_project, write_texts
 from once_tools.once_program import run_once
 from once_tools.origin import ORIGIN
 from once_tools.project import read_project
-from once_tools.report import Report
 
 
 def value_of(path: Path) -> object:
@@ -49,17 +47,6 @@ def audited(once: str, pair: Pair, made: Path) -> str:
     if answer.status == 1:
         assert run_once(once, "confirm", *documents, made / "answer").output.startswith("refuted\n")
     return answer.output or answer.errors
-
-
-def report_lines(found: Imported, pair: Pair, answer: str) -> list[str]:
-    """Returns the lines of the report, with those that the answer is about."""
-    return Report([*found.report.findings, *blame(pair.network, pair.traffic, answer)], found.report.accepts).lines()
-
-
-def missing_lines(folder: Path, lines: list[str]) -> list[str]:
-    """Returns the lines that must be in the report and are not; above notes the report must have no others."""
-    wanted = (folder / "report.expected").read_text(encoding="utf-8").splitlines()
-    return [line for line in wanted if line not in lines]
 
 
 def is_refused(text: str) -> bool:

@@ -1,12 +1,12 @@
-"""Each mistake that operators make gives the documents, the answer of `once` and the line that it should; mended, `once`
-answers with a certificate."""
+"""Each mistake that operators make gives the documents and the answer of `once` that it should; mended, `once` answers with
+a certificate. test_findings.py has the reports."""
 from __future__ import annotations
 
 from pathlib import Path
 
 import pytest
 
-from cases import audited, imported, is_refused, missing_lines, plain, report_lines, value_of
+from cases import audited, imported, is_refused, plain, value_of
 from conftest import TESTS
 from once_tools.importing import Pair
 
@@ -23,7 +23,6 @@ def test_mistake(folder: Path, once: str, tmp_path: Path) -> None:
     assert pair.traffic == value_of(folder / "traffic.expected.json")
     answer = audited(once, pair, tmp_path)
     assert answer.splitlines()[0] == wanted.splitlines()[0]
-    assert missing_lines(folder, report_lines(found, pair, answer)) == []
 
 
 @pytest.mark.parametrize("folder", CASES, ids=lambda folder: folder.name)

@@ -1,11 +1,11 @@
-"""Each sample gives the documents, the answer of `once` and the lines that it should."""
+"""Each sample gives the documents and the answer of `once` that it should; test_findings.py has the reports."""
 from __future__ import annotations
 
 from pathlib import Path
 
 import pytest
 
-from cases import audited, imported, missing_lines, plain, report_lines, value_of
+from cases import audited, imported, plain, value_of
 from conftest import TESTS, TOP, module
 
 CASES = sorted(path.parent for path in (TESTS / "samples").glob("**/project.toml"))
@@ -20,7 +20,6 @@ def test_sample(folder: Path, once: str, tmp_path: Path) -> None:
     assert pair.traffic == value_of(folder / "traffic.expected.json")
     answer = audited(once, pair, tmp_path)
     assert answer.splitlines()[0] == (folder / "answer.expected").read_text().splitlines()[0]
-    assert missing_lines(folder, report_lines(found, pair, answer)) == []
 
 
 @pytest.mark.parametrize("folder", CASES, ids=lambda folder: str(folder.relative_to(TESTS / "samples")))
