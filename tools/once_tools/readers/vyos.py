@@ -279,12 +279,12 @@ class _Reading:
                           None, exporters)
 
     def report_vlans(self) -> None:
-        exporters, listed = list(self.accounting.servers), {name for name, _ in self.accounting.interfaces}
+        listed = {name for name, _ in self.accounting.interfaces}
         for one in self.interfaces.values():
             if one.parent in listed and one.name not in listed:
                 self.log.premise(one.place, f"{one.name} is not among the interfaces of flow-accounting; whether "
                                  f"{one.parent} sees its packets is not known, and the document has them metered nowhere",
-                                 f"add {one.name} to flow-accounting", exporters=exporters)
+                                 f"add {one.name} to flow-accounting", exporters=self.accounting.servers)
 
 
 class Vyos:
