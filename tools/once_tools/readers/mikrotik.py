@@ -26,7 +26,7 @@ TARGET = {"dst-address", "port", "version", "src-address", "v9-template-refresh"
 FIELDS = {"src-address": "sourceAddress", "dst-address": "destinationAddress", "protocol": "protocolIdentifier",
           "src-port": "sourceTransportPort",
           "dst-port": "destinationTransportPort", "tos": "ipClassOfService"}
-# The version of IP is not among the fields that are documented for records: a report by it is not promised.
+# Whether records have the version of IP is not known: an axis that is unsure is left out of the keys.
 KEYS = (*ADDRESSES, "protocolIdentifier", *PORTS, "ipClassOfService")
 VERSIONS = {"1": 1, "5": 5, "9": 9, "ipfix": 10}
 COUNTS = {"ingress": Direction.INGRESS, "both": Direction.BOTH}
