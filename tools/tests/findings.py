@@ -2,8 +2,8 @@
 
 A line is `GRADE FILE:LINE[,LINE..] KEYWORD | KEYWORD ..`: a finding of this grade, at one of these lines of the file, whose
 line in the report has each keyword, whatever its case. `FILE` alone is a finding about the file as a whole, `-` one without
-a place. A line `COMMAND STATUS` (`import 0`, `audit --faithful 2`) is the exit status of a command of `once-import`. A line that begins with
-`#` says why the next one is expected.
+a place. A line `COMMAND STATUS` (`import 0`, `audit --faithful 2`) is the exit status of a command of `once-import`. A line
+that begins with `#` says why the next one is expected.
 """
 from __future__ import annotations
 

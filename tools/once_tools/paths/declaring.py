@@ -232,8 +232,8 @@ class _Declaring:
     def _assumed(self, one: Traffic, starting: dict[str, tuple[Span, list[Node]]]) -> None:
         for part, starts in starting.values():
             where = ", ".join(f"{device}:{interface}" for device, interface in starts)
-            self.findings.append(Finding(Grade.PREMISE, one.place, f"'{one.name}' names no ingress: packets from {part} are taken "
-                                         f"to come in where routes to them lead out: {where}"))
+            self.findings.append(Finding(Grade.PREMISE, one.place, f"'{one.name}' names no ingress: packets from {part} are "
+                                         f"taken to come in where routes to them lead out: {where}"))
         if not starting:
             self.wrong(one.place, f"no route to the source of '{one.name}' leads out of the network: no ingress is found",
                        "name its ingress")
