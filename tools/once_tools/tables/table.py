@@ -6,6 +6,8 @@ import re
 import shlex
 from typing import Iterator, NamedTuple
 
+from once_tools.model import Failed, Place, Unusable
+
 # What stands in the cells of each kind of row. A cell in brackets may be left out.
 KINDS = {
     "device": ["DEVICE"],
@@ -29,10 +31,6 @@ class Row(NamedTuple):
     cells: list[str]
 
 
-class Unreadable(Exception):
-    """A file that cannot be read, with why."""
-
-
 class Faults:
     """What is wrong with a table."""
 
@@ -52,9 +50,11 @@ def text_of(path: str) -> str:
         with open(path, encoding="utf-8-sig", newline="") as file:
             return file.read()
     except OSError as error:
-        raise Unreadable("%s: can't be read (%s)" % (path, error.strerror)) from None
+        raise Failed(Place(path), f"cannot be read: {error.strerror}", "name a file that can be read") from None
     except UnicodeDecodeError:
-        raise Unreadable("%s: isn't a text in UTF-8; save it as one" % path) from None
+        raise Unusable(Place(path), "is not a text in UTF-8", "save it as UTF-8") from None
+    except ValueError:
+        raise Failed(Place(path), "is no name of a file", "name a file that can be read") from None
 
 
 def words_of(line: str) -> list[str]:
