@@ -27,7 +27,7 @@ FILES = {"pmacctd": "pmacct/pmacctd.conf", "softflowd": "pmacct/softflowd.servic
 OTHERS = {"nfacctd": ["pmacct/tee_receivers.lst"]}
 # Lines whose change may go unheard: comments, and what does not bear on which packets are counted in which record.
 HARMLESS = {
-    "pmacctd": r"\s*[!#].*|\s*$|(daemonize|imt_path\[\w+\]|plugin_(buffer|pipe)_size|aggregate\[local\]).*",
+    "pmacctd": r"\s*[!#].*|\s*$|(daemonize|imt_path\[\w+\]|plugin_buffer_size|aggregate\[local\]).*",
     "softflowd": r"\s*#.*|\s*$|\[Service\]|ExecStart=$",
     "nfacctd": r"\s*[!#].*|\s*$|(nfacctd_time_new|print_\w+\[bill\]|nfacctd_renormalize|tee_transparent\[copy\]).*",
     "nfcapd": r"$^",
