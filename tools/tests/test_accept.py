@@ -20,7 +20,7 @@ XR = "flow exporter-map E\n destination 192.0.2.10\n transport udp 4739\nflow mo
 
 # A configuration for each topic, and words of the finding. A key by masks: addresses are replaced by prefixes.
 CASES = [
-    (Topic.SAMPLER, "cisco-ios", ROUTER.replace("monitor M input", "monitor M sampler S input"), "one packet out of 9"),
+    (Topic.SAMPLER, "cisco-ios", ROUTER.replace("monitor M input", "monitor M sampler S input"), "one packet in 9"),
     (Topic.COUNTERS, "cisco-ios", ROUTER.replace(" collect counter packets long\n", ""), "packets"),
     (Topic.FILTER, "pmacctd", PROBE + "aggregate_filter[a]: portrange 1-9000\n", "filter"),
     (Topic.NAT, "vyos", (SAMPLES / "vyos" / "gw-1.set").read_text(), "nat source rule"),
