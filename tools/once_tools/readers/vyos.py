@@ -38,6 +38,7 @@ class Rule:
     place: Place
     interface: str = ""
     source: str = ""
+    translation: str = ""
     is_disabled: bool = False
 
 
@@ -169,6 +170,8 @@ class _Reading:
             rule.interface, rule.place = rest[-1], place
         elif rest[:2] == ["source", "address"] and len(rest) > 2:
             rule.source = rest[2]
+        elif rest[:2] == ["translation", "address"] and len(rest) > 2 and rest[2] != "masquerade":
+            rule.translation = rest[2]
         elif rest == ["disable"]:
             rule.is_disabled = True
 
@@ -267,10 +270,11 @@ class _Reading:
             who = f"packets of {rule.source}" if rule.source else "packets that it translates"
             where = rule.interface or "it"
             if rule.kind.endswith(" source"):
-                says = (f"{rule.kind} rule {rule.number}: beyond {where} {who} have another source, and packets that "
-                        f"come back have the address of "
-                        f"{where} as their destination, where they are metered: a report by destination counts them "
-                        f"under that address")
+                source = f"the source {rule.translation}" if rule.translation else "another source"
+                back = rule.translation or f"the address of {where}"
+                says = (f"{rule.kind} rule {rule.number}: beyond {where} {who} have {source}, and packets that come back "
+                        f"have {back} as their destination, where they are metered: a report by destination counts them "
+                        "under that address")
             else:
                 says = (f"{rule.kind} rule {rule.number}: packets have another destination beyond this router than "
                         f"where they are metered: a "
