@@ -23,7 +23,8 @@ FILES = {"pmacctd": "pmacct/pmacctd.conf", "softflowd": "pmacct/softflowd.servic
          "nfcapd": "pmacct/nfcapd.args", "openvswitch": "openvswitch/hv-1.ovsdb.json",
          "junos": "juniper-junos/mx-1.set", "cisco-ios": "cisco-ios-xe/edge-1.cfg",
          "cisco-xr": "cisco-ios-xr/core-1.cfg", "vyos": "vyos/gw-1.set", "arista-eos": "arista-eos/leaf-1.cfg",
-         "mikrotik": "mikrotik/gw-6.rsc", "nokia-sros": "nokia-sros/pe-1.cfg", "huawei": "huawei-vrp/ne-1.cfg"}
+         "mikrotik": "mikrotik/gw-6.rsc", "nokia-sros": "nokia-sros/pe-1.cfg", "huawei": "huawei-vrp/ne-1.cfg",
+         "vyos boot": "vyos/gw-1.boot"}  # after a space, another form of a kind's text
 OTHERS = {"nfacctd": ["pmacct/tee_receivers.lst"]}
 # Lines whose change may go unheard: comments, and what does not bear on which packets are counted in which record.
 HARMLESS = {
@@ -38,6 +39,8 @@ HARMLESS = {
     "cisco-xr": r"\s*!.*|\s*$|\s*(options interface-table|template|description|hostname).*|end|\s*cache timeout.*|\s*source Loop.*"
                 r"|\s*shutdown|\s*interface Loop.*| ipv4 address 198.51.100.2.*",
     "vyos": r"\s*#.*|\s*$|.*(description|disable-imt|expiry-interval|protocols static|host-name|translation).*",
+    "vyos boot": r"\s*//.*|\s*\}?$|\s*(description|disable-imt|expiry-interval|host-name|address masquerade|translation|loopback|timeout).*"
+                 r"|(protocols|    static|        route|            next-hop|    ethernet).*",
     "mikrotik": r"#.*|\s*$|/ip firewall nat.*|/ip address.*|/system identity.*|/interface ethernet.*",
     "nokia-sros": r"\s*#.*|\s*$|\s*(exit|template-set|system|name|configure|shutdown|router).*|\s*collector 192.0.2.20.*",
     "huawei": r"\s*#.*|\s*$|return|\s*(sysname|description|ip netstream timeout).*",
@@ -48,6 +51,11 @@ HARMLESS = {
 ALIKE = [{"pmacctd", "nfacctd"}, {"junos", "vyos"}, {"cisco-ios", "huawei"}]
 # Lines that say what holds without them too.
 USUAL = {"pmacctd": r"nfprobe_version: 10|aggregate\[billing\]: src_host, dst_host, src_port, dst_port, proto, tos|nfprobe_engine\[noc\].*"}
+
+
+def kind_of(form: str) -> str:
+    """Returns the kind of a form of its texts."""
+    return form.partition(" ")[0]
 
 
 def sources(kind: str) -> list[Source]:
@@ -64,7 +72,7 @@ def values(device: Device) -> str:
 def heard(kind: str, texts: list[Source]) -> tuple[str, frozenset[str]]:
     """Returns what a reader makes of texts: the device without places, and its findings without line numbers."""
     try:
-        device = READERS[kind].read("device", texts, {})
+        device = READERS[kind_of(kind)].read("device", texts, {})
     except Unusable as error:
         return "unusable", frozenset([error.finding.says])
     lines = [line_of(one) for one in device.findings]
@@ -155,7 +163,7 @@ def test_hostile_texts_do_not_make_a_reader_fail(kind: str) -> None:
     first, *others = sources(kind)
     for text in hostile(first.text).values():
         heard(kind, [Source(first.name, text), *others])
-        READERS[kind].detect(text)
+        READERS[kind_of(kind)].detect(text)
 
 
 @pytest.mark.parametrize("kind", FILES)
@@ -180,6 +188,6 @@ def test_a_comment_moves_line_numbers_alone(kind: str) -> None:
 @pytest.mark.parametrize("kind", FILES)
 def test_a_text_of_another_kind_is_refused(kind: str) -> None:
     for other in FILES:
-        if other != kind and {other, kind} not in ALIKE:
+        if kind_of(other) != kind_of(kind) and {kind_of(other), kind_of(kind)} not in ALIKE:
             what, _ = heard(kind, [Source("config", (SAMPLES / FILES[other]).read_text())])
             assert what == "unusable", (other, what[:200])

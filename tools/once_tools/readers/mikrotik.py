@@ -51,7 +51,7 @@ def commands_of(source: Source) -> Iterator[Line]:
         place = Place(source.name, number, text)
         words = [QUOTES.sub("", word) for word in WORDS.findall(FOUND.sub("", text))]
         verb = next((index for index, word in enumerate(words) if word in VERBS), len(words))
-        if words and words[0].startswith("/"):
+        if words and re.match("/[a-z]", words[0]):
             menu = words[:verb]
         if verb < len(words):
             pairs = [word.partition("=") for word in words[verb + 1:]]

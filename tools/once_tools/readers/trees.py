@@ -235,3 +235,36 @@ def settings(source: Source, comments: tuple[str, ...] = ("!", "#")) -> tuple[li
         else:
             found.append(Setting(match[1], match[3].strip(), place, match[2] or ""))
     return found, others
+
+
+QUOTED = re.compile(r'"((?:[^"\\]|\\.)*)"|\'([^\']*)\'|(\S+)')
+
+
+def quoted_words(line: str) -> Words:
+    """Returns the words of a line; what is between quotation marks is one word."""
+    return tuple(next(part for part in found if part is not None) for found in
+                 ([one[1], one[2], one[3]] for one in QUOTED.finditer(line)))
+
+
+def braced_lines(source: Source, comments: tuple[str, ...] = ("#", "//")) -> list[Statement]:
+    """Returns the statements of a text with braces in which each line is a statement, as VyOS' config.boot and SR OS write it.
+
+    A section without statements in it is a statement of its own.
+    """
+    found: list[Statement] = []
+    path: list[tuple[Words, Place, int]] = []
+    for number, line in uncommented(source):
+        stripped = line.strip()
+        if not stripped or stripped.startswith(comments):
+            continue
+        place = Place(source.name, number, stripped)
+        above = tuple(word for words, _, _ in path for word in words)
+        if stripped == "}":
+            if path:
+                words, at, count = path.pop()
+                found += [Statement(above, at)] if len(found) == count else []
+        elif stripped.endswith("{"):
+            path.append((quoted_words(stripped[:-1].strip()), place, len(found)))
+        else:
+            found.append(Statement(above + quoted_words(stripped), place))
+    return found

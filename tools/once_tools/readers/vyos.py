@@ -1,4 +1,4 @@
-"""VyOS 1.3 and 1.4: flow accounting, which is pmacct's uacctd, from `show configuration commands`."""
+"""VyOS 1.3 and 1.4: flow accounting, which is pmacct's uacctd, from `show configuration commands` or config.boot."""
 from __future__ import annotations
 
 import re
@@ -10,10 +10,15 @@ from once_tools.readers import filters
 from once_tools.readers.log import Log, sampling
 from once_tools.readers.records import SEVEN, destination_name, fields
 from once_tools.readers.statements import match
-from once_tools.readers.trees import Statement, set_lines
+from once_tools.readers.trees import Statement, braced_lines, set_lines
 from once_tools.source import Source
 
-HARMLESS = ("disable-imt", "buffer-size", "packet-length", "syslog-facility")
+HARMLESS = ("disable-imt", "syslog-facility")
+FLOW_WORDS = {"flow-accounting", "netflow"}
+# The sections of config.boot that are read; without one of them a text in braces is of another kind.
+SECTIONS = {"interfaces", "system", "nat", "protocols", "service"}
+BRACED = re.compile(r"(?m)^\s*(interfaces|system|nat|protocols|service)\s*\{\s*$")
+USUAL_LENGTH = 128
 TIMEOUTS = {"max-active-life": "activeTimeout", "flow-generic": "idleTimeout"}
 OTHER_TIMEOUTS = ("expiry-interval", "icmp", "tcp-fin", "tcp-generic", "tcp-rst", "udp")
 KNOWN = ["interface", "enable-egress", "netflow server", "netflow version", "netflow sampling-rate",
@@ -65,12 +70,25 @@ class _Reading:
         self.accounting = Accounting()
         self.interfaces: dict[str, Interface] = {}
         self.rules: dict[tuple[str, str], Rule] = {}
-        lines = [one for source in sources for one in set_lines(source)]
+        lines = [one for source in sources for one in self.statements(source)]
         if not lines:
-            raise Unusable(sources[0].place(0), "has no line that begins with `set`",
-                           "give the output of `show configuration commands`")
+            raise Unusable(sources[0].place(0), "has no line that begins with `set`, and no section in braces",
+                           "give the output of `show configuration commands`, or config.boot")
         for one in lines:
             self.take(Statement(tuple(word.strip("'") for word in one.words), one.place))
+
+    def statements(self, source: Source) -> list[Statement]:
+        """Returns the statements of `set` lines, or of sections in braces. A `set` line that is deactivated is none."""
+        if not BRACED.search(source.text):
+            found = set_lines(source)
+            for one in found:
+                if one.inactive and FLOW_WORDS & set(one.words):
+                    self.log.note(one.place, "this is deactivated: not in force, and left out")
+            return [one for one in found if not one.inactive]
+        found = braced_lines(source)
+        if not any(one.words[0] in SECTIONS for one in found):
+            return []
+        return found
 
     def take(self, one: Statement) -> None:
         flow = match(one.words, "system flow-accounting")
@@ -100,6 +118,13 @@ class _Reading:
             self.log.note(place, "sFlow sends samples of packets and no flow records")
         elif words[:1] == ["netflow"]:
             self.netflow(words[1:], place)
+        elif words[:1] == ["packet-length"] and len(words) == 2 and words[1].isdigit():
+            if int(words[1]) < USUAL_LENGTH:
+                self.log.lost(place, "packets are captured in part: where headers are cut, ports are not seen",
+                              f"write {USUAL_LENGTH} or more, or leave it out", Topic.OTHER)
+        elif words[:1] == ["buffer-size"] and len(words) == 2 and words[1].isdigit():
+            self.log.note(place, f"packets wait in a buffer of {words[1]} MB for each server: those that come while it is full "
+                          "are lost")
         elif words and words[0] not in HARMLESS:
             self.log.unknown(place, " ".join(words[:2]), KNOWN)
 
@@ -172,7 +197,7 @@ class _Reading:
             rule.source = rest[2]
         elif rest[:2] == ["translation", "address"] and len(rest) > 2 and rest[2] != "masquerade":
             rule.translation = rest[2]
-        elif rest == ["disable"]:
+        elif rest in (["disable"], ["exclude"]):
             rule.is_disabled = True
 
     def read(self) -> Device:
@@ -265,7 +290,7 @@ class _Reading:
         exporters = list(self.accounting.servers)
         for rule in self.rules.values():
             if rule.is_disabled:
-                self.log.note(rule.place, f"{rule.kind} rule {rule.number} is disabled")
+                self.log.note(rule.place, f"{rule.kind} rule {rule.number} is disabled, or excludes packets from translation")
                 continue
             who = f"packets of {rule.source}" if rule.source else "packets that it translates"
             where = rule.interface or "it"
@@ -294,12 +319,14 @@ class _Reading:
 class Vyos:
     kind = "vyos"
     title = "VyOS 1.3 and 1.4"
-    how_to_get = "show configuration commands"
+    how_to_get = "show configuration commands, or the file /config/config.boot"
     certainty = "fairly"
 
     def detect(self, text: str) -> int:
-        if re.search(r"(?m)^set system flow-accounting\s", text):
+        if re.search(r"(?m)^set system flow-accounting\s|^ +flow-accounting \{", text):
             return 99
+        if re.search(r"(?m)^// vyos-config-version", text) or re.search(r"(?m)^ +(ethernet|bonding) \S+ \{\s*$", text):
+            return 85
         return 85 if re.search(r"(?m)^set interfaces (ethernet|bonding|loopback) \S+ (address|description|hw-id)",
                                text) else 0
 
