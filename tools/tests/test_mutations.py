@@ -24,7 +24,7 @@ FILES = {"pmacctd": "pmacct/pmacctd.conf", "softflowd": "pmacct/softflowd.servic
          "junos": "juniper-junos/mx-1.set", "cisco-ios": "cisco-ios-xe/edge-1.cfg",
          "cisco-xr": "cisco-ios-xr/core-1.cfg", "vyos": "vyos/gw-1.set", "arista-eos": "arista-eos/leaf-1.cfg",
          "mikrotik": "mikrotik/gw-6.rsc", "nokia-sros": "nokia-sros/pe-1.cfg", "huawei": "huawei-vrp/ne-1.cfg",
-         "vyos boot": "vyos/gw-1.boot"}  # after a space, another form of a kind's text
+         "vyos boot": "vyos/gw-1.boot", "nokia-sros md": "nokia-sros/pe-1.md", "nokia-sros flat": "nokia-sros/pe-1.flat"}  # after a space, another form of a kind's text
 OTHERS = {"nfacctd": ["pmacct/tee_receivers.lst"]}
 # Lines whose change may go unheard: comments, and what does not bear on which packets are counted in which record.
 HARMLESS = {
@@ -43,6 +43,8 @@ HARMLESS = {
                  r"|(protocols|    static|        route|            next-hop|    ethernet).*",
     "mikrotik": r"#.*|\s*$|/ip firewall nat.*|/ip address.*|/system identity.*|/interface ethernet.*",
     "nokia-sros": r"\s*#.*|\s*$|\s*(exit|template-set|system|name|configure|shutdown|router).*|\s*collector 192.0.2.20.*",
+    "nokia-sros md": r"\s*#.*|\s*\}?$|\s*(template-set|name|system|configure|admin-state disable|router|interface|ipv4|primary).*",
+    "nokia-sros flat": r"\s*#.*|\s*$|/configure (system name|cflowd collector 192.0.2.20).*|.*template-set.*",
     "huawei": r"\s*#.*|\s*$|return|\s*(sysname|description|ip netstream timeout).*",
     "arista-eos": r"\s*!.*|\s*$|\s*(description|hostname|template interval|no switchport|record export|format ipfix|local interface).*|end"
                   r"|\s*interface Ethernet2|\s*channel-group.*",
@@ -56,6 +58,11 @@ USUAL = {"pmacctd": r"nfprobe_version: 10|aggregate\[billing\]: src_host, dst_ho
 def kind_of(form: str) -> str:
     """Returns the kind of a form of its texts."""
     return form.partition(" ")[0]
+
+
+def without_usual_words(kind: str, text: str) -> list[str]:
+    """Returns the words of a text, without those that mean the same if they are left out."""
+    return [word for word in text.split() if kind != "nokia-sros flat" or word not in ('"Base"', "/configure")]
 
 
 def sources(kind: str) -> list[Source]:
@@ -108,7 +115,7 @@ def mutate(text: str, source: random.Random) -> tuple[str, str, int]:
 def is_silent_by_right(kind: str, what: str, before: str, text: str, place: int) -> bool:
     """Returns whether a change has no effect: none at all, an order that means nothing, a repetition, a harmless line."""
     line = before.split("\n")[place]
-    if before.split() == text.split() or what in ("double", "swap") or re.fullmatch(HARMLESS[kind], line):
+    if without_usual_words(kind, before) == without_usual_words(kind, text) or what in ("double", "swap") or re.fullmatch(HARMLESS[kind], line):
         return True
     return what in ("drop", "cut") and re.fullmatch(USUAL.get(kind, "$^"), line) is not None
 

@@ -16,6 +16,7 @@ from once_tools.readers.log import Log
 from once_tools.readers.records import SEVEN, destination_name, fields
 from once_tools.source import Source
 
+MENUS = ("interface", "ip", "ipv6", "system", "routing", "ppp", "queue", "snmp")
 VERBS = ("add", "set", "remove", "disable", "enable")
 FLOW = {"enabled", "interfaces", "active-flow-timeout", "inactive-flow-timeout", "cache-entries", "packet-sampling",
         "sampling-interval",
@@ -66,7 +67,7 @@ class _Reading:
         self.log, self.options = Log(name), options
         self.device = Device(name, "mikrotik", [one.name for one in sources], findings=self.log.findings)
         self.lines = [one for source in sources for one in commands_of(source)]
-        if not any(one.menu for one in self.lines):
+        if not any(one.menu.split(" ")[0] in MENUS for one in self.lines):
             raise Unusable(sources[0].place(0), "has no command of RouterOS", "give the output of `/export terse`")
         self.settings: dict[str, str] = {}
         self.place = Place(sources[0].name)

@@ -1,8 +1,8 @@
-"""Nokia SR OS: cflowd, from the classic `admin display-config`."""
+"""Nokia SR OS: cflowd, from the classic `admin display-config`, or from the paths or braces of MD-CLI."""
 from __future__ import annotations
 
 import re
-from dataclasses import dataclass
+from dataclasses import dataclass, field
 from typing import Mapping
 
 from once_tools.model import Cache, Destination, Device, Direction, Exporter, Interface, Place, Point, Topic, Unusable
@@ -11,7 +11,7 @@ from once_tools.readers.log import Log, sampling
 from once_tools.readers.paths_of_words import statements
 from once_tools.readers.records import ADDRESSES, PORTS, destination_name, fields
 from once_tools.readers.statements import match
-from once_tools.readers.trees import Statement
+from once_tools.readers.trees import Statement, Words, braced_lines, quoted_words
 from once_tools.source import Source
 
 KEYS = (*ADDRESSES, "protocolIdentifier", *PORTS, "ipClassOfService")
@@ -22,21 +22,49 @@ HARMLESS = ("active-timeout", "inactive-timeout", "cache-size", "overflow", "tem
             "autonomous-system-type", "template-set", "exit", "enhanced-distribution")
 
 
+# Statements of filters by which packets are sampled, or are not.
+SAMPLING, NOT_SAMPLING = "filter-sample", "interface-disable-sample"
+USUAL_PROFILE = "1"
+BRACED = re.compile(r"(?m)^\s*(configure|cflowd|router \S+|service)\s*\{\s*$")
+
+
 @dataclass
 class Collector:
     address: str
     port: int
     place: Place
     version: int = 9
-    is_on: bool = False
+    is_on: bool | None = None
+    aggregation: Place | None = None
 
 
 @dataclass
 class Use:
+    """Sampling at an interface: which packets (`interface` for all, or `acl`), in which direction, at which rate."""
+
     interface: str
-    kind: str
-    direction: str
     place: Place
+    values: dict[str, str] = field(default_factory=dict)
+
+    @property
+    def direction(self) -> str:
+        return self.values.get("direction", "")
+
+    @property
+    def profile(self) -> str:
+        return self.values.get("sample-profile", USUAL_PROFILE)
+
+
+def classic(words: Words) -> list[str]:
+    """Returns a statement of MD-CLI in the words of the classic one; a classic one is returned as it is."""
+    found = [word for word in words if word not in ("configure", "/configure")]
+    if "admin-state" in found[:-1]:
+        at = found.index("admin-state")
+        found[at:at + 2] = {"enable": ["no", "shutdown"], "disable": ["shutdown"]}.get(found[at + 1], found[at:at + 2])
+    if found[:2] == ["cflowd", "collector"] and found[3:4] == ["port"] and len(found) > 4:
+        address = f"[{found[2]}]" if ":" in found[2] else found[2]
+        found[2:5] = [f"{address}:{found[4]}"]
+    return found
 
 
 class _Reading:
@@ -46,21 +74,26 @@ class _Reading:
         self.log = Log(name)
         self.device = Device(name, "nokia-sros", [one.name for one in sources], findings=self.log.findings)
         self.collectors: dict[str, Collector] = {}
-        self.rate: tuple[int, Place] | None = None
+        self.rates: dict[str, tuple[int, Place]] = {}
         self.section: Place | None = None
-        self.is_on = False
+        self.is_on: bool | None = None
         self.interfaces: dict[str, Interface] = {}
         self.owners: dict[str, tuple[str, ...]] = {}
-        self.uses: dict[tuple[str, str, str], Use] = {}
-        found = [one for source in sources for one in statements(source)]
+        self.shut_owners: set[tuple[str, ...]] = set()
+        self.uses: dict[str, Use] = {}
+        self.filters: list[tuple[str, Place]] = []
+        self.halves: dict[str, dict[str, str]] = {}
+        found = [one for source in sources for one in (
+            braced_lines(source) if BRACED.search(source.text) else statements(source, words_of=quoted_words))]
         if not any("cflowd" in one.words or one.words[0] in ("configure", "/configure") for one in found):
             raise Unusable(sources[0].place(0), "has no statement of SR OS",
-                           "give the output of `admin display-config`")
+                           "give the output of `admin display-config`, or of `admin show configuration` of MD-CLI")
+        self.is_model_driven = any(BRACED.search(source.text) or "admin-state" in source.text for source in sources)
         for one in found:
             self.take(one)
 
     def take(self, one: Statement) -> None:
-        words = [word.strip('"') for word in one.words if word not in ("configure", "/configure")]
+        words = classic(one.words)
         names = [index for index, word in enumerate(words) if word == "interface"]
         if words[:1] == ["cflowd"]:
             self.section = self.section or one.place
@@ -71,8 +104,23 @@ class _Reading:
             owner = words[:3] if words[0] == "service" else [word for word in words[:2] if word not in ("interface", "Base")]
             self.check_owner(words[names[0] + 1], tuple(owner), one.place)
             self.interface(words[names[0] + 1], words[names[0] + 2:], one.place)
+        elif words[:1] == ["filter"]:
+            self.filters += [(word, one.place) for word in (SAMPLING, NOT_SAMPLING)
+                             if word in words and words[-1] != "false" and "no" not in words]
+        elif words[:1] == ["service"] and words[-1:] == ["shutdown"]:
+            self.service(tuple(words[:3]), words[3:])
         elif "cflowd" in words or "cflowd-parameters" in words:
             self.log.unknown(one.place, " ".join(words[:3]), ["cflowd"])
+
+    def service(self, owner: tuple[str, ...], words: list[str]) -> None:
+        """Takes `shutdown` of a service; what is set where it is created may stand before."""
+        while len(words) > 2 and words[0] in ("customer", "name"):
+            words = words[2:]
+        words = [word for word in words if word != "create"]
+        if words == ["shutdown"]:
+            self.shut_owners.add(owner)
+        elif words == ["no", "shutdown"]:
+            self.shut_owners.discard(owner)
 
     def check_owner(self, name: str, owner: tuple[str, ...], place: Place) -> None:
         """Reports an interface whose name another service has too."""
@@ -83,13 +131,18 @@ class _Reading:
 
     def cflowd(self, words: list[str], place: Place) -> None:
         collector, rate = match(words, "collector *"), match(words, "rate *")
+        profile = match(words, "sample-profile *")
         if collector:
             self.collector(collector, place)
         elif rate and rate[0].isdigit() and int(rate[0]) > 0:
-            self.rate = (int(rate[0]), place)
+            self.rates[USUAL_PROFILE] = (int(rate[0]), place)
+        elif profile and profile[1:] in ([], ["create"]):
+            pass
+        elif profile and "sample-rate" in profile and profile[-1].isdigit() and int(profile[-1]) > 0:
+            self.rates[profile[0]] = (int(profile[-1]), place)
         elif words in (["no", "shutdown"], ["shutdown"]):
             self.is_on = words[0] == "no"
-        elif words == ["analyze-gre-payload"]:
+        elif words in (["analyze-gre-payload"], ["analyze-gre-payload", "true"]):
             self.log.lost(place, "packets of GRE are metered by the headers of the packets inside, but the document has "
                           "the outer ones", "take it out, or accept this", Topic.OTHER)
         elif words == ["export-mode", "manual"]:
@@ -103,44 +156,76 @@ class _Reading:
         if not found or not 0 < int(found[2] or 2055) < 65536:
             raise Unusable(place, f"{words[0]} is not a collector", "write ADDRESS:PORT")
         one = self.collectors.setdefault(words[0], Collector(found[1], int(found[2] or 2055), place))
-        rest = words[1:]
+        rest = [word for word in words[1:] if word != "create"]
         if rest[:1] == ["version"] and len(rest) > 1 and rest[1] in ("5", "8", "9", "10"):
             one.version, rest = int(rest[1]), rest[2:]
         if rest in (["no", "shutdown"], ["shutdown"]):
             one.is_on = rest[0] == "no"
+        elif rest[:1] == ["aggregation"]:
+            one.aggregation = one.aggregation or place
         elif rest and rest[0] not in HARMLESS:
             self.log.unknown(place, " ".join(rest), ["version", "no shutdown", *HARMLESS], (words[0],))
 
     def interface(self, name: str, words: list[str], place: Place) -> None:
         one = self.interfaces.setdefault(name, Interface(name, place))
-        if words[:1] == ["address"] and len(words) > 1 and "/" in words[1]:
-            one.addresses += [words[1]] if words[1] not in one.addresses else []
-        elif words[:1] == ["port"] and len(words) > 1:
+        words = words[1:] if words[:1] == ["create"] else words
+        if words[:1] in (["address"], ["secondary"], ["ipv4"], ["ipv6"]):
+            self.address(one, words)
+        elif words[:1] in (["port"], ["sap"]) and len(words) > 1:
             one.aliases += [words[1]] if words[1] not in one.aliases else []
-        elif words == ["shutdown"]:
-            one.is_shut = True
+        elif words in (["shutdown"], ["no", "shutdown"]):
+            one.is_shut = words[0] != "no"
         elif words[:1] == ["description"]:
             one.description = " ".join(words[1:])
         elif words[:1] in (["cflowd"], ["cflowd-parameters"]):
             self.use(name, words, place)
 
+    def address(self, one: Interface, words: list[str]) -> None:
+        """Takes an address with its length in one word, or in two values of MD-CLI."""
+        text = next((word for word in words[1:] if "/" in word), "")
+        half = match(words, "ipv4 primary address|prefix-length *")
+        pair = match(words, "ipv4 secondary * prefix-length *") or match(words, "ipv6 address * prefix-length *") \
+            or match(words, "ipv4 primary address * prefix-length *")
+        if pair:
+            text = "/".join(pair[-2:])
+        elif half:
+            known = self.halves.setdefault(one.name, {})
+            known[half[0]] = half[1]
+            text = f"{known['address']}/{known['prefix-length']}" if len(known) == 2 else ""
+        one.addresses += [text] if text and text not in one.addresses else []
+
     def use(self, name: str, words: list[str], place: Place) -> None:
-        found = match(words, "cflowd-parameters sampling unicast type interface|acl")
-        if found:
-            direction = found[2] if found[1:2] == ["direction"] and found[2:] and found[2] in DIRECTIONS else ""
-            if len(found) > 1 and (not direction or len(found) > 3):
-                self.log.unknown(place, " ".join(found[1:]), [f"direction {one}" for one in DIRECTIONS])
-            self.uses.setdefault((name, found[0], direction), Use(name, found[0], direction, place))
-        elif words[:3] == ["cflowd-parameters", "sampling", "multicast"]:
+        rest = words[3:]
+        if words[:3] == ["cflowd-parameters", "sampling", "multicast"]:
             self.log.note(place, "multicast is not declared as traffic")
+        elif words[:3] == ["cflowd-parameters", "sampling", "unicast"]:
+            one = self.uses.setdefault(name, Use(name, place))
+            for key, value in zip(rest[::2], rest[1::2]):
+                self.sample(one, key, value, place)
+            if len(rest) % 2 and rest[-1] != "exit":
+                self.log.unknown(place, rest[-1], ["type", "direction", "sample-profile"])
         elif words[-1] not in ("cflowd-parameters", "exit", "shutdown"):
             self.log.unknown(place, " ".join(words), ["cflowd-parameters sampling unicast type interface direction "
                                                       "ingress-only"])
+
+    def sample(self, one: Use, key: str, value: str, place: Place) -> None:
+        """Takes a value of the sampling at an interface."""
+        values = {"type": ("interface", "acl"), "direction": tuple(DIRECTIONS), "sample-profile": ()}.get(key)
+        if values is None or values and value not in values:
+            self.log.unknown(place, f"{key} {value}", [f"{key} {word}" for word in values or ()] or ["direction"])
+        elif one.values.get(key, value) != value:
+            self.log.lost(place, f"line {one.place.line} has {key} {one.values[key]} for this interface, and which of them "
+                          "holds is not known here: the document has the first", "give the configuration that runs")
+        else:
+            one.values[key] = value
 
     def read(self) -> Device:
         self.device.interfaces = list(self.interfaces.values())
         if not self.section:
             return self.device
+        if self.is_on is None and self.is_model_driven:
+            self.is_on = True
+            self.log.premise(self.section, "cflowd has no admin-state: it is taken to be enabled", "add `admin-state enable`")
         if not self.is_on:
             self.log.note(self.section, "cflowd has no `no shutdown`: nothing is metered")
             return self.device
@@ -152,19 +237,27 @@ class _Reading:
             cache = f"cflowd IPv{version}"
             self.device.caches.append(Cache(cache, "timeout", fields(KEYS, version, self.section), able, self.section))
         self.points(exporters)
-        self.report_rate(exporters)
+        self.report_rates(exporters)
+        self.report_filters(exporters)
         self.log.premise(self.section, "the flow keys are addresses, ports, protocol and class of service, and "
                          "counters have 8 octets",
                          "look at its templates with `once-import template`", Topic.COUNTERS, 618, exporters)
         return self.device
 
     def exporter(self, name: str, one: Collector) -> None:
+        if one.is_on is None and self.is_model_driven:
+            one.is_on = True
+            self.log.premise(one.place, "the collector has no admin-state: it is taken to be enabled",
+                             "add `admin-state enable`", Topic.OTHER, None, (name,))
         if not one.is_on:
             self.log.note(one.place, "the collector has no `no shutdown`, and is left out")
             return
         where = Destination(destination_name(one.address, one.port), one.address, one.port, one.place, "udp", "",
                             one.version)
         self.device.exporters.append(Exporter(name, [where], one.place))
+        if one.aggregation and one.version != 8:
+            self.log.premise(one.aggregation, "aggregation is taken to bear on collectors of version 8 alone", "take it out",
+                             Topic.MASK, None, (name,))
         if one.version == 8:
             self.log.lost(one.place, "version 8 sends aggregated records, but the document has whole ones",
                           "use version 10", Topic.MASK, None, (name,))
@@ -174,52 +267,88 @@ class _Reading:
                           "use version 10", 611, (name,))
 
     def points(self, exporters: list[str]) -> None:
-        groups: dict[str, list[Use]] = {}
+        groups: dict[tuple[str, str], list[Use]] = {}
         for one in self.uses.values():
-            if one.kind == "acl":
+            if self.is_left_out(one):
+                continue
+            if one.values.get("type") != "interface":
                 self.log.lost(one.place, "filters choose which packets are sampled; the document meters all packets "
-                              "here",
+                              "here" if "type" in one.values else "no type is given, so which packets are sampled is not known; "
+                              "the document meters all packets here",
                               "sample with type interface", Topic.FILTER, None, exporters)
             if not one.direction:
                 self.log.premise(one.place, "no direction is given: packets are taken to be metered where they come in",
                                  "", Topic.OTHER, None, exporters)
-            if self.interfaces[one.interface].is_shut:
-                self.log.note(one.place, f"{one.interface} is shut, and left out")
-            else:
-                groups.setdefault(one.direction or "ingress-only", []).append(one)
-        rate = self.rate[0] if self.rate else USUAL_RATE
-        for direction, found in groups.items():
-            if direction == "both":
-                self.log.warning(found[0].place, "packets are metered where they come in and where they leave, so each "
-                                 "that crosses two of the interfaces "
-                                 "counts twice", "write direction ingress-only", exporters)
-            selections = [filters.whole_family(f"cflowd IPv{version}", version, f"cflowd IPv{version}", found[0].place)
-                          for version in (4, 6)]
-            self.device.points.append(Point(f"cflowd {direction}", [one.interface for one in found],
-                                            DIRECTIONS[direction], selections, found[0].place,
-                                            [one.place for one in found], sampling(rate) if rate > 1 else None))
+            groups.setdefault((one.direction or "ingress-only", one.profile), []).append(one)
+        for (direction, profile), found in groups.items():
+            self.point(direction, profile, found, exporters)
 
-    def report_rate(self, exporters: list[str]) -> None:
-        if self.rate is None and self.section:
-            self.log.lost(self.section, f"no rate is set, so one packet out of {USUAL_RATE} is sampled, and a total "
-                          f"over a sample is not exact; the "
-                          "document meters all packets", "set rate 1", Topic.SAMPLER, 108, exporters)
-        elif self.rate and self.rate[0] > 1:
-            self.log.sampler(self.rate[1], str(self.rate[0]), exporters)
-        elif self.rate:
-            self.log.note(self.rate[1], "rate 1: all packets", exporters=exporters)
+    def is_left_out(self, one: Use) -> bool:
+        """Returns whether the interface or its service is shut, after a note."""
+        owner = self.owners.get(one.interface, ())
+        if self.interfaces[one.interface].is_shut:
+            self.log.note(one.place, f"{one.interface} is shut, and left out")
+        elif owner in self.shut_owners:
+            self.log.note(one.place, f"`{' '.join(owner)}` is shut, and {one.interface} is left out")
+        else:
+            return False
+        return True
+
+    def point(self, direction: str, profile: str, found: list[Use], exporters: list[str]) -> None:
+        """Adds the point of interfaces with one direction and one rate."""
+        if direction == "both":
+            self.log.warning(found[0].place, "packets are metered where they come in and where they leave, so each "
+                             "that crosses two of the interfaces "
+                             "counts twice", "write direction ingress-only", exporters)
+        selections = [filters.whole_family(f"cflowd IPv{version}", version, f"cflowd IPv{version}", found[0].place)
+                      for version in (4, 6)]
+        rate = self.rates[profile][0] if profile in self.rates else USUAL_RATE
+        name = f"cflowd {direction}" + (f" profile {profile}" if profile != USUAL_PROFILE else "")
+        self.device.points.append(Point(name, [one.interface for one in found], DIRECTIONS[direction], selections,
+                                        found[0].place, [one.place for one in found], sampling(rate) if rate > 1 else None))
+
+    def report_rates(self, exporters: list[str]) -> None:
+        """Reports the rates that interfaces use."""
+        used = {one.profile: one.place for one in self.uses.values()}
+        for profile, place in used.items() if used else [(USUAL_PROFILE, self.section or Place(""))]:
+            rate = self.rates.get(profile)
+            if rate is None:
+                which, where = ("", self.section or place) if profile == USUAL_PROFILE else (f" for profile {profile}", place)
+                self.log.lost(where, f"no rate is set{which}, so one packet out of {USUAL_RATE} is sampled, and a total "
+                              f"over a sample is not exact; the "
+                              "document meters all packets", "set rate 1", Topic.SAMPLER, 108, exporters)
+            elif rate[0] > 1:
+                self.log.sampler(rate[1], str(rate[0]), exporters)
+            else:
+                self.log.note(rate[1], "rate 1: all packets", exporters=exporters)
+
+    def report_filters(self, exporters: list[str]) -> None:
+        """Reports the entries of filters by which packets are sampled, or are not."""
+        by_filter = any(one.values.get("type") == "acl" for one in self.uses.values())
+        for word, place in self.filters:
+            if word == NOT_SAMPLING:
+                self.log.lost(place, "packets that this entry takes are not sampled at interfaces with this filter; the "
+                              "document meters all packets", "take it out, or accept this", Topic.FILTER, None, exporters)
+            elif by_filter:
+                self.log.lost(place, "packets that this entry takes are sampled at interfaces with `type acl`, and others there "
+                              "are not; the document meters all packets there", "sample with type interface", Topic.FILTER,
+                              None, exporters)
+            else:
+                self.log.note(place, "samples only at interfaces with `type acl`, of which there are none", exporters=exporters)
 
 
 class NokiaSros:
     kind = "nokia-sros"
-    title = "Nokia SR OS (classic configuration)"
-    how_to_get = "admin display-config"
+    title = "Nokia SR OS (classic configuration, or MD-CLI)"
+    how_to_get = "admin display-config, or in MD-CLI: admin show configuration"
     certainty = "unsure"
 
     def detect(self, text: str) -> int:
         if re.search(r"(?m)^\s+cflowd\s*$", text) and re.search(r"(?m)^(configure\s*$|# TiMOS|echo \")", text):
             return 97
-        return 75 if re.search(r"(?m)^# TiMOS|^/configure ", text) else 0
+        if re.search(r"(?m)^\s*cflowd \{|^/configure cflowd ", text):
+            return 97
+        return 75 if re.search(r"(?m)^# TiMOS|^/configure |^configure \{", text) else 0
 
     def read(self, name: str, sources: list[Source], options: Mapping[str, str]) -> Device:
         return _Reading(name, sources).read()

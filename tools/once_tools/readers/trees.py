@@ -3,7 +3,7 @@ from __future__ import annotations
 
 import re
 from dataclasses import dataclass, field
-from typing import Iterator
+from typing import Callable, Iterator
 
 from once_tools.model import Place
 from once_tools.source import Source
@@ -49,7 +49,13 @@ def numbered(source: Source) -> Iterator[tuple[int, str]]:
         yield number, PAGER.sub("", line, count=1).replace("\r", "").replace("\x08", "")
 
 
-def indented(source: Source, comments: tuple[str, ...] = ("!", "#")) -> Node:
+def plain_words(line: str) -> Words:
+    """Returns the words of a line."""
+    return tuple(line.split())
+
+
+def indented(source: Source, comments: tuple[str, ...] = ("!", "#"),
+             words_of: Callable[[str], Words] = plain_words) -> Node:
     """Returns the tree of a text in which indentation makes the levels; the root has no words and line 0."""
     root = Node((), Place(source.name), -1)
     stack = [root]
@@ -58,7 +64,7 @@ def indented(source: Source, comments: tuple[str, ...] = ("!", "#")) -> Node:
         if not stripped or stripped.startswith(comments):
             continue
         depth = len(line) - len(line.lstrip())
-        node = Node(tuple(stripped.split()), Place(source.name, number, stripped), depth)
+        node = Node(words_of(stripped), Place(source.name, number, stripped), depth)
         while stack[-1].depth >= depth:
             stack.pop()
         stack[-1].children.append(node)

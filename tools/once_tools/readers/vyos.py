@@ -45,6 +45,7 @@ class Rule:
     source: str = ""
     translation: str = ""
     is_disabled: bool = False
+    excludes: bool = False
 
 
 @dataclass
@@ -197,8 +198,10 @@ class _Reading:
             rule.source = rest[2]
         elif rest[:2] == ["translation", "address"] and len(rest) > 2 and rest[2] != "masquerade":
             rule.translation = rest[2]
-        elif rest in (["disable"], ["exclude"]):
+        elif rest == ["disable"]:
             rule.is_disabled = True
+        elif rest == ["exclude"]:
+            rule.excludes = True
 
     def read(self) -> Device:
         self.device.interfaces = list(self.interfaces.values())
@@ -290,7 +293,10 @@ class _Reading:
         exporters = list(self.accounting.servers)
         for rule in self.rules.values():
             if rule.is_disabled:
-                self.log.note(rule.place, f"{rule.kind} rule {rule.number} is disabled, or excludes packets from translation")
+                self.log.note(rule.place, f"{rule.kind} rule {rule.number} is disabled")
+                continue
+            if rule.excludes:
+                self.log.note(rule.place, f"{rule.kind} rule {rule.number} excludes packets from translation")
                 continue
             who = f"packets of {rule.source}" if rule.source else "packets that it translates"
             where = rule.interface or "it"
