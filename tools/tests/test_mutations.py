@@ -24,7 +24,7 @@ FILES = {"pmacctd": "pmacct/pmacctd.conf", "softflowd": "pmacct/softflowd.servic
          "junos": "juniper-junos/mx-1.set", "cisco-ios": "cisco-ios-xe/edge-1.cfg",
          "cisco-xr": "cisco-ios-xr/core-1.cfg", "vyos": "vyos/gw-1.set", "arista-eos": "arista-eos/leaf-1.cfg",
          "mikrotik": "mikrotik/gw-6.rsc", "nokia-sros": "nokia-sros/pe-1.cfg", "huawei": "huawei-vrp/ne-1.cfg",
-         "vyos boot": "vyos/gw-1.boot", "nokia-sros md": "nokia-sros/pe-1.md", "nokia-sros flat": "nokia-sros/pe-1.flat"}  # after a space, another form of a kind's text
+         "vyos boot": "vyos/gw-1.boot", "huawei aggregation": "huawei-vrp/ne-2.cfg", "nokia-sros md": "nokia-sros/pe-1.md", "nokia-sros flat": "nokia-sros/pe-1.flat"}  # after a space, another form of a kind's text
 OTHERS = {"nfacctd": ["pmacct/tee_receivers.lst"]}
 # Lines whose change may go unheard: comments, and what does not bear on which packets are counted in which record.
 HARMLESS = {
@@ -46,6 +46,8 @@ HARMLESS = {
     "nokia-sros md": r"\s*#.*|\s*\}?$|\s*(template-set|name|system|configure|admin-state disable|router|interface|ipv4|primary).*",
     "nokia-sros flat": r"\s*#.*|\s*$|/configure (system name|cflowd collector 192.0.2.20).*|.*template-set.*",
     "huawei": r"\s*#.*|\s*$|return|\s*(sysname|description|ip netstream timeout).*",
+    "huawei aggregation": r"\s*#.*|\s*$|return|\s*(sysname|description|ip netstream timeout|ip netstream export version 9|mask).*"
+                          r"| ip netstream export host 192.0.2.10 4739",
     "arista-eos": r"\s*!.*|\s*$|\s*(description|hostname|template interval|no switchport|record export|format ipfix|local interface).*|end"
                   r"|\s*interface Ethernet2|\s*channel-group.*",
 }

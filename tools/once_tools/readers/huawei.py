@@ -3,6 +3,7 @@ from __future__ import annotations
 
 import ipaddress
 import re
+from dataclasses import dataclass, field
 from typing import Mapping
 
 from once_tools.model import Cache, Destination, Device, Direction, Exporter, Interface, Place, Point, Topic, Unusable
@@ -24,6 +25,18 @@ KNOWN = ["ip netstream inbound", "ip netstream outbound", "ip netstream sampler 
          "ip netstream export host",
          "ip netstream export version", "ip netstream export source", "ip netstream timeout"]
 Sampler = tuple[str, int, Place]
+IN_AGGREGATION = ["enable", "ip netstream export host", "ip netstream export version", "ip netstream export source", "mask"]
+
+
+@dataclass
+class Aggregated:
+    """A section `ip netstream aggregation KIND`: it sends records of its own, to hosts of its own."""
+
+    name: str
+    place: Place
+    is_on: bool = False
+    hosts: list[Destination] = field(default_factory=list)
+    source: str = ""
 
 
 class _Reading:
@@ -38,6 +51,7 @@ class _Reading:
         self.versions: dict[str, tuple[str, Place]] = {}
         self.sources: dict[str, str] = {}
         self.hosts: dict[str, list[Destination]] = {"ip": [], "ipv6": []}
+        self.aggregated: dict[tuple[str, str], Aggregated] = {}
         found = [one for source in sources for one in statements(source)]
         if not any(one.words[0] == "sysname" or "netstream" in one.words for one in found):
             raise Unusable(sources[0].place(0), "has no statement of VRP",
@@ -48,8 +62,11 @@ class _Reading:
     def take(self, one: Statement) -> None:
         interface = match(one.words, "interface *")
         netstream = match(one.words, "ip|ipv6 netstream")
+        aggregation = match(one.words, "ip|ipv6 netstream aggregation *")
         if interface:
             self.interface(interface[0], interface[1:], one.place)
+        elif aggregation:
+            self.aggregation(aggregation[0], aggregation[1], aggregation[2:], one.place)
         elif netstream:
             self.flow(netstream[0], netstream[1:], "", one.place)
         elif one.words[0] == "sysname" and len(one.words) == 2:
@@ -94,22 +111,58 @@ class _Reading:
             self.samplers[(interface, family, sampler[2])] = (sampler[0], int(sampler[1]), place)
         elif words[:1] == ["export"]:
             self.export(family, words[1:], place)
-        elif words[:1] == ["aggregation"] or words[:1] == ["record"]:
+        elif words[:1] == ["record"]:
             self.log.lost(place, f"{family} netstream {words[0]}: records of other keys are sent, which the document "
                           f"does not have",
                           "export original flows", Topic.MASK)
         elif not words or words[0] not in HARMLESS:
             self.log.unknown(place, " ".join([family, "netstream", *words]), KNOWN)
 
-    def export(self, family: str, words: list[str], place: Place) -> None:
+    def aggregation(self, family: str, kind: str, words: list[str], place: Place) -> None:
+        """Takes a statement of a section that aggregates records."""
+        name = f"{family} netstream aggregation {kind}"
+        one = self.aggregated.setdefault((family, kind), Aggregated(name, place))
+        export = match(words, "ip|ipv6 netstream export")
+        if words in (["enable"], ["undo", "enable"]):
+            one.is_on = words[0] == "enable"
+        elif export and export[1:2] == ["host"]:
+            found = self.host(export[1:], place)
+            one.hosts += [found] if found and found.name not in [host.name for host in one.hosts] else []
+        elif export and export[1:2] == ["source"] and len(export) > 2:
+            one.source = export[-1]
+        elif words and words[0] != "mask" and (not export or export[1:2] != ["version"]):
+            self.log.unknown(place, " ".join(words), IN_AGGREGATION)
+
+    def host(self, words: list[str], place: Place) -> Destination | None:
+        """Returns the destination of `host ADDRESS PORT [vpn-instance V] ..`, after a finding for other words."""
         host = match(words, "host * *")
-        if host and host[1].isdigit() and 0 < int(host[1]) < 65536 and host[2:3] in ([], ["vpn-instance"], ["version"]):
-            vrf = host[3] if host[2:3] == ["vpn-instance"] and len(host) > 3 else ""
-            found = Destination(destination_name(host[0], int(host[1])), host[0], int(host[1]), place, "udp", vrf)
-            if found.name not in [one.name for one in self.hosts[family]]:
+        if not host or not host[1].isdigit() or not 0 < int(host[1]) < 65536 \
+                or host[2:3] not in ([], ["vpn-instance"], ["version"]):
+            self.log.unknown(place, " ".join(["netstream export", *words]), KNOWN)
+            return None
+        vrf = host[3] if host[2:3] == ["vpn-instance"] and len(host) > 3 else ""
+        if host[2:3] == ["version"] or len(host) > 4:
+            self.log.unknown(place, " ".join(host[2 if host[2] == "version" else 4:]), KNOWN)
+        return Destination(destination_name(host[0], int(host[1])), host[0], int(host[1]), place, "udp", vrf)
+
+    def report_aggregations(self) -> None:
+        """Adds the exporters of aggregations, and reports that the document does not have their records."""
+        for (family, _), one in self.aggregated.items():
+            if not one.is_on:
+                self.log.note(one.place, "the aggregation is not enabled, and is left out")
+                continue
+            bears = (one.name,) if one.hosts else ()
+            if one.hosts:
+                self.device.exporters.append(Exporter(one.name, one.hosts, one.place, "parallel", one.source))
+            self.log.lost(one.place, f"{family} netstream aggregation: records of other keys are sent"
+                          f"{'' if one.hosts else ', and where to is not known'}, which the document does not have",
+                          "export original flows", Topic.MASK, None, bears)
+
+    def export(self, family: str, words: list[str], place: Place) -> None:
+        if words[:1] == ["host"]:
+            found = self.host(words, place)
+            if found and found.name not in [one.name for one in self.hosts[family]]:
                 self.hosts[family].append(found)
-            if host[2:3] == ["version"] or len(host) > 4:
-                self.log.unknown(place, " ".join(host[2 if host[2] == "version" else 4:]), KNOWN)
         elif words[:1] == ["version"] and len(words) > 1 and words[1] in ("5", "9", "ipfix"):
             self.versions[family] = (words[1], place)
         elif words[:1] == ["source"] and len(words) > 1:
@@ -123,6 +176,7 @@ class _Reading:
             found = [(*use, place) for use, place in self.uses.items() if use[1] == family]
             if found:
                 self.family(family, version, found)
+        self.report_aggregations()
         return self.device
 
     def family(self, family: str, version: int, found: list[tuple[str, str, str, Place]]) -> None:
