@@ -8,6 +8,7 @@ from typing import Mapping
 
 from once_tools.model import Cache, Destination, Device, Direction, Exporter, Interface, Place, Point, Topic, Unusable
 from once_tools.readers import filters
+from once_tools.readers.closing import close_subinterfaces
 from once_tools.readers.interface_names import aliases_of, parent_of
 from once_tools.readers.log import Log, sampling
 from once_tools.readers.paths_of_words import statements
@@ -39,6 +40,18 @@ class Aggregated:
     source: str = ""
 
 
+def vlans_of(words: list[str]) -> set[int]:
+    """Returns the VLANs of a list as `10 20 to 30`; `all` stands for all."""
+    if words == ["all"]:
+        return set(range(1, 4095))
+    found: set[int] = set()
+    for at, word in enumerate(words):
+        if word.isdigit():
+            low = int(words[at - 2]) if at > 1 and words[at - 1] == "to" and words[at - 2].isdigit() else int(word)
+            found |= set(range(low, int(word) + 1))
+    return found
+
+
 class _Reading:
     """Reads one router."""
 
@@ -52,6 +65,7 @@ class _Reading:
         self.sources: dict[str, str] = {}
         self.hosts: dict[str, list[Destination]] = {"ip": [], "ipv6": []}
         self.aggregated: dict[tuple[str, str], Aggregated] = {}
+        self.switched: dict[str, set[int]] = {}
         found = [one for source in sources for one in statements(source)]
         if not any(one.words[0] == "sysname" or "netstream" in one.words for one in found):
             raise Unusable(sources[0].place(0), "has no statement of VRP",
@@ -79,8 +93,13 @@ class _Reading:
         netstream = match(words, "ip|ipv6 netstream")
         if netstream:
             self.flow(netstream[0], netstream[1:], name, place)
+        elif words in (["ip", "address", "dhcp-alloc"], ["ipv6", "address", "auto", "link-local"]) \
+                or words[:3] == ["ip", "address", "unnumbered"]:
+            one.has |= {4 if words[0] == "ip" else 6}
         elif words[:2] in (["ip", "address"], ["ipv6", "address"]) and len(words) > 2:
             self.address(one, words[2:])
+        elif words[:3] == ["port", "default", "vlan"] or words[:4] == ["port", "trunk", "allow-pass", "vlan"]:
+            self.switched.setdefault(name, set()).update(vlans_of(words[3 if words[1] == "default" else 4:]))
         elif words == ["shutdown"]:
             one.is_shut = True
         elif words[:1] == ["description"]:
@@ -93,6 +112,14 @@ class _Reading:
             members += [name] if name not in members else []
         elif "netstream" in words:
             self.log.unknown(place, " ".join(words), KNOWN)
+
+    def vlans(self) -> None:
+        """Makes switched ports members of the interfaces of their VLANs: a packet that is routed crosses both."""
+        for name, vlans in self.switched.items():
+            for vlan in sorted(vlans):
+                one = self.interfaces.get(f"Vlanif{vlan}")
+                if one:
+                    one.members += [name] if name not in one.members else []
 
     def address(self, one: Interface, words: list[str]) -> None:
         text = f"{words[0]}/{words[1]}" if len(words) > 1 and re.match("[0-9]", words[1]) else words[0]
@@ -171,6 +198,8 @@ class _Reading:
             self.log.unknown(place, " ".join([family, "netstream export", *words]), KNOWN)
 
     def read(self) -> Device:
+        self.vlans()
+        close_subinterfaces(self.interfaces)
         self.device.interfaces = list(self.interfaces.values())
         for family, version in FAMILIES.items():
             found = [(*use, place) for use, place in self.uses.items() if use[1] == family]

@@ -11,6 +11,7 @@ from typing import Iterator, Mapping
 
 from once_tools.model import Cache, Destination, Device, Direction, Exporter, Interface, Place, Point, Topic, Unusable
 from once_tools.readers import filters
+from once_tools.readers.closing import close_subinterfaces
 from once_tools.readers.command_line import logical_lines
 from once_tools.readers.log import Log
 from once_tools.readers.records import SEVEN, destination_name, fields
@@ -31,6 +32,8 @@ VERSIONS = {"1": 1, "5": 5, "9": 9, "ipfix": 10}
 COUNTS = {"ingress": Direction.INGRESS, "both": Direction.BOTH}
 NAME = "traffic-flow"
 FOUND = re.compile(r"\[ ?find [^\]]*\]")
+# The name that an interface has unless the line sets another.
+DEFAULT_NAME = re.compile(r"\[ ?find default-name=([^\s\]]+) ?\]")
 WORDS = re.compile(r'(?:[^\s"]|"(?:[^"\\]|\\.)*"?)+')
 QUOTES = re.compile('"')
 
@@ -51,13 +54,15 @@ def commands_of(source: Source) -> Iterator[Line]:
     for number, text in logical_lines(source):
         place = Place(source.name, number, text)
         words = [QUOTES.sub("", word) for word in WORDS.findall(FOUND.sub("", text))]
+        default = DEFAULT_NAME.search(text)
         verb = next((index for index, word in enumerate(words) if word in VERBS), len(words))
         if words and re.match("/[a-z]", words[0]):
             menu = words[:verb]
         if verb < len(words):
             pairs = [word.partition("=") for word in words[verb + 1:]]
+            values = {"name": default[1]} if default else {}
             yield Line(" ".join(menu).lstrip("/").replace("/", " "), words[verb],
-                       {key: value for key, _, value in pairs}, place)
+                       values | {key: value for key, _, value in pairs}, place)
 
 
 class _Reading:
@@ -73,10 +78,12 @@ class _Reading:
         self.place = Place(sources[0].name)
         self.records: dict[str, tuple[str, Place]] = {}
         self.interfaces: dict[str, Interface] = {}
+        self.bridged: dict[str, tuple[str, Place]] = {}
 
     def read(self) -> Device:
         for one in self.lines:
             self.take(one)
+        close_subinterfaces(self.interfaces)
         self.device.interfaces = list(self.interfaces.values())
         if self.settings.get("enabled", "no") != "yes":
             self.log.note(self.place, "traffic-flow is not enabled: nothing is metered")
@@ -105,11 +112,20 @@ class _Reading:
             name = one.values.get("interface", "")
             known = self.interfaces.setdefault(name, Interface(name, one.place)).addresses
             known += [one.values["address"]] if one.values.get("address", "") not in ("", *known) else []
+        elif one.menu == "interface bridge port" and one.verb == "add" and one.values.get("disabled") != "yes":
+            self.bridged[one.values.get("interface", "")] = (one.values.get("bridge", ""), one.place)
         elif one.menu.startswith("interface ") and one.values.get("name"):
             found = self.interfaces.setdefault(one.values["name"], Interface(one.values["name"], one.place))
-            found.description = one.values.get("comment", "")
-            found.is_shut = one.values.get("disabled") == "yes"
-            found.parent = one.values.get("interface", "") if one.menu == "interface vlan" else ""
+            found.description = one.values.get("comment", found.description)
+            found.is_shut = one.values.get("disabled", "yes" if found.is_shut else "no") == "yes"
+            found.parent = one.values.get("interface", found.parent) if one.menu == "interface vlan" else found.parent
+            found.vlan = int(one.values["vlan-id"]) if one.values.get("vlan-id", "").isdigit() else found.vlan
+        elif one.menu == "ip vrf" and one.verb == "add":
+            self.vrf(one)
+
+    def vrf(self, one: Line) -> None:
+        for name in filter(None, one.values.get("interfaces", "").split(",")):
+            self.interfaces.setdefault(name, Interface(name, one.place)).vrf = one.values.get("name", "")
 
     def target(self, one: Line) -> None:
         for key in sorted(set(one.values) - TARGET):
@@ -154,16 +170,40 @@ class _Reading:
     def names(self, exporters: list[str]) -> list[str]:
         text = self.settings.get("interfaces", "all")
         if text != "all":
-            names = [name for name in text.split(",") if name]
-            for name in names:
-                self.interfaces.setdefault(name, Interface(name, self.place))
+            names = self.listed([name for name in text.split(",") if name], exporters)
             self.device.interfaces = list(self.interfaces.values())
             return names
         names = [one.name for one in self.interfaces.values() if not one.is_shut]
+        self.report_bridges(names, exporters)
         self.log.premise(self.place, f"`interfaces` is all; the export names {', '.join(names) or 'none'}",
                          "name the interfaces", Topic.OTHER, None,
                          exporters)
         return names or ["all"]
+
+    def listed(self, names: list[str], exporters: list[str]) -> list[str]:
+        """Returns the interfaces of a list that are not disabled; a name that the export does not have is reported."""
+        found = []
+        for name in names:
+            if name not in self.interfaces:
+                self.log.premise(self.place, f"interface {name} is not in this export, which leaves out interfaces without "
+                                 "settings of their own: it is taken to be one, and no list of interfaces", "name the "
+                                 "interfaces of a list", Topic.OTHER, None, exporters)
+            one = self.interfaces.setdefault(name, Interface(name, self.place))
+            if one.is_shut:
+                self.log.note(self.place, f"{name} is disabled, and left out", exporters=exporters)
+            else:
+                found.append(name)
+        self.report_bridges(found, exporters)
+        return found
+
+    def report_bridges(self, names: list[str], exporters: list[str]) -> None:
+        """Reports ports of bridges that are metered beside their bridge."""
+        for name in names:
+            bridge, place = self.bridged.get(name, ("", self.place))
+            if bridge in names:
+                self.log.premise(place, f"{name} is a port of {bridge}, and both are listed: packets that are routed are taken to "
+                                 f"be metered at {bridge} alone", f"list {bridge} without its ports", Topic.OTHER, None,
+                                 exporters)
 
     def direction(self, exporters: list[str]) -> Direction:
         found = COUNTS.get(self.options.get("counts", ""))

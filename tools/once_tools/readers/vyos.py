@@ -7,10 +7,11 @@ from typing import Mapping
 
 from once_tools.model import Cache, Destination, Device, Direction, Exporter, Interface, Place, Point, Topic, Unusable
 from once_tools.readers import filters
+from once_tools.readers.closing import close_subinterfaces
 from once_tools.readers.log import Log, sampling
 from once_tools.readers.records import SEVEN, destination_name, fields
 from once_tools.readers.statements import match
-from once_tools.readers.trees import Statement, braced_lines, set_lines
+from once_tools.readers.trees import Statement, braced_lines, numbered, set_lines
 from once_tools.source import Source
 
 HARMLESS = ("disable-imt", "syslog-facility")
@@ -19,6 +20,7 @@ FLOW_WORDS = {"flow-accounting", "netflow"}
 SECTIONS = {"interfaces", "system", "nat", "protocols", "service"}
 BRACED = re.compile(r"(?m)^\s*(interfaces|system|nat|protocols|service)\s*\{\s*$")
 USUAL_LENGTH = 128
+EDIT = re.compile(r"\s*(edit|up|top|rename|copy|load|merge|rollback)\b")
 TIMEOUTS = {"max-active-life": "activeTimeout", "flow-generic": "idleTimeout"}
 OTHER_TIMEOUTS = ("expiry-interval", "icmp", "tcp-fin", "tcp-generic", "tcp-rst", "udp")
 KNOWN = ["interface", "enable-egress", "netflow server", "netflow version", "netflow sampling-rate",
@@ -81,6 +83,7 @@ class _Reading:
     def statements(self, source: Source) -> list[Statement]:
         """Returns the statements of `set` lines, or of sections in braces. A `set` line that is deactivated is none."""
         if not BRACED.search(source.text):
+            self.report_edits(source)
             found = set_lines(source)
             for one in found:
                 if one.inactive and FLOW_WORDS & set(one.words):
@@ -90,6 +93,13 @@ class _Reading:
         if not any(one.words[0] in SECTIONS for one in found):
             return []
         return found
+
+    def report_edits(self, source: Source) -> None:
+        """Reports commands that change a configuration, which no output of `show configuration commands` has."""
+        for number, line in numbered(source):
+            if EDIT.match(line):
+                self.log.lost(Place(source.name, number, line.strip()), "this command changes the configuration, and it is not "
+                              "applied here", "give the output of `show configuration commands`", Topic.UNKNOWN)
 
     def take(self, one: Statement) -> None:
         flow = match(one.words, "system flow-accounting")
@@ -164,13 +174,14 @@ class _Reading:
     def interface(self, name: str, words: list[str], place: Place) -> None:
         """Takes a statement of an interface, or of a VLAN below it."""
         one = self.interfaces.setdefault(name, Interface(name, place))
-        vlan = match(words, "vif *")
-        if vlan:
-            one = self.interfaces.setdefault(f"{name}.{vlan[0]}", Interface(f"{name}.{vlan[0]}", place, parent=name))
-            one.vlan = int(vlan[0]) if vlan[0].isdigit() else None
-            words = vlan[1:]
+        while vlan := match(words, "vif|vif-s|vif-c *"):
+            above, name, words = name, f"{name}.{vlan[1]}", vlan[2:]
+            one = self.interfaces.setdefault(name, Interface(name, place, parent=above))
+            one.vlan = int(vlan[1]) if vlan[1].isdigit() else None
         if words[:1] == ["address"] and len(words) == 2 and "/" in words[1]:
             one.addresses += [words[1]] if words[1] not in one.addresses else []
+        elif words in (["address", "dhcp"], ["address", "dhcpv6"]) or words[:2] == ["ipv6", "address"]:
+            one.has |= {4 if words[1] == "dhcp" else 6}
         elif words[:1] == ["description"]:
             one.description = " ".join(words[1:]).strip("'")
         elif words == ["disable"]:
@@ -204,6 +215,7 @@ class _Reading:
             rule.excludes = True
 
     def read(self) -> Device:
+        close_subinterfaces(self.interfaces)
         self.device.interfaces = list(self.interfaces.values())
         known = self.accounting
         if known.interfaces and known.servers:
