@@ -50,9 +50,9 @@ def run(arguments: argparse.Namespace) -> int:
     faults = table.Faults(arguments.table)
     network, traffic = documents(arguments.table, faults)
     if not faults.found and len(targets) == 2 and traffic is None:
-        faults.add(1, "no row tells traffic", "add rows class and path, or name no file for it")
+        faults.add(1, "the table declares no traffic", "add rows class and path, or leave out the file for it")
     if not faults.found and len(targets) == 1 and traffic is not None:
-        faults.add(1, "the table tells traffic", "name a third file for it")
+        faults.add(1, "the table declares traffic, and no file is named for it", "name a third file")
     if not faults.found:
         write(targets, [network, traffic])
     for line in faults.lines():
