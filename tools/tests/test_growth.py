@@ -141,7 +141,7 @@ def work(folder: Path, text: str, customers: str, core: str, count: int) -> int:
 
 
 CASES = {"cisco-ios": (ios, '"r:Gi0/*"', "Te1/0/0"), "cisco-xr": (xr, '"r:Gi0/0/*"', "Te0/1/0/0"),
-         "arista-eos": (eos, '"r:Et[0-8]*"', "Et99/1"), "junos": (junos, '"r:ge-*.*"', "xe-1/0/0.0"),
+         "arista-eos": (eos, '"r:Et[0-8]*"', "Et99/1"), "junos": (junos, '"r:ge-*"', "xe-1/0/0.0"),
          "vyos": (vyos, '"r:eth0.*"', "eth1"), "nokia-sros": (sros, '"r:c[0-9]*"', "core"),
          "huawei": (vrp, '"r:GigabitEthernet0/*"', "GigabitEthernet99/0/0"), "mikrotik": (mikrotik, '"r:v*"', "ether2")}
 

@@ -50,6 +50,7 @@ UNKNOWN = [
     ("vyos", VYOS + "set service ipfix frobnicate\n", "set service ipfix frobnicate"),
     ("nokia-sros", "/configure cflowd no shutdown\n/configure service vpls 1 sap 1/1/1 cflowd\n",
      "/configure service vpls 1 sap 1/1/1 cflowd"),
+    ("nokia-sros", "/configure cflowd no shutdown\n/configure router no interface a\n", "/configure router no interface a"),
     ("mikrotik", RSC + "/ip traffic-flow target remove 0\n", "/ip traffic-flow target remove 0")]
 
 
@@ -128,6 +129,29 @@ def test_ports_of_a_vlan_of_vrp(port: str, members: list[str]) -> None:
     assert next(one.members for one in read_text("huawei", text).interfaces if one.name == "Vlanif10") == members
 
 
+JUNOS = """set interfaces ge-0/0/0 description customers
+set interfaces ge-0/0/0 unit 1 family inet address 10.1.0.1/16
+set interfaces ge-0/0/0 unit 2 family inet address 10.2.0.1/16
+set interfaces ge-0/0/0 unit 2 description second
+set interfaces ge-0/0/1 gigether-options 802.3ad ae0
+set interfaces ae0 unit 0 family inet address 10.3.0.1/16
+set interfaces xe-0/0/2 unit 0 family inet address 172.31.0.1/31
+"""
+
+
+def test_a_port_of_junos_with_units_is_no_interface_of_its_own() -> None:
+    """A pattern that matched the port declared a path without a meter, which the audit refuted."""
+    device = read_text("junos", JUNOS)
+    assert {one.name: (one.description, one.members) for one in device.interfaces} == {
+        "ge-0/0/0.1": ("customers", []), "ge-0/0/0.2": ("second", []), "ge-0/0/1": ("", []), "ae0.0": ("", ["ge-0/0/1"]),
+        "xe-0/0/2.0": ("", [])}
+
+
+def test_units_of_a_port_of_junos_that_is_disabled_are_shut() -> None:
+    device = read_text("junos", JUNOS + "set interfaces ge-0/0/0 disable\n")
+    assert [one.name for one in device.interfaces if one.is_shut] == ["ge-0/0/0.1", "ge-0/0/0.2"]
+
+
 def test_vlans_in_vlans_of_vyos() -> None:
     device = read_text("vyos", VYOS + "set interfaces ethernet eth0 vif-s 100 vif-c 7 address 10.7.0.1/24\n"
                        "set system flow-accounting interface eth0.100.7\n")
@@ -151,6 +175,12 @@ def test_ports_of_a_bridge_of_mikrotik() -> None:
     text = RSC.replace("ether1,ether2", "ether1,bridge1") + "/interface bridge add name=bridge1\n/interface bridge port add " \
         "bridge=bridge1 interface=ether1\n"
     assert any("ether1 is a port of bridge1" in line_of(one) and one.grade is Grade.PREMISE for one in read_text("mikrotik", text).findings)
+
+
+def test_a_vlan_of_mikrotik_that_is_not_listed() -> None:
+    text = RSC + "/interface vlan add interface=ether1 name=v5 vlan-id=5\n"
+    assert any("v5 is a VLAN of ether1" in line for line in lines(read_text("mikrotik", text), Grade.PREMISE))
+    assert not any("is a VLAN of" in line for line in lines(read_text("mikrotik", text.replace("ether1,ether2", "ether1,v5"))))
 
 
 def test_vrfs_of_mikrotik() -> None:

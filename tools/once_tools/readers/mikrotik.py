@@ -194,7 +194,16 @@ class _Reading:
             else:
                 found.append(name)
         self.report_bridges(found, exporters)
+        self.report_vlans(found, exporters)
         return found
+
+    def report_vlans(self, names: list[str], exporters: list[str]) -> None:
+        """Reports VLANs that are not listed beside their interface."""
+        for one in self.interfaces.values():
+            if one.parent in names and one.name not in names and not one.is_shut:
+                self.log.premise(one.place, f"{one.name} is a VLAN of {one.parent}, which is listed without it: its packets are "
+                                 "taken not to be metered", f"list {one.name}, if it is to be metered", Topic.OTHER, None,
+                                 exporters)
 
     def report_bridges(self, names: list[str], exporters: list[str]) -> None:
         """Reports ports of bridges that are metered beside their bridge."""

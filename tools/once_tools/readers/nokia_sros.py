@@ -101,6 +101,9 @@ class _Reading:
         elif match(words, "system name *"):
             self.device.hostname = words[2]
         elif words[:1] in (["router"], ["service"]) and names and len(words) > names[0] + 1:
+            if words[names[0] - 1] == "no":
+                self.log.unknown(one.place, " ".join(words[names[0] - 1:names[0] + 2]), ["interface"])
+                return
             owner = words[:3] if words[0] == "service" else [word for word in words[:2] if word not in ("interface", "Base")]
             self.check_owner(words[names[0] + 1], tuple(owner), one.place)
             self.interface(words[names[0] + 1], words[names[0] + 2:], one.place)
