@@ -24,7 +24,7 @@ FILES = {"pmacctd": "pmacct/pmacctd.conf", "softflowd": "pmacct/softflowd.servic
          "junos": "juniper-junos/mx-1.set", "cisco-ios": "cisco-ios-xe/edge-1.cfg",
          "cisco-xr": "cisco-ios-xr/core-1.cfg", "vyos": "vyos/gw-1.set", "arista-eos": "arista-eos/leaf-1.cfg",
          "mikrotik": "mikrotik/gw-6.rsc", "nokia-sros": "nokia-sros/pe-1.cfg", "huawei": "huawei-vrp/ne-1.cfg",
-         "vyos boot": "vyos/gw-1.boot", "huawei aggregation": "huawei-vrp/ne-2.cfg", "nokia-sros md": "nokia-sros/pe-1.md", "nokia-sros flat": "nokia-sros/pe-1.flat"}  # after a space, another form of a kind's text
+         "vyos boot": "vyos/gw-1.boot", "huawei aggregation": "huawei-vrp/ne-2.cfg", "nokia-sros filters": "nokia-sros/pe-2.cfg", "nokia-sros md": "nokia-sros/pe-1.md", "nokia-sros flat": "nokia-sros/pe-1.flat"}  # after a space, another form of a kind's text
 OTHERS = {"nfacctd": ["pmacct/tee_receivers.lst"]}
 # Lines whose change may go unheard: comments, and what does not bear on which packets are counted in which record.
 HARMLESS = {
@@ -43,6 +43,9 @@ HARMLESS = {
                  r"|(protocols|    static|        route|            next-hop|    ethernet).*",
     "mikrotik": r"#.*|\s*$|/ip firewall nat.*|/ip address.*|/system identity.*|/interface ethernet.*",
     "nokia-sros": r"\s*#.*|\s*$|\s*(exit|template-set|system|name|configure|shutdown|router).*|\s*collector 192.0.2.20.*",
+    "nokia-sros filters": r"\s*(#.*|exit|default-action.*|configure|filter|router.*|cflowd|entry 20 create)?$"
+                          r"|\s*(filter-sample|match protocol udp|src-ip 10.1.2.0/24|dst-port eq 53)",  # entry 20 is not active
+
     "nokia-sros md": r"\s*#.*|\s*\}?$|\s*(template-set|name|system|configure|admin-state disable|router|interface|ipv4|primary).*",
     "nokia-sros flat": r"\s*#.*|\s*$|/configure (system name|cflowd collector 192.0.2.20).*|.*template-set.*",
     "huawei": r"\s*#.*|\s*$|return|\s*(sysname|description|ip netstream timeout).*",

@@ -1,13 +1,14 @@
 """Nokia SR OS: the classic form, MD-CLI with braces and MD-CLI with paths, and what samples packets in each."""
 from __future__ import annotations
 
+import ipaddress
 from typing import Any
 
 import pytest
 
 from expected import SAMPLES, finding, lines, read_text, shape
 from once_tools.load import detected
-from once_tools.model import Grade
+from once_tools.model import Device, Grade
 from once_tools.report import line_of
 from once_tools.source import Source
 
@@ -64,25 +65,106 @@ def test_rates_of_profiles() -> None:
     assert "one packet out of 50 is sampled" in "".join(lines(read_text("nokia-sros", text)))
 
 
-@pytest.mark.parametrize("line, grade, words", [
-    ("/configure filter ip-filter 10 entry 10 interface-disable-sample", Grade.NOT_CARRIED_OVER, "are not sampled"),
-    ("/configure filter ip-filter 10 entry 10 interface-disable-sample true", Grade.NOT_CARRIED_OVER, "are not sampled"),
-    ("/configure filter ip-filter 10 entry 10 interface-disable-sample false", None, ""),
-    ("/configure filter ip-filter 10 entry 10 no interface-disable-sample", None, ""),
-    ("/configure filter ip-filter 10 entry 10 filter-sample", Grade.NOTE, "only at interfaces with `type acl`"),
-    ("/configure filter ip-filter 10 entry 10 action forward", None, "")])
-def test_entries_of_filters(line: str, grade: Grade | None, words: str) -> None:
-    device = read_text("nokia-sros", f"{WAY}/configure router interface a {UNICAST} interface direction ingress-only\n{line}\n")
-    told = [one for one in device.findings if one.place.text == line]
-    assert [one.grade for one in told] == ([grade] if grade else []) and all(words in one.says for one in told)
+FILTER, MD_FILTER = ((SAMPLES / "nokia-sros" / name).read_text() for name in ("pe-2.cfg", "pe-2.md"))
 
 
-def test_sampling_by_filters_cites_the_interface_and_the_entries() -> None:
-    entry = "/configure filter ip-filter 10 entry 10 filter-sample"
-    device = read_text("nokia-sros", f"{WAY}/configure router interface a {UNICAST} acl direction ingress-only\n{entry}\n")
-    lost = [line for line in lines(device, Grade.NOT_CARRIED_OVER) if "type acl" in line]
-    assert len(lost) == 2 and any(entry in line for line in lost)
-    assert device.points[0].interfaces == ["a"]
+def times(device: Device, source: str, destination: str, **others: str) -> int:
+    """Returns in how many selection processes of the points a packet is."""
+    packet = {"ipVersion": "6" if ":" in source else "4", "protocolIdentifier": "6", "sourceTransportPort": "1024",
+              "destinationTransportPort": "80", **others}
+    version = packet["ipVersion"]
+    ends = {f"sourceIPv{version}": source, f"destinationIPv{version}": destination}
+
+    def holds(element: str, value: str) -> bool:
+        for kind in ("Prefix", "Address"):
+            if element.endswith(kind):
+                end = ends.get(element.removesuffix(kind))
+                return end is not None and ipaddress.ip_address(end) in ipaddress.ip_network(value)
+        return packet[element] == value
+
+    return sum(all(holds(element, value) for element, value in one.match.items())
+               for point in device.points for one in point.selections)
+
+
+# Entries in order: 10 takes what goes to 10.9.0.0/16 unsampled; 20 has no action and is not active; 30 samples customers.
+PACKETS = [("10.1.2.3", "198.51.100.1", 1), ("192.168.7.7", "10.8.255.255", 1), ("10.1.2.3", "10.9.0.1", 0),
+           ("172.16.0.1", "198.51.100.1", 0), ("10.255.255.255", "10.10.0.0", 1), ("2001:db8::1", "2001:db8::2", 0)]
+
+
+@pytest.mark.parametrize("text", [FILTER, MD_FILTER], ids=["classic", "md"])
+def test_a_filter_chooses_the_packets_that_are_sampled(text: str) -> None:
+    device = read_text("nokia-sros", text)
+    assert [times(device, source, destination) for source, destination, _ in PACKETS] == [count for _, _, count in PACKETS]
+    assert not lines(device, Grade.NOT_CARRIED_OVER)
+    assert finding(device, "chooses the packets of IPv4 that are sampled").grade is Grade.NOTE
+    assert finding(device, "no filter of IPv6 is at a").grade is Grade.NOTE
+    assert finding(device, "is not active").grade is Grade.NOTE
+
+
+@pytest.mark.parametrize("text", [FILTER, MD_FILTER], ids=["classic", "md"])
+def test_an_entry_with_an_action_is_active(text: str) -> None:
+    """Entry 20 then takes UDP to port 53 of 10.1.2.0/24, and its packets are still in one process."""
+    before = "                filter-sample\n            exit\n        exit\n    exit\n    cflowd" if text == FILTER else \
+        "                filter-sample true\n                match {\n                    protocol udp"
+    after = before.replace("filter-sample\n", "filter-sample\n                action forward\n").replace(
+        "filter-sample true\n", "filter-sample true\n                action {\n                    accept\n                }\n")
+    assert before in text
+    device = read_text("nokia-sros", text.replace(before, after).replace("protocol udp", "protocol 17"))
+    assert not lines(device, Grade.NOT_CARRIED_OVER) or "selection processes" in "".join(lines(device, Grade.NOT_CARRIED_OVER))
+    assert times(device, "192.168.7.7", "198.51.100.1") == 1
+
+
+def test_entries_that_keep_packets_from_being_sampled() -> None:
+    text = FILTER.replace("type acl", "type interface").replace(
+        "                    dst-ip 10.9.0.0/16\n                exit\n",
+        "                    dst-ip 10.9.0.0/16\n                exit\n                interface-disable-sample\n")
+    device = read_text("nokia-sros", text)
+    wanted = [1, 1, 0, 1, 1, 1]  # all but what goes to 10.9.0.0/16, and all of IPv6
+    assert [times(device, source, destination) for source, destination, _ in PACKETS] == wanted
+    assert not lines(device, Grade.NOT_CARRIED_OVER)
+    assert sum("is at no interface at which this bears on" in line for line in lines(device, Grade.NOTE)) == 2  # filter-sample
+
+
+@pytest.mark.parametrize("change, words", [
+    (("dst-ip 10.9.0.0/16", "fragment true"), "`fragment true` is a condition"), (("action forward", "action nat"), "action `nat`"),
+    (("                filter-sample\n                action forward", "                filter-sample\n                action drop"),
+     "whether a packet that is dropped is sampled"), (('ip-prefix-list "customers"\n', 'ip-prefix-list "others"\n'), "prefix-list others"),
+    (("default-action forward\n", "embed-filter 7\n"), "`embed-filter 7` is not known"), (("filter ip 10", "filter ip 11"),
+     "filter 11, which is at a, is not in this configuration")])
+def test_filters_that_are_not_read_are_reported(change: tuple[str, str], words: str) -> None:
+    assert change[0] in FILTER
+    device = read_text("nokia-sros", FILTER.replace(*change))
+    assert words in "".join(lines(device, Grade.NOT_CARRIED_OVER))
+    assert times(device, "10.1.2.3", "10.9.0.1") == 1  # all packets are metered instead
+
+
+def test_a_filter_in_the_other_direction_samples_nothing() -> None:
+    device = read_text("nokia-sros", FILTER.replace("            ingress\n", "            egress\n"))
+    assert not device.points and finding(device, "no filter of IPv4 is at a in this direction")
+
+
+def test_both_directions_have_filters_of_their_own() -> None:
+    device = read_text("nokia-sros", FILTER.replace("direction ingress-only", "direction both"))
+    assert metered(FILTER) == [("cflowd ingress-only", ["a"], "ingress")]
+    assert [(one.name, one.direction.value) for one in device.points] == [("cflowd ingress-only", "ingress")]
+    assert finding(device, "counts twice").grade is Grade.WARNING
+
+
+def test_interfaces_with_different_filters_are_different_points() -> None:
+    other = '        interface "b"\n            cflowd-parameters\n                sampling unicast type interface direction ' \
+            "ingress-only\n            exit\n        exit\n"
+    text = FILTER.replace("    router Base\n", "    router Base\n" + other)
+    assert metered(text) == [("cflowd ingress-only", ["b"], "ingress"), ("cflowd ingress-only 2", ["a"], "ingress")]
+
+
+def test_filters_of_saps_and_of_ipv6() -> None:
+    text = f"{WAY}/configure filter ipv6-filter 6 entry 1 filter-sample\n/configure filter ipv6-filter 6 entry 1 action accept\n" \
+           "/configure filter ipv6-filter 6 entry 1 match src-ip 2001:db8::/32\n" \
+           f"/configure service ies 1 interface a {UNICAST} acl direction ingress-only\n" \
+           "/configure service ies 1 interface a sap 1/1/1:10 create ingress filter ipv6 6\n"
+    device = read_text("nokia-sros", text)
+    assert [times(device, "2001:db8::1", "::1"), times(device, "2001:db9::1", "::1"), times(device, "10.0.0.1", "10.0.0.2")] == [1, 0, 0]
+    assert device.interfaces[0].aliases == ["1/1/1:10"]
 
 
 @pytest.mark.parametrize("line", ["direction egress-only", "type acl"])

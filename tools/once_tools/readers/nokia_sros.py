@@ -3,13 +3,16 @@ from __future__ import annotations
 
 import re
 from dataclasses import dataclass, field
-from typing import Mapping
+from typing import Mapping, Sequence
 
-from once_tools.model import Cache, Destination, Device, Direction, Exporter, Interface, Place, Point, Topic, Unusable
+from once_tools.boxes import TooManyBoxes
+from once_tools.model import Cache, Destination, Device, Direction, Exporter, Interface, Place, Point, Selection, Topic, Unusable
 from once_tools.readers import filters
+from once_tools.readers.junos_terms import UnreadCondition
 from once_tools.readers.log import Log, sampling
 from once_tools.readers.paths_of_words import statements
 from once_tools.readers.records import ADDRESSES, PORTS, destination_name, fields
+from once_tools.readers.sros_filters import Filter, Filters, selections_of
 from once_tools.readers.statements import match
 from once_tools.readers.trees import Statement, Words, braced_lines, quoted_words
 from once_tools.source import Source
@@ -22,8 +25,6 @@ HARMLESS = ("active-timeout", "inactive-timeout", "cache-size", "overflow", "tem
             "autonomous-system-type", "template-set", "exit", "enhanced-distribution")
 
 
-# Statements of filters by which packets are sampled, or are not.
-SAMPLING, NOT_SAMPLING = "filter-sample", "interface-disable-sample"
 USUAL_PROFILE = "1"
 BRACED = re.compile(r"(?m)^\s*(configure|cflowd|router \S+|service)\s*\{\s*$")
 
@@ -81,7 +82,9 @@ class _Reading:
         self.owners: dict[str, tuple[str, ...]] = {}
         self.shut_owners: set[tuple[str, ...]] = set()
         self.uses: dict[str, Use] = {}
-        self.filters: list[tuple[str, Place]] = []
+        self.filters = Filters()
+        self.attached: dict[tuple[str, str, int], str] = {}
+        self.marked: set[Place] = set()
         self.halves: dict[str, dict[str, str]] = {}
         found = [one for source in sources for one in (
             braced_lines(source) if BRACED.search(source.text) else statements(source, words_of=quoted_words))]
@@ -108,8 +111,7 @@ class _Reading:
             self.check_owner(words[names[0] + 1], tuple(owner), one.place)
             self.interface(words[names[0] + 1], words[names[0] + 2:], one.place)
         elif words[:1] == ["filter"]:
-            self.filters += [(word, one.place) for word in (SAMPLING, NOT_SAMPLING)
-                             if word in words and words[-1] != "false" and "no" not in words]
+            self.filters.take(words, one.place)
         elif words[:1] == ["service"] and words[-1:] == ["shutdown"]:
             self.service(tuple(words[:3]), words[3:])
         elif "cflowd" in words or "cflowd-parameters" in words:
@@ -172,10 +174,13 @@ class _Reading:
     def interface(self, name: str, words: list[str], place: Place) -> None:
         one = self.interfaces.setdefault(name, Interface(name, place))
         words = words[1:] if words[:1] == ["create"] else words
+        if words[:1] in (["port"], ["sap"]) and len(words) > 1:
+            one.aliases += [words[1]] if words[1] not in one.aliases else []
+            words = [word for word in words[2:] if word != "create"] if words[0] == "sap" else []
         if words[:1] in (["address"], ["secondary"], ["ipv4"], ["ipv6"]):
             self.address(one, words)
-        elif words[:1] in (["port"], ["sap"]) and len(words) > 1:
-            one.aliases += [words[1]] if words[1] not in one.aliases else []
+        elif attached := match(words, "ingress|egress filter ip|ipv6 *"):
+            self.attached[(name, attached[0], 4 if attached[1] == "ip" else 6)] = attached[2]
         elif words in (["shutdown"], ["no", "shutdown"]):
             one.is_shut = words[0] != "no"
         elif words[:1] == ["description"]:
@@ -270,21 +275,79 @@ class _Reading:
                           "use version 10", 611, (name,))
 
     def points(self, exporters: list[str]) -> None:
-        groups: dict[tuple[str, str], list[Use]] = {}
+        groups: dict[tuple[str, str, bool, str, str], list[Use]] = {}
         for one in self.uses.values():
             if self.is_left_out(one):
                 continue
-            if one.values.get("type") != "interface":
-                self.log.lost(one.place, "filters choose which packets are sampled; the document meters all packets "
-                              "here" if "type" in one.values else "no type is given, so which packets are sampled is not known; "
-                              "the document meters all packets here",
-                              "sample with type interface", Topic.FILTER, None, exporters)
+            by_filter = one.values.get("type") == "acl"
+            if "type" not in one.values:
+                self.log.lost(one.place, "no type is given, so which packets are sampled is not known; the document meters all "
+                              "packets here", "sample with type interface", Topic.FILTER, None, exporters)
             if not one.direction:
                 self.log.premise(one.place, "no direction is given: packets are taken to be metered where they come in",
                                  "", Topic.OTHER, None, exporters)
-            groups.setdefault((one.direction or "ingress-only", one.profile), []).append(one)
-        for (direction, profile), found in groups.items():
-            self.point(direction, profile, found, exporters)
+            if one.direction == "both":
+                self.log.warning(one.place, "packets are metered where they come in and where they leave, so each "
+                                 "that crosses two of the interfaces "
+                                 "counts twice", "write direction ingress-only", exporters)
+            for direction in self.directions(one):
+                ipv4, ipv6 = (self.bearing(one, direction, version, by_filter) for version in (4, 6))
+                groups.setdefault((direction, one.profile, by_filter, ipv4, ipv6), []).append(one)
+        for (direction, profile, by_filter, *names), found in groups.items():
+            self.point(direction, profile, found, self.selections(found, by_filter, names, exporters))
+
+    def directions(self, one: Use) -> list[str]:
+        """Returns the direction of a use; where filters bear on it, each direction has a point of its own."""
+        direction = one.direction or "ingress-only"
+        sides = [side for side in ("ingress", "egress") for version in (4, 6) if (one.interface, side, version) in self.attached]
+        return ["ingress-only", "egress-only"] if direction == "both" and (sides or one.values.get("type") == "acl") \
+            else [direction]
+
+    def bearing(self, use: Use, direction: str, version: int, by_filter: bool) -> str:
+        """Returns the filter that bears on what is sampled at an interface, "" if there is none."""
+        side = direction.removesuffix("-only")
+        name = self.attached.get((use.interface, side, version), "")
+        if name and (version, name) not in self.filters.found:
+            why = f"filter {name}, which is at {use.interface}, is not in this configuration"
+            if not by_filter:
+                self.log.premise(use.place, f"{why}: it is taken to have no entry with interface-disable-sample",
+                                 "give the whole configuration")
+                return ""
+            self.filters.found[(version, name)] = Filter(version, name, unread=(use.place, why))
+        return name if name and (by_filter or self.filters.found[(version, name)].marked(False)) else ""
+
+    def selections(self, found: list[Use], by_filter: bool, names: Sequence[str], exporters: list[str]) -> list[Selection]:
+        """Returns the selection processes of both versions of IP at interfaces with the same filters."""
+        selections = []
+        for version, name in zip((4, 6), names):
+            cache = f"cflowd IPv{version}"
+            if name:
+                selections += self.filtered(self.filters.found[(version, name)], by_filter, cache, found[0], exporters)
+            elif not by_filter:
+                selections.append(filters.whole_family(cache, version, cache, found[0].place))
+            else:
+                self.log.note(found[0].place, f"no filter of IPv{version} is at {found[0].interface} in this direction, so no "
+                              f"packet of IPv{version} is sampled there", exporters=exporters)
+        return selections
+
+    def filtered(self, one: Filter, by_filter: bool, cache: str, use: Use, exporters: list[str]) -> list[Selection]:
+        """Returns the selection processes of the packets of a filter that are sampled."""
+        self.marked |= set(one.marked(by_filter))
+        for entry in one.entries.values():
+            if not entry.action:
+                self.log.note(entry.place, "the entry has no action: it is not active, and left out", exporters=exporters)
+        try:
+            found = selections_of(one, self.filters.lists, by_filter, cache, use.place)
+            self.log.note(use.place, f"filter {one.name} chooses the packets of IPv{one.version} that are sampled: "
+                          f"{len(found)} selection processes", exporters=exporters)
+            return found
+        except UnreadCondition as error:
+            self.log.lost(error.place, f"{error.why}; the document meters all packets of IPv{one.version} at the interfaces with "
+                          f"filter {one.name}", "sample by addresses, protocols and ports", Topic.FILTER, None, exporters)
+        except TooManyBoxes as error:
+            says, todo = filters.too_many(error)
+            self.log.lost(use.place, says, todo, Topic.FILTER, None, exporters)
+        return [filters.whole_family(cache, one.version, cache, use.place)]
 
     def is_left_out(self, one: Use) -> bool:
         """Returns whether the interface or its service is shut, after a note."""
@@ -297,16 +360,14 @@ class _Reading:
             return False
         return True
 
-    def point(self, direction: str, profile: str, found: list[Use], exporters: list[str]) -> None:
-        """Adds the point of interfaces with one direction and one rate."""
-        if direction == "both":
-            self.log.warning(found[0].place, "packets are metered where they come in and where they leave, so each "
-                             "that crosses two of the interfaces "
-                             "counts twice", "write direction ingress-only", exporters)
-        selections = [filters.whole_family(f"cflowd IPv{version}", version, f"cflowd IPv{version}", found[0].place)
-                      for version in (4, 6)]
+    def point(self, direction: str, profile: str, found: list[Use], selections: list[Selection]) -> None:
+        """Adds the point of interfaces with one direction, one rate and the same filters."""
+        if not selections:
+            return
         rate = self.rates[profile][0] if profile in self.rates else USUAL_RATE
         name = f"cflowd {direction}" + (f" profile {profile}" if profile != USUAL_PROFILE else "")
+        taken = [one.name for one in self.device.points]
+        name = next(text for text in (name, *(f"{name} {number}" for number in range(2, len(taken) + 3))) if text not in taken)
         self.device.points.append(Point(name, [one.interface for one in found], DIRECTIONS[direction], selections,
                                         found[0].place, [one.place for one in found], sampling(rate) if rate > 1 else None))
 
@@ -326,18 +387,12 @@ class _Reading:
                 self.log.note(rate[1], "rate 1: all packets", exporters=exporters)
 
     def report_filters(self, exporters: list[str]) -> None:
-        """Reports the entries of filters by which packets are sampled, or are not."""
-        by_filter = any(one.values.get("type") == "acl" for one in self.uses.values())
-        for word, place in self.filters:
-            if word == NOT_SAMPLING:
-                self.log.lost(place, "packets that this entry takes are not sampled at interfaces with this filter; the "
-                              "document meters all packets", "take it out, or accept this", Topic.FILTER, None, exporters)
-            elif by_filter:
-                self.log.lost(place, "packets that this entry takes are sampled at interfaces with `type acl`, and others there "
-                              "are not; the document meters all packets there", "sample with type interface", Topic.FILTER,
-                              None, exporters)
-            else:
-                self.log.note(place, "samples only at interfaces with `type acl`, of which there are none", exporters=exporters)
+        """Notes the entries of filters that say what is sampled, and are at no interface where that bears on it."""
+        for one in self.filters.found.values():
+            for place in [*one.marked(True), *one.marked(False)]:
+                if place not in self.marked:
+                    self.log.note(place, f"filter {one.name} is at no interface at which this bears on what is sampled",
+                                  exporters=exporters)
 
 
 class NokiaSros:
