@@ -114,3 +114,58 @@ def test_addresses_of_a_translation_of_vyos() -> None:
     text = (SAMPLES / "vyos" / "gw-1.set").read_text().replace("'masquerade'", "'198.51.100.8-198.51.100.9'")
     says = finding(read_text("vyos", text), "nat source rule 10").says
     assert "have the source 198.51.100.8-198.51.100.9, and packets that come back have 198.51.100.8-198.51.100.9" in says
+
+
+JUNOS = """set interfaces ge-0/0/0 unit 0 family inet address 10.1.0.1/16
+set interfaces ge-0/0/0 unit 0 family inet sampling input
+set interfaces ge-0/0/1 unit 0 family inet address 198.51.100.1/24
+set chassis fpc 0 sampling-instance S
+set services flow-monitoring version-ipfix template T ipv4-template
+set forwarding-options sampling instance S input rate 1
+set forwarding-options sampling instance S family inet output flow-server 192.0.2.10 port 4739
+set forwarding-options sampling instance S family inet output flow-server 192.0.2.10 version-ipfix template T
+set security zones security-zone trust interfaces ge-0/0/0.0
+set security zones security-zone untrust interfaces ge-0/0/1.0
+set security nat source pool P address 198.51.100.8/29
+set security nat source rule-set RS from zone trust
+set security nat source rule-set RS to zone untrust
+set security nat source rule-set RS rule R match source-address 10.1.0.0/16
+set security nat source rule-set RS rule R then source-nat pool P
+"""
+JUNOS_UP = '[[traffic]]\nname = "up"\nfrom = ["r:ge-0/0/0.0"]\nto = ["r:ge-0/0/1.0"]\n'
+
+
+def junos(folder: Path, text: str) -> Finding:
+    (one,) = told(made(folder, REPORT + DEVICE + COLLECTOR + JUNOS_UP, r_cfg=text))
+    return one
+
+
+def test_source_translation_of_junos(tmp_path: Path) -> None:
+    one = junos(tmp_path, JUNOS)
+    assert one.grade is Grade.PREMISE and one.place.text.endswith("then source-nat pool P")
+    assert one.says.startswith("NAT: packets of 10.1.0.0/16 have the sources 198.51.100.8/29 outside. 'up' is taken to be metered "
+                               "before the translation alone, at r ge-0/0/0.0 ingress")
+
+
+def test_source_translation_of_junos_by_interfaces(tmp_path: Path) -> None:
+    text = JUNOS.replace("from zone trust", "from interface ge-0/0/0.0").replace("to zone untrust", "to interface ge-0/0/1.0")
+    one = junos(tmp_path, text.replace("then source-nat pool P", "then source-nat interface"))
+    assert one.grade is Grade.PREMISE and "have the sources the address of the interface outside" in one.says
+
+
+def test_packets_of_junos_that_are_metered_after_the_translation(tmp_path: Path) -> None:
+    text = JUNOS.replace("ge-0/0/0 unit 0 family inet sampling input", "ge-0/0/1 unit 0 family inet sampling output")
+    assert junos(tmp_path, text).grade is Grade.NOT_CARRIED_OVER
+
+
+@pytest.mark.parametrize("line", ["set security nat static rule-set X rule Y then static-nat prefix 10.1.0.5/32",
+                                  "set security nat destination pool D address 10.1.0.5/32",
+                                  "set services nat rule N term t then translated source-pool P"])
+def test_other_translation_of_junos_is_reported_as_a_whole(tmp_path: Path, line: str) -> None:
+    one = junos(tmp_path, JUNOS + line + "\n")
+    assert one.grade is Grade.NOT_CARRIED_OVER and "whether one packet is counted on both sides" in one.says
+
+
+def test_a_rule_that_turns_translation_off(tmp_path: Path) -> None:
+    one = junos(tmp_path, JUNOS.replace("then source-nat pool P", "then source-nat off"))
+    assert one.grade is Grade.NOT_CARRIED_OVER  # there is no rule that translates, and what the others do is not read

@@ -13,7 +13,9 @@ from once_tools.model import Crossing, Device, Direction, Finding, Grade, Place,
 from once_tools.paths.pieces import Piece
 from once_tools.paths.topology import Topology
 from once_tools.paths.ways import Path
-from once_tools.readers.trees import Node, Words, indented
+from once_tools.readers.junos import statements_of
+from once_tools.readers.statements import match
+from once_tools.readers.trees import Node, Statement, Words, indented
 from once_tools.source import Source
 
 HARMLESS = ("log", "translation", "service", "settings", "create", "switchover", "stateful", "portmap")
@@ -37,6 +39,7 @@ class Translation:
     inside: set[str] = field(default_factory=set)
     outside: set[str] = field(default_factory=set)
     rules: list[Rule] = field(default_factory=list)
+    is_sure: bool = True  # whether it is established that input is metered before the translation, and output after it
 
 
 @dataclass
@@ -105,8 +108,72 @@ class _Ios:
         return self.found if is_whole else None
 
 
+@dataclass
+class _Junos:
+    """Reads source translation of Junos. Rule sets lead from zones or interfaces to others."""
+
+    found: Translation
+    zones: dict[str, set[str]] = field(default_factory=dict)
+    pools: dict[str, list[str]] = field(default_factory=dict)
+    ends: dict[str, dict[str, list[tuple[str, str]]]] = field(default_factory=dict)
+    sources: dict[tuple[str, str], list[str]] = field(default_factory=dict)
+    actions: dict[tuple[str, str], tuple[str, Place]] = field(default_factory=dict)
+    unread: bool = False
+
+    def take(self, one: Statement) -> None:
+        words = one.words
+        zone = match(words, "security zones security-zone * interfaces *")
+        pool = match(words, "security nat source pool * address *")
+        end = match(words, "security nat source rule-set * from|to zone|interface *")
+        rule = match(words, "security nat source rule-set * rule *")
+        if zone:
+            self.zones.setdefault(zone[0], set()).add(zone[1])
+        elif pool:
+            self.pools.setdefault(pool[0], []).append(" ".join(pool[1:]))
+        elif end:
+            self.ends.setdefault(end[0], {}).setdefault(end[1], []).append((end[2], end[3]))
+        elif rule:
+            self.rule((rule[0], rule[1]), rule[2:], one.place)
+        elif words[:2] == ("security", "nat") and words[2:4] != ("source", "pool") or words[:2] == ("services", "nat"):
+            self.unread = True
+
+    def rule(self, key: tuple[str, str], words: list[str], place: Place) -> None:
+        source, pool = match(words, "match source-address *"), match(words, "then source-nat pool *")
+        if source:
+            self.sources.setdefault(key, []).append(source[0])
+        elif pool:
+            self.actions[key] = (pool[0], place)
+        elif words in (["then", "source-nat", "interface"], ["then", "source-nat", "off"]):
+            self.actions[key] = ("" if words[-1] == "interface" else "off", place)
+        elif words[:1] != ["match"] and words[:1] != ["description"]:
+            self.unread = True
+
+    def interfaces(self, rule_set: str, side: str) -> set[str]:
+        found: set[str] = set()
+        for kind, name in self.ends.get(rule_set, {}).get(side, []):
+            found |= {name} if kind == "interface" else self.zones.get(name, set())
+        return found
+
+    def read(self) -> Translation | None:
+        """Returns the translation, None if some of it is of a form that is not read."""
+        for key, (pool, place) in self.actions.items():
+            if pool == "off":
+                continue
+            self.found.inside |= self.interfaces(key[0], "from")
+            self.found.outside |= self.interfaces(key[0], "to")
+            outside = ", ".join(self.pools.get(pool, [f"pool {pool}"])) if pool else "the address of the interface"
+            self.found.rules.append(Rule(place, f"packets of {', '.join(self.sources.get(key, ['all addresses']))}", outside))
+        is_whole = self.found.rules and self.found.inside and self.found.outside and not self.unread
+        return self.found if is_whole else None
+
+
 def translation_of(device: Device, sources: Iterable[Source], topology: Topology) -> Translation | None:
     """Returns the translation of a device whose configuration gives its sides and its rules, None otherwise."""
+    if device.kind == "junos":
+        junos = _Junos(Translation(device.name, is_sure=False))
+        for one in (one for source in sources for one in statements_of(source) if not one.inactive):
+            junos.take(one)
+        return junos.read()
     if device.kind != "cisco-ios":
         return None
     reading = _Ios(topology, Translation(device.name))
@@ -154,12 +221,12 @@ def _words(crossings: Iterable[Crossing]) -> str:
     return ", ".join(names[:MOST_NAMED]) + (", .." if len(names) > MOST_NAMED else "")
 
 
-def _finding(rule: Rule, name: str, sides: _Sides, device: str) -> Finding:
+def _finding(rule: Rule, name: str, sides: _Sides, one: Translation) -> Finding:
     """Returns what a rule means for the records of a traffic."""
     part = "sources" if sides.outward else "destinations"
     says = f"NAT: {rule.inside} have the {part} {rule.outside} outside" if sides.outward else \
         f"NAT: packets that come back to {rule.inside.removeprefix('packets of ')} have the {part} {rule.outside} outside"
-    has = "outside" if sides.outward else "inside"
+    has, device = "outside" if sides.outward else "inside", one.device
     if sides.after:
         also = f", and before it at {_words(sides.before)}" if sides.before else ""
         return Finding(Grade.NOT_CARRIED_OVER, rule.place, f"{says}. '{name}' is metered after the translation, at "
@@ -172,12 +239,15 @@ def _finding(rule: Rule, name: str, sides: _Sides, device: str) -> Finding:
                        f"{part}", "", Topic.NAT, None, device)
     where = f"before the translation alone, at {_words(sides.before)}: its records have the {part} with which the packets " \
             "come in" if sides.before else "nowhere on the paths that lead through the translation"
+    if sides.before and not one.is_sure:
+        return Finding(Grade.PREMISE, rule.place, f"{says}. '{name}' is taken to be metered {where}", "compare the addresses in "
+                       "its records", Topic.NAT, None, device)
     return Finding(Grade.NOTE, rule.place, f"{says}. '{name}' is metered {where}", "", Topic.NAT, None, device)
 
 
 def report_translation(one: Translation, pieces: Iterable[Piece], metered: set[Crossing]) -> list[Finding]:
     """Returns for each rule and each traffic that passes through it what records have which addresses."""
     sides = _sides(one, pieces, metered)
-    found = [_finding(rule, name, each, one.device) for rule in one.rules for (name, _), each in sides.items()]
+    found = [_finding(rule, name, each, one) for rule in one.rules for (name, _), each in sides.items()]
     return found or [Finding(Grade.NOTE, rule.place, "NAT: no declared path leads from an inside to an outside interface, or "
                              "back", "", Topic.NAT, None, one.device) for rule in one.rules]

@@ -12,7 +12,7 @@ from once_tools.readers.junos_config import FAMILIES, INHERITANCE, Collector, In
 from once_tools.readers.junos_terms import TermText, UnreadCondition, region_of, samples_and_ends
 from once_tools.readers.log import Log, sampling
 from once_tools.readers.records import ADDRESSES, PORTS, destination_name, fields
-from once_tools.readers.trees import braces, numbered, set_lines
+from once_tools.readers.trees import Statement, braces, numbered, set_lines
 from once_tools.source import Source
 
 KEYS = (*ADDRESSES, "protocolIdentifier", *PORTS, "ipClassOfService")
@@ -27,6 +27,11 @@ TOP = ("system", "interfaces", "chassis", "services", "forwarding-options", "fir
        "access", "event-options")
 
 
+def statements_of(source: Source) -> list[Statement]:
+    """Returns the statements of a text of `set` lines or of braces."""
+    return set_lines(source) if SET_LINE.search(source.text) else braces(source)
+
+
 class _Reading:
     """Reads one router."""
 
@@ -34,8 +39,7 @@ class _Reading:
         self.log = Log(name)
         self.device = Device(name, "junos", [one.name for one in sources], findings=self.log.findings)
         collector = Collector(self.log)
-        statements = [one for source in sources for one in (set_lines(source) if SET_LINE.search(source.text)
-                                                            else braces(source))]
+        statements = [one for source in sources for one in statements_of(source)]
         if not any(one.words[0] in TOP for one in statements):
             raise Unusable(sources[0].place(0), "has no statement of Junos",
                            "give the output of `show configuration | display set`")
