@@ -44,7 +44,8 @@ UNKNOWN = [
     ("arista-eos", EOS + "interface Ethernet1,Ethernet3\n   flow tracker hardware T\n", "flow tracker hardware T"),
     ("arista-eos", EOS + "int Et1\n   flow tracker hardware T\n", "flow tracker hardware T"),
     ("arista-eos", EOS + "no flow tracking sampled\n", "no flow tracking sampled"),
-    ("huawei", VRP + "slot 1\n ip netstream sampler to slot self\n", "ip netstream sampler to slot self"),
+    ("huawei", VRP + "slot 1\n ip netstream frobnicate\n", "ip netstream frobnicate"),
+    ("cisco-xr", XR + "hw-module profile netflow ipfix315\n", "hw-module profile netflow ipfix315"),
     ("huawei", VRP + "interface GigabitEthernet0/1/0\n undo ip netstream inbound\n", "undo ip netstream inbound"),
     ("vyos", VYOS + "edit system flow-accounting\n", "edit system flow-accounting"),
     ("vyos", VYOS + "set service ipfix frobnicate\n", "set service ipfix frobnicate"),
@@ -57,6 +58,20 @@ UNKNOWN = [
 @pytest.mark.parametrize("kind, text, line", UNKNOWN)
 def test_a_statement_of_an_unknown_form_is_reported(kind: str, text: str, line: str) -> None:
     assert Grade.NOT_CARRIED_OVER in graded(read_text(kind, text), line)
+
+
+@pytest.mark.parametrize("kind, text, line", [
+    ("huawei", VRP + "slot 1\n ip netstream sampler to slot self\n", "ip netstream sampler to slot self"),
+    ("nokia-sros", "/configure cflowd no shutdown\n/configure cflowd collector 192.0.2.10:4739 no shutdown\n",
+     "/configure cflowd collector 192.0.2.10:4739 no shutdown"),
+    ("mikrotik", RSC.replace(" version=ipfix", ""), "/ip traffic-flow target add dst-address=192.0.2.10 port=4739")])
+def test_what_is_not_given_is_a_premise(kind: str, text: str, line: str) -> None:
+    assert Grade.PREMISE in graded(read_text(kind, text), line)
+
+
+def test_profiles_of_hardware_tables_are_harmless() -> None:
+    text = EOS + "hardware tcam\n   profile P\n      feature flow tracking sampled ipv4\n"
+    assert read_text("arista-eos", text).findings == read_text("arista-eos", EOS).findings
 
 
 def test_descriptions_with_words_of_flows_are_harmless() -> None:

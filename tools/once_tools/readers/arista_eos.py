@@ -106,7 +106,7 @@ class _Reading:
             self.interface(interface[0], interface[1:], one.place)
         elif one.words[0] == "hostname" and len(one.words) == 2:
             self.device.hostname = one.words[1]
-        elif "flow" in one.words and {"tracker", "tracking"} & set(one.words):
+        elif "flow" in one.words and {"tracker", "tracking"} & set(one.words) and one.words[0] != "hardware":
             self.log.unknown(one.place, " ".join(one.words[:4]), ["flow tracking hardware", "flow tracking sampled"])
 
     def range(self, name: str, words: list[str], place: Place) -> None:

@@ -102,7 +102,7 @@ class _Reading:
             self.log.lost(place, "groups are not resolved, so what they bring is not in the document",
                           "send the output of `show running-config inheritance`")
         elif words[0] in ("flow", "sampler-map") or {"flow", "sampler"} & set(words) and words[0] != "!!" \
-                and (match(words, "group *") or FLOW_MAPS & set(words)):
+                and (match(words, "group *") or FLOW_MAPS & set(words)) or "netflow" in words:
             self.log.unknown(place, " ".join(words[:3]), ["flow exporter-map", "flow monitor-map", "sampler-map"])
 
     def exporter_map(self, name: str, words: list[str], place: Place) -> None:

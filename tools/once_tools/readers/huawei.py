@@ -85,6 +85,9 @@ class _Reading:
             self.flow(netstream[0], netstream[1:], "", one.place)
         elif one.words[0] == "sysname" and len(one.words) == 2:
             self.device.hostname = one.words[1]
+        elif match(one.words, "slot * ip|ipv6 netstream sampler to slot"):
+            self.log.premise(one.place, "this has flows of the board processed: the boards of all metered interfaces are taken to "
+                             "have such a line, or to need none", "", Topic.OTHER)
         elif "netstream" in one.words:
             self.log.unknown(one.place, " ".join(one.words[:4]), KNOWN)
 

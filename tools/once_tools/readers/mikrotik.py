@@ -144,6 +144,9 @@ class _Reading:
         if name not in [other.name for other in self.device.exporters]:
             self.device.exporters.append(Exporter(name, [where], one.place, "parallel",
                                                   one.values.get("src-address", "")))
+        if "version" not in one.values:
+            self.log.premise(one.place, "no version is given: NetFlow 9 is taken to be sent", "set version=ipfix", Topic.OTHER, None,
+                             (name,))
         if version != 10:
             self.log.note(one.place, f"NetFlow {version} is not IPFIX: the audit is the same, but `once collect` "
                           f"refuses its messages",

@@ -35,6 +35,7 @@ class Collector:
     port: int
     place: Place
     version: int = 9
+    has_version: bool = False
     is_on: bool | None = None
     aggregation: Place | None = None
 
@@ -163,7 +164,7 @@ class _Reading:
         one = self.collectors.setdefault(words[0], Collector(found[1], int(found[2] or 2055), place))
         rest = [word for word in words[1:] if word != "create"]
         if rest[:1] == ["version"] and len(rest) > 1 and rest[1] in ("5", "8", "9", "10"):
-            one.version, rest = int(rest[1]), rest[2:]
+            one.version, one.has_version, rest = int(rest[1]), True, rest[2:]
         if rest in (["no", "shutdown"], ["shutdown"]):
             one.is_on = rest[0] == "no"
         elif rest[:1] == ["aggregation"]:
@@ -266,6 +267,9 @@ class _Reading:
         if one.aggregation and one.version != 8:
             self.log.premise(one.aggregation, "aggregation is taken to bear on collectors of version 8 alone", "take it out",
                              Topic.MASK, None, (name,))
+        if not one.has_version:
+            self.log.premise(one.place, "no version is given: NetFlow 9 is taken to be sent", "set version 10", Topic.OTHER, None,
+                             (name,))
         if one.version == 8:
             self.log.lost(one.place, "version 8 sends aggregated records, but the document has whole ones",
                           "use version 10", Topic.MASK, None, (name,))
