@@ -4,13 +4,17 @@ Each case was first read in silence, or as something else than it is.
 """
 from __future__ import annotations
 
+import random
 import re
 
 import pytest
 
-from expected import lines, read_text
+from expected import lines, read_text, shape
 from once_tools.model import Device, Grade
+from once_tools.readers import READERS
 from once_tools.report import line_of
+from once_tools.source import Source
+from test_mutations import kind_of, sources
 
 XR = ("flow exporter-map E\n version ipfix\n transport udp 4739\n destination 192.0.2.10\nflow monitor-map M\n record ipv4\n"
       " exporter E\nsampler-map S\n random 1 out-of 1\n")
@@ -190,6 +194,46 @@ def test_ports_of_a_bridge_of_mikrotik() -> None:
     text = RSC.replace("ether1,ether2", "ether1,bridge1") + "/interface bridge add name=bridge1\n/interface bridge port add " \
         "bridge=bridge1 interface=ether1\n"
     assert any("ether1 is a port of bridge1" in line_of(one) and one.grade is Grade.PREMISE for one in read_text("mikrotik", text).findings)
+
+
+def test_lines_of_mikrotik_that_are_continued_within_a_word() -> None:
+    text = """/interface ethernet
+set [ find default-name=ether1 ] comment=core
+set [ find default-name=ether2 ] name="ether 2"
+/ip traffic-flow
+set cache-entries=64k enabled=yes interfaces=\\
+    "ether1,ether 2"
+/ip traffic-flow target
+add dst-address=192.0.2.10 port=4739 \\
+    version=ipfix
+"""
+    device = read_text("mikrotik", text)
+    assert metered(device) == ["ether1", "ether 2"] and not lines(device, Grade.NOT_CARRIED_OVER)
+    assert device.points[0].place.line == 5 and device.exporters[0].place.line == 8
+    assert not read_text("mikrotik", text.replace("ether1,ether 2", "")).points
+
+
+def test_virtual_addresses_of_eos() -> None:
+    text = EOS + "interface Vlan10\n   ip address virtual 10.7.0.1/24\n   ipv6 address virtual 2001:db8::1/64\n"
+    assert read_text("arista-eos", text).interfaces[-1].addresses == ["10.7.0.1/24", "2001:db8::1/64"]
+
+
+@pytest.mark.parametrize("kind", ["cisco-xr", "arista-eos", "mikrotik", "nokia-sros flat", "huawei", "huawei aggregation"])
+def test_the_order_of_sections_means_nothing(kind: str) -> None:
+    (source,) = sources(kind)
+    sections: list[str] = []
+    for line in source.text.split("\n"):
+        if line.startswith(" "):
+            sections[-1] += "\n" + line
+        elif line and line[0] not in "!#" and line not in ("end", "return"):
+            sections.append(line)
+    found = set()
+    for seed in range(8):
+        random.Random(seed).shuffle(sections)
+        device = READERS[kind_of(kind)].read("device", [Source("config", "\n".join(sections))], {})
+        told = sorted((one.grade.value, re.sub(r"line \d+", "", one.says)) for one in device.findings)
+        found.add(repr((sorted(shape(device)["points"]), sorted(shape(device)["exporters"]), told)))
+    assert len(found) == 1
 
 
 def test_a_vlan_of_mikrotik_that_is_not_listed() -> None:

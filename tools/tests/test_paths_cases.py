@@ -519,3 +519,11 @@ def test_damaged_files_are_wrong(tmp_path: Path, name: str, text: str) -> None:
     declaration = declared(tmp_path, [EDGE], TRAFFIC + 'from = ["edge-1:Gi0/0/0"]\nto = ["edge-1:Te0/1/0"]\n',
                            edge_1=f'{name} = "file"')
     assert [one.place.file for one in declaration.findings if one.grade in (Grade.WRONG, Grade.NOT_CARRIED_OVER)] == ["file"]
+
+
+def test_a_subinterface_of_a_bundle_is_crossed_with_the_member_that_is_metered(tmp_path: Path) -> None:
+    """What a member meters has the packets of all subinterfaces of its bundle."""
+    one = device("a", "po1 members=e1", "po1.100 10.1.0.1/16", "e1", "x 10.2.0.1/16", metered=("e1:ingress", "po1.100:ingress"))
+    one.interfaces[1].parent = "po1"
+    declaration = declared(tmp_path, [one], TRAFFIC + 'from = ["a:po1.100"]\nto = ["a:x"]\n')
+    assert ways(declaration) == ["a:e1:in a:po1.100:in a:x:eg"]

@@ -162,7 +162,7 @@ class _Reading:
         elif words[:2] == ["ipv6", "enable"] or words[:2] == ["ip", "unnumbered"] or words[:3] == ["ip", "address", "dhcp"]:
             one.has |= {6 if words[0] == "ipv6" else 4}
         elif words[:2] in (["ip", "address"], ["ipv6", "address"]) and len(words) > 2:
-            self.address(one, words[2])
+            self.address(one, words[3] if words[2] == "virtual" and len(words) > 3 else words[2])
         elif words[:1] == ["switchport"] or words == ["no", "switchport"]:
             self.switchport(name, words)
         elif "flow" in words and words[0] != "description":

@@ -12,9 +12,9 @@ from typing import Iterator, Mapping
 from once_tools.model import Cache, Destination, Device, Direction, Exporter, Interface, Place, Point, Topic, Unusable
 from once_tools.readers import filters
 from once_tools.readers.closing import close_subinterfaces
-from once_tools.readers.command_line import logical_lines
 from once_tools.readers.log import Log
 from once_tools.readers.records import SEVEN, destination_name, fields
+from once_tools.readers.trees import numbered
 from once_tools.source import Source
 
 MENUS = ("interface", "ip", "ipv6", "system", "routing", "ppp", "queue", "snmp")
@@ -48,10 +48,26 @@ class Line:
     place: Place = Place("")
 
 
+def joined_lines(source: Source) -> Iterator[tuple[int, str]]:
+    """Yields the lines of an export with their numbers. A backslash at the end continues a line, without the spaces before the
+    rest: an export breaks lines within words too."""
+    first, text = 0, ""
+    for number, line in numbered(source):
+        text, first = (text + line.strip(), first) if first else (line.strip(), number)
+        if text.endswith("\\"):
+            text = text[:-1]
+            continue
+        if text and not text.startswith("#"):
+            yield first, text
+        first, text = 0, ""
+    if text:
+        yield first, text
+
+
 def commands_of(source: Source) -> Iterator[Line]:
     """Yields the commands of an export; the menu stands in the line, or in a line before."""
     menu: list[str] = []
-    for number, text in logical_lines(source):
+    for number, text in joined_lines(source):
         place = Place(source.name, number, text)
         words = [QUOTES.sub("", word) for word in WORDS.findall(FOUND.sub("", text))]
         default = DEFAULT_NAME.search(text)
@@ -163,6 +179,9 @@ class _Reading:
             self.device.caches.append(Cache(cache, "timeout", fields(keys, version, self.place), able, self.place))
             selections.append(filters.whole_family(cache, version, cache, self.place))
         names = self.names(exporters)
+        if not names:
+            self.log.note(self.place, "no interface is metered", exporters=exporters)
+            return
         self.device.points.append(Point(NAME, names, self.direction(exporters), selections, self.place,
                                         [self.place] * len(names)))
 
