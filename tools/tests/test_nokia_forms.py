@@ -198,6 +198,18 @@ def test_addresses_of_both_versions() -> None:
     assert ends(text)["customer-g"][0] == ["10.8.0.1/16", "10.9.0.1/24", "2001:db8::1/64"]
 
 
+def test_an_interface_of_a_vprn_is_in_its_vrf() -> None:
+    text = "/configure service vprn 7 interface a port 1/1/1\n/configure service ies 8 interface b port 1/1/2\n" \
+           "/configure router interface c port 1/1/3\n"
+    assert {one.name: one.vrf for one in read_text("nokia-sros", text).interfaces} == {"a": "vprn 7", "b": "", "c": ""}
+
+
+@pytest.mark.parametrize("line, count", [("no analyze-gre-payload", 0), ("no cache-size", 0), ("no rate", 1), ("no collector 192.0.2.10:4739", 1)])
+def test_settings_of_cflowd_with_no(line: str, count: int) -> None:
+    device = read_text("nokia-sros", f"{WAY}/configure cflowd {line}\n")
+    assert [one.grade for one in device.findings if one.place.text.endswith(line)] == [Grade.NOT_CARRIED_OVER] * count
+
+
 def test_an_interface_that_is_opened_again() -> None:
     text = f"{WAY}/configure router interface a {UNICAST} interface direction ingress-only\n/configure router interface a shutdown\n"
     assert not metered(text) and metered(f"{text}/configure router interface a no shutdown\n")

@@ -26,6 +26,9 @@ HARMLESS = ("active-timeout", "inactive-timeout", "cache-size", "overflow", "tem
 
 
 USUAL_PROFILE = "1"
+# Settings whose line with `no` says what holds without it too.
+USUALLY_OFF = (*HARMLESS, "analyze-gre-payload", "analyze-l2tp-traffic", "inband-collector-export-only",
+               "outband-collector-export-only", "analyze-v4overv6-traffic")
 BRACED = re.compile(r"(?m)^\s*(configure|cflowd|router \S+|service)\s*\{\s*$")
 
 
@@ -109,8 +112,10 @@ class _Reading:
                 self.log.unknown(one.place, " ".join(words[names[0] - 1:names[0] + 2]), ["interface"])
                 return
             owner = words[:3] if words[0] == "service" else [word for word in words[:2] if word not in ("interface", "Base")]
-            self.check_owner(words[names[0] + 1], tuple(owner), one.place)
-            self.interface(words[names[0] + 1], words[names[0] + 2:], one.place)
+            name = words[names[0] + 1]
+            self.check_owner(name, tuple(owner), one.place)
+            self.interface(name, words[names[0] + 2:], one.place)
+            self.interfaces[name].vrf = " ".join(owner[1:]) if owner[1:2] == ["vprn"] else ""
         elif words[:1] == ["filter"]:
             self.filters.take(words, one.place)
         elif words[:1] == ["service"] and words[-1:] == ["shutdown"]:
@@ -154,7 +159,7 @@ class _Reading:
         elif words == ["export-mode", "manual"]:
             self.log.premise(place, "records are exported when an operator has them exported: the audit speaks of totals "
                              "after that", "set export-mode automatic")
-        elif words and words[0] not in HARMLESS:
+        elif words and words[0] not in HARMLESS and (words[0] != "no" or words[1:2] and words[1] not in USUALLY_OFF):
             self.log.unknown(place, " ".join(words), ["collector", "rate", "no shutdown", *HARMLESS])
 
     def collector(self, words: list[str], place: Place) -> None:
