@@ -169,8 +169,10 @@ def open_folder() -> Iterator[Path]:
 def run_as_nobody(folder: Path, *arguments: str) -> subprocess.CompletedProcess[str]:
     """Runs the program as a user who is not root: root may read all files."""
     who = {"user": NOBODY, "group": NOBODY} if os.geteuid() == 0 else {}
-    return subprocess.run([sys.executable, "-B", "-m", "once_tools.import_main", *arguments], cwd=folder, capture_output=True,
-                          text=True, timeout=60, **who)  # type: ignore[call-overload,no-any-return]
+    found: subprocess.CompletedProcess[str] = subprocess.run(  # type: ignore[call-overload]
+        [sys.executable, "-B", "-m", "once_tools.import_main", *arguments], cwd=folder, capture_output=True, text=True,
+        timeout=60, **who)
+    return found
 
 
 @pytest.mark.parametrize("name", [*READING, "configuration", "new"])

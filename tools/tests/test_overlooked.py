@@ -213,6 +213,27 @@ add dst-address=192.0.2.10 port=4739 \\
     assert not read_text("mikrotik", text.replace("ether1,ether 2", "")).points
 
 
+# A member of a bundle that is metered itself.
+MEMBERS = [
+    ("cisco-xr", XR + "interface Bundle-Ether1\n!\ninterface HundredGigE0/0/0/1\n bundle id 1 mode active\n"
+     " flow ipv4 monitor M sampler S ingress\n", ["HundredGigE0/0/0/1"]),
+    ("arista-eos", EOS + "interface Port-Channel1\ninterface Ethernet1\n   channel-group 1 mode active\n"
+     "   flow tracker hardware T\n", ["Ethernet1"]),
+    ("huawei", VRP + "interface Eth-Trunk1\n#\ninterface GigabitEthernet0/1/0\n eth-trunk 1\n ip netstream inbound\n",
+     ["GigabitEthernet0/1/0"]),
+    ("vyos", VYOS + "set interfaces bonding bond0 member interface eth0\n", []),
+    ("vyos", VYOS + "set interfaces bridge br0 member interface eth0\n", []),
+    ("mikrotik", RSC.replace("ether1,ether2", "ether1,bond1") + "/interface bonding add name=bond1 slaves=ether1,ether3\n",
+     ["ether1", "bond1"])]
+
+
+@pytest.mark.parametrize("kind, text, points", MEMBERS)
+def test_a_monitor_at_a_member_of_a_bundle_is_a_premise(kind: str, text: str, points: list[str]) -> None:
+    device = read_text(kind, text)
+    assert metered(device) == points
+    assert any(" is a member of " in line or " is a port of " in line for line in lines(device, Grade.PREMISE))
+
+
 def test_virtual_addresses_of_eos() -> None:
     text = EOS + "interface Vlan10\n   ip address virtual 10.7.0.1/24\n   ipv6 address virtual 2001:db8::1/64\n"
     assert read_text("arista-eos", text).interfaces[-1].addresses == ["10.7.0.1/24", "2001:db8::1/64"]

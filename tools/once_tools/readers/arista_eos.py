@@ -9,7 +9,7 @@ from typing import Mapping
 
 from once_tools.model import Cache, Destination, Device, Direction, Exporter, Interface, Place, Point, Topic, Unusable
 from once_tools.readers import filters
-from once_tools.readers.closing import close_subinterfaces
+from once_tools.readers.closing import IN_A_BUNDLE, close_subinterfaces
 from once_tools.readers.interface_names import aliases_of, parent_of
 from once_tools.readers.log import Log, sampling
 from once_tools.readers.paths_of_words import statements
@@ -238,6 +238,10 @@ class _Reading:
             self.log.note(place, f"{name} is shut, and left out")
         else:
             known[tracker].uses.append((name, place))
+            if name in self.bundled:
+                bundle = self.bundled[name][0]
+                self.log.premise(place, IN_A_BUNDLE.format(name, bundle), f"meter at {bundle}", Topic.OTHER, None,
+                                 [f"{kind} {tracker} {one}" for one in known[tracker].exporters])
 
     def meters(self, kind: str, section: Section) -> None:
         """Adds what the trackers of a section meter and export."""

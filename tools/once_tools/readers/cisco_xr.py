@@ -9,7 +9,7 @@ from typing import Mapping
 
 from once_tools.model import Cache, Destination, Device, Direction, Exporter, Interface, Place, Point, Topic, Unusable
 from once_tools.readers import filters
-from once_tools.readers.closing import close_subinterfaces
+from once_tools.readers.closing import IN_A_BUNDLE, bundles_of, close_subinterfaces
 from once_tools.readers.interface_names import aliases_of, parent_of
 from once_tools.readers.log import Log, sampling
 from once_tools.readers.paths_of_words import statements
@@ -211,6 +211,7 @@ class _Reading:
 
     def read(self) -> Device:
         close_subinterfaces(self.interfaces)
+        self.bundles = bundles_of(self.interfaces, "Bundle-Ether")
         self.device.interfaces = list(self.interfaces.values())
         for name, one in self.exporters.items():
             self.exporter(name, one)
@@ -327,6 +328,9 @@ class _Reading:
                            "name a monitor of the family")
             return False
         self.sampler(one, exporters)
+        if one.interface in self.bundles:
+            self.log.premise(one.place, IN_A_BUNDLE.format(one.interface, self.bundles[one.interface]),
+                             f"meter at {self.bundles[one.interface]}", Topic.OTHER, None, exporters)
         return any(cache.name == one.monitor for cache in self.device.caches)
 
     def sampler(self, one: Use, exporters: list[str]) -> None:

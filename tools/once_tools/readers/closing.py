@@ -1,4 +1,4 @@
-"""Interfaces that carry no packets because another one is shut."""
+"""Interfaces that are shut with another one, and members of bundles."""
 from __future__ import annotations
 
 from typing import Mapping
@@ -14,3 +14,11 @@ def close_subinterfaces(interfaces: Mapping[str, Interface]) -> None:
             above = interfaces[above.parent]
             seen.add(above.name)
             one.is_shut = above.is_shut
+
+
+def bundles_of(interfaces: Mapping[str, Interface], prefix: str) -> dict[str, str]:
+    """Returns the bundle of each interface that is a member of one; the names of bundles begin with a prefix."""
+    return {member: one.name for one in interfaces.values() if one.name.startswith(prefix) for member in one.members}
+
+
+IN_A_BUNDLE = "{0} is a member of {1}: whether a monitor at a member is in force is not known, and the document has it"

@@ -8,7 +8,7 @@ from typing import Mapping
 
 from once_tools.model import Cache, Destination, Device, Direction, Exporter, Interface, Place, Point, Topic, Unusable
 from once_tools.readers import filters
-from once_tools.readers.closing import close_subinterfaces
+from once_tools.readers.closing import IN_A_BUNDLE, bundles_of, close_subinterfaces
 from once_tools.readers.interface_names import aliases_of, parent_of
 from once_tools.readers.log import Log, sampling
 from once_tools.readers.paths_of_words import statements
@@ -203,6 +203,7 @@ class _Reading:
     def read(self) -> Device:
         self.vlans()
         close_subinterfaces(self.interfaces)
+        self.bundles = bundles_of(self.interfaces, "Eth-Trunk")
         self.device.interfaces = list(self.interfaces.values())
         for family, version in FAMILIES.items():
             found = [(*use, place) for use, place in self.uses.items() if use[1] == family]
@@ -250,6 +251,10 @@ class _Reading:
                 self.log.note(one[3], f"{one[0]} is shut, and left out")
             else:
                 open_ones.append(one)
+        for one in open_ones:
+            if one[0] in self.bundles:
+                self.log.premise(one[3], IN_A_BUNDLE.format(one[0], self.bundles[one[0]]), f"meter at {self.bundles[one[0]]}",
+                                 Topic.OTHER, None, exporters)
         rates = [self.sampler(one, exporters) for one in open_ones]
         if open_ones:
             self.device.points.append(Point(f"{name} {direction}", [one[0] for one in open_ones], DIRECTIONS[direction],

@@ -131,6 +131,8 @@ class _Reading:
         elif one.menu == "interface bridge port" and one.verb == "add" and one.values.get("disabled") != "yes":
             self.bridged[one.values.get("interface", "")] = (one.values.get("bridge", ""), one.place)
         elif one.menu.startswith("interface ") and one.values.get("name"):
+            for name in filter(None, one.values.get("slaves", "").split(",")):
+                self.bridged[name] = (one.values["name"], one.place)
             found = self.interfaces.setdefault(one.values["name"], Interface(one.values["name"], one.place))
             found.description = one.values.get("comment", found.description)
             found.is_shut = one.values.get("disabled", "yes" if found.is_shut else "no") == "yes"

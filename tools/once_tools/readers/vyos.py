@@ -7,7 +7,7 @@ from typing import Mapping
 
 from once_tools.model import Cache, Destination, Device, Direction, Exporter, Interface, Place, Point, Topic, Unusable
 from once_tools.readers import filters
-from once_tools.readers.closing import close_subinterfaces
+from once_tools.readers.closing import bundles_of, close_subinterfaces
 from once_tools.readers.log import Log, sampling
 from once_tools.readers.records import SEVEN, destination_name, fields
 from once_tools.readers.statements import match
@@ -255,6 +255,7 @@ class _Reading:
     def metered(self) -> list[tuple[str, Place]]:
         """Returns the interfaces of flow accounting that are not disabled."""
         found = []
+        bundled = bundles_of(self.interfaces, "b")  # bond0, br0
         for name, place in self.accounting.interfaces.items():
             interface = self.interfaces.get(name)
             if interface is None:
@@ -264,6 +265,9 @@ class _Reading:
                 self.device.interfaces.append(interface)
             if interface.is_shut:
                 self.log.note(place, f"{name} is disabled, and left out")
+            elif name in bundled:
+                self.log.premise(place, f"{name} is a member of {bundled[name]}, at which IP has its packets: it is taken to meter "
+                                 "nothing", f"meter at {bundled[name]}", Topic.OTHER, None, list(self.accounting.servers))
             else:
                 found.append((name, place))
         return found
