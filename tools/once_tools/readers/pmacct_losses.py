@@ -1,6 +1,7 @@
 """Settings of pmacct's daemons that bound what they hold: beyond the bound records or packets are lost.
 
-What each does is from CONFIG-KEYS of pmacct 1.7.7, and the words of the log from the program.
+What each does is from CONFIG-KEYS of pmacct 1.7.7, and the words of the log from the program. CONFIG-KEYS says that with
+`imt_mem_pools_number: 0` the table grows as it needs; the running pmacctd 1.7.7 takes 0 for the default.
 """
 from __future__ import annotations
 
@@ -52,13 +53,14 @@ class Losses:
         pools = self._number(number) if number else USUAL_POOLS
         octets = self._number(size) if size else USUAL_POOL
         where = (number or size).place if number or size else place  # type: ignore[union-attr]
-        if pools == 0:
-            self.log.note(where, f"the table of {plugin.name} grows as it needs", exporters=self.bears(plugin))
-        elif pools is not None and octets is not None:
+        if pools is not None and octets is not None:
             usual = "" if number or size else " (the default)"
+            usual = usual if pools else " (pmacct 1.7.7 takes 0 for the default)"
+            pools = pools or USUAL_POOLS
             self.log.premise(where, f"the table of {plugin.name} has at most {pools} pools of {octets} octets{usual}: records "
                              "that do not fit are lost, and all are taken to fit",
-                             "write imt_mem_pools_number: 0, or watch the log for `unable to allocate more memory pools`",
+                             "write a larger imt_mem_pools_number, and watch the log for `Unable to allocate more memory "
+                             "pools`",
                              exporters=self.bears(plugin))
 
     def _writers(self, plugin: Plugin) -> None:
