@@ -110,6 +110,14 @@ def test_traffic_that_passes_by_the_translation(tmp_path: Path) -> None:
     assert one.grade is Grade.NOTE and "no declared path leads from an inside to an outside interface" in one.says
 
 
+def test_a_translation_of_vyos_beyond_an_interface_that_is_not_metered() -> None:
+    text = (SAMPLES / "vyos" / "gw-1.set").read_text()
+    inside = text.replace("set system flow-accounting interface 'eth1'\n", "")
+    assert text != inside and finding(read_text("vyos", inside), "nat source rule 10").grade is Grade.NOTE
+    egress = inside + "set system flow-accounting enable-egress\n"
+    assert finding(read_text("vyos", egress), "nat source rule 10").grade is Grade.NOT_CARRIED_OVER
+
+
 def test_addresses_of_a_translation_of_vyos() -> None:
     text = (SAMPLES / "vyos" / "gw-1.set").read_text().replace("'masquerade'", "'198.51.100.8-198.51.100.9'")
     says = finding(read_text("vyos", text), "nat source rule 10").says

@@ -316,6 +316,10 @@ class _Reading:
                 continue
             who = f"packets of {rule.source}" if rule.source else "packets that it translates"
             where = rule.interface or "it"
+            if rule.kind.endswith(" source") and self.is_beyond_meters(rule.interface):
+                self.log.note(rule.place, f"{rule.kind} rule {rule.number}: packets have other addresses beyond {where} alone, "
+                              "which is not metered: records have the addresses before the translation", exporters=exporters)
+                continue
             if rule.kind.endswith(" source"):
                 source = f"the source {rule.translation}" if rule.translation else "another source"
                 back = rule.translation or f"the address of {where}"
@@ -328,6 +332,12 @@ class _Reading:
                         "report by address counts them under the one that the meter sees")
             self.log.lost(rule.place, says, "report by addresses that are not translated, or accept this", Topic.NAT,
                           None, exporters)
+
+    def is_beyond_meters(self, interface: str) -> bool:
+        """Returns whether packets with translated sources, and those that come back to them, cross no metered interface in a
+        metered direction: they cross the interface that they leave by, and come back there."""
+        return bool(interface) and interface in self.interfaces and not self.accounting.egress \
+            and interface not in self.accounting.interfaces
 
     def report_vlans(self) -> None:
         listed = self.accounting.interfaces
