@@ -24,7 +24,10 @@ FILES = {"pmacctd": "pmacct/pmacctd.conf", "softflowd": "pmacct/softflowd.servic
          "junos": "juniper-junos/mx-1.set", "cisco-ios": "cisco-ios-xe/edge-1.cfg",
          "cisco-xr": "cisco-ios-xr/core-1.cfg", "vyos": "vyos/gw-1.set", "arista-eos": "arista-eos/leaf-1.cfg",
          "mikrotik": "mikrotik/gw-6.rsc", "nokia-sros": "nokia-sros/pe-1.cfg", "huawei": "huawei-vrp/ne-1.cfg",
-         "vyos boot": "vyos/gw-1.boot", "huawei aggregation": "huawei-vrp/ne-2.cfg", "nokia-sros filters": "nokia-sros/pe-2.cfg", "nokia-sros md": "nokia-sros/pe-1.md", "nokia-sros flat": "nokia-sros/pe-1.flat"}  # after a space, another form of a kind's text
+         # After a space, another form of a kind's text.
+         "vyos boot": "vyos/gw-1.boot", "huawei aggregation": "huawei-vrp/ne-2.cfg",
+         "nokia-sros filters": "nokia-sros/pe-2.cfg", "nokia-sros md": "nokia-sros/pe-1.md",
+         "nokia-sros flat": "nokia-sros/pe-1.flat"}
 OTHERS = {"nfacctd": ["pmacct/tee_receivers.lst"]}
 # Lines whose change may go unheard: comments, and what does not bear on which packets are counted in which record.
 HARMLESS = {
