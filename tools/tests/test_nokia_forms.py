@@ -198,6 +198,22 @@ def test_addresses_of_both_versions() -> None:
     assert ends(text)["customer-g"][0] == ["10.8.0.1/16", "10.9.0.1/24", "2001:db8::1/64"]
 
 
+@pytest.mark.parametrize("line, name", [
+    ("router interface a port 1", "a"), ("router Base interface a port 1", "a"), ("router Base x interface a port 1", ""),
+    ("service vprn 1 customer 1 create interface a create port 1", "a"), ("service ies 1 name n customer 1 create interface a", "a"),
+    ("service vprn 1 subscriber-interface s group-interface g", ""), ("router interface", ""), ("router isis interface a", ""),
+    ("router Base isis 0 interface a shutdown", ""), ("router ospf area 0.0.0.0 interface a", ""),
+    ("service vprn 1 ospf area 0.0.0.0 interface a shutdown", ""), ("router management interface a port 1", "a")])
+def test_which_interface_a_statement_is_about(line: str, name: str) -> None:
+    device = read_text("nokia-sros", f"{WAY}/configure {line}\n")
+    assert [one.name for one in device.interfaces] == ([name] if name else [])
+
+
+def test_a_protocol_that_is_shut_at_an_interface_does_not_shut_it() -> None:
+    text = f"{WAY}/configure router interface a {UNICAST} interface direction ingress-only\n"
+    assert metered(f"{text}/configure router isis interface a shutdown\n") == metered(text) != []
+
+
 def test_an_interface_of_a_vprn_is_in_its_vrf() -> None:
     text = "/configure service vprn 7 interface a port 1/1/1\n/configure service ies 8 interface b port 1/1/2\n" \
            "/configure router interface c port 1/1/3\n"

@@ -26,6 +26,7 @@ HARMLESS = ("active-timeout", "inactive-timeout", "cache-size", "overflow", "tem
 
 
 USUAL_PROFILE = "1"
+ROUTERS = ("Base", "management", "vpls-management")
 # Settings whose line with `no` says what holds without it too.
 USUALLY_OFF = (*HARMLESS, "analyze-gre-payload", "analyze-l2tp-traffic", "inband-collector-export-only",
                "outband-collector-export-only", "analyze-v4overv6-traffic")
@@ -72,6 +73,18 @@ def classic(words: Words) -> list[str]:
     return found
 
 
+def interface_at(words: list[str]) -> int:
+    """Returns the index of the name of the interface that a statement of a router or service is about, 0 if there is none, as
+    for the settings of a routing protocol at an interface."""
+    if "interface" not in words[:-1] or words[0] not in ("router", "service"):
+        return 0
+    at = words.index("interface")
+    between = words[3:at] if words[0] == "service" else words[2 if words[1] in ROUTERS else 1:at]
+    while between[:1] in (["customer"], ["name"]) and len(between) > 1:
+        between = between[2:]
+    return at + 1 if all(word in ("create", "no") for word in between) else 0
+
+
 class _Reading:
     """Reads one router."""
 
@@ -101,20 +114,19 @@ class _Reading:
 
     def take(self, one: Statement) -> None:
         words = classic(one.words)
-        names = [index for index, word in enumerate(words) if word == "interface"]
+        at = interface_at(words)
         if words[:1] == ["cflowd"]:
             self.section = self.section or one.place
             self.cflowd(words[1:], one.place)
         elif match(words, "system name *"):
             self.device.hostname = words[2]
-        elif words[:1] in (["router"], ["service"]) and names and len(words) > names[0] + 1:
-            if words[names[0] - 1] == "no":
-                self.log.unknown(one.place, " ".join(words[names[0] - 1:names[0] + 2]), ["interface"])
-                return
+        elif at and words[at - 2] == "no":
+            self.log.unknown(one.place, " ".join(words[at - 2:at + 1]), ["interface"])
+        elif at:
             owner = words[:3] if words[0] == "service" else [word for word in words[:2] if word not in ("interface", "Base")]
-            name = words[names[0] + 1]
+            name = words[at]
             self.check_owner(name, tuple(owner), one.place)
-            self.interface(name, words[names[0] + 2:], one.place)
+            self.interface(name, words[at + 1:], one.place)
             self.interfaces[name].vrf = " ".join(owner[1:]) if owner[1:2] == ["vprn"] else ""
         elif words[:1] == ["filter"]:
             self.filters.take(words, one.place)
