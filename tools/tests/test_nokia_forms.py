@@ -188,6 +188,14 @@ def test_interfaces_of_a_service_that_is_shut_are_left_out() -> None:
     assert metered(f"{text}/configure service vprn 1 bgp shutdown\n") and metered(f"{text}/configure service vprn 1 no shutdown\n")
 
 
+def test_a_service_of_md_cli_without_an_admin_state() -> None:
+    text = MD.replace('    router "Base" {\n', '    service {\n        vprn "1" {\n', 1).replace("    system {", "    }\n    system {")
+    assert finding(read_text("nokia-sros", text), "`service vprn 1` has no admin-state").grade is Grade.PREMISE
+    enabled = text.replace('vprn "1" {\n', 'vprn "1" {\n            admin-state enable\n')
+    assert metered(enabled) == metered(text) and "vprn 1" not in "".join(lines(read_text("nokia-sros", enabled)))
+    assert not metered(enabled.replace('vprn "1" {\n            admin-state enable', 'vprn "1" {\n            admin-state disable'))
+
+
 def test_addresses_of_both_versions() -> None:
     text = MD.replace("            ipv4 {\n                primary {\n                    address 10.8.0.1\n", "            ipv6 {\n"
                       "                address 2001:db8::1 {\n                    prefix-length 64\n                }\n            }\n"

@@ -98,6 +98,7 @@ class _Reading:
         self.interfaces: dict[str, Interface] = {}
         self.owners: dict[str, tuple[str, ...]] = {}
         self.shut_owners: set[tuple[str, ...]] = set()
+        self.open_owners: set[tuple[str, ...]] = set()
         self.uses: dict[str, Use] = {}
         self.filters = Filters()
         self.attached: dict[tuple[str, str, int], str] = {}
@@ -144,6 +145,7 @@ class _Reading:
             self.shut_owners.add(owner)
         elif words == ["no", "shutdown"]:
             self.shut_owners.discard(owner)
+            self.open_owners.add(owner)
 
     def check_owner(self, name: str, owner: tuple[str, ...], place: Place) -> None:
         """Reports an interface whose name another service has too."""
@@ -378,6 +380,9 @@ class _Reading:
         elif owner in self.shut_owners:
             self.log.note(one.place, f"`{' '.join(owner)}` is shut, and {one.interface} is left out")
         else:
+            if self.is_model_driven and owner[:1] == ("service",) and owner not in self.open_owners:
+                self.log.premise(one.place, f"`{' '.join(owner)}` has no admin-state: it is taken to be enabled", "add `admin-state "
+                                 "enable`, if it is")
             return False
         return True
 
