@@ -8,8 +8,7 @@ import sys
 import traceback
 from typing import NoReturn, Sequence
 
-from once_tools.model import Unusable
-from once_tools.once_program import Failed
+from once_tools.model import Failed, Unusable
 from once_tools.report import line_of
 
 # The commands, with their modules.

@@ -7,7 +7,7 @@ report can cite files and lines.
 from __future__ import annotations
 
 import enum
-from dataclasses import dataclass, field
+from dataclasses import dataclass, field, replace
 from typing import Mapping
 
 
@@ -49,6 +49,7 @@ class Finding:
 
     `exporters` names the exporting processes of the device that the finding bears on: if none of them leads to the
     report, the merge lowers the finding to a note. An empty tuple bears on the device as a whole and is never lowered.
+    `is_failure` marks a file or program that failed, which the exit status distinguishes from wrong contents.
     """
 
     grade: Grade
@@ -59,6 +60,7 @@ class Finding:
     number: int | None = None
     device: str = ""
     exporters: tuple[str, ...] = ()
+    is_failure: bool = False
 
 
 class Direction(enum.Enum):
@@ -237,3 +239,11 @@ class Unusable(Exception):
     def __init__(self, place: Place, says: str, todo: str = "") -> None:
         super().__init__(says)
         self.finding = Finding(Grade.WRONG, place, says, todo)
+
+
+class Failed(Unusable):
+    """A file that cannot be read or written, or a program that cannot be run: a place, why, and what to do."""
+
+    def __init__(self, place: Place, says: str, todo: str = "") -> None:
+        super().__init__(place, says, todo)
+        self.finding = replace(self.finding, is_failure=True)

@@ -6,11 +6,7 @@ import subprocess
 from dataclasses import dataclass
 from pathlib import Path
 
-from once_tools.model import Place, Unusable
-
-
-class Failed(Unusable):
-    """A program that cannot be run."""
+from once_tools.model import Failed, Place
 
 
 @dataclass(frozen=True)

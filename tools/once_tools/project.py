@@ -8,8 +8,8 @@ from pathlib import Path
 from typing import Mapping
 
 from once_tools.elements import form_of, is_range
-from once_tools.model import Direction, Finding, Grade, Place, Topic, Unusable
-from once_tools.source import Source, read_source
+from once_tools.model import Direction, Failed, Finding, Grade, Place, Topic, Unusable
+from once_tools.source import Source, check_encoding, read_source
 from once_tools.toml_places import TomlPlaces
 from once_tools.toml_table import Table, nearest
 
@@ -156,7 +156,7 @@ class Project:
             if any(mark in pattern for mark in "*?["):
                 matches = sorted(self.folder.glob(pattern)) if not Path(pattern).is_absolute() else []
                 if not matches:
-                    raise Unusable(place, f"no file matches '{pattern}'", "name a file of the project's folder")
+                    raise Failed(place, f"no file matches '{pattern}'", "name a file of the project's folder")
                 found += matches
             else:
                 found.append(self.folder / pattern)
@@ -171,7 +171,7 @@ class Project:
                 found.append(read_source(path, name))
             except Unusable as why:
                 finding = why.finding
-                raise Unusable(place, f"file {name} {finding.says}", finding.todo) from why
+                raise type(why)(place, f"file {name} {finding.says}", finding.todo) from why
         return found
 
 
@@ -371,5 +371,7 @@ def _place_of(source: Source, message: str) -> Place:
 
 
 def read_project(path: Path) -> Project:
-    """Reads a project file; raises `Unusable` if it cannot be read at all."""
-    return parse_project(read_source(path), path.resolve().parent)
+    """Reads a project file; raises `Failed` if the file cannot be read, and `Unusable` if it is not TOML."""
+    source = read_source(path)
+    check_encoding(path, source)
+    return parse_project(source, path.resolve().parent)

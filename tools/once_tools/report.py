@@ -9,6 +9,7 @@ from typing import Iterable, Sequence
 from once_tools.model import Finding, Grade, Place
 from once_tools.project import Accept
 
+NO_DOCUMENT, FAILED = 2, 5
 ORDER = [Grade.WRONG, Grade.NOT_CARRIED_OVER, Grade.WARNING, Grade.PREMISE, Grade.NOTE]
 FORMATS = ("text", "json", "github")
 LONGEST = 160
@@ -105,9 +106,11 @@ class Report:
 
     @property
     def status(self) -> int:
-        """Returns 2 if no document can be made, 1 if something was not carried over and not accepted, otherwise 0."""
-        if any(one.grade is Grade.WRONG for one in self.findings):
-            return 2
+        """Returns 5 if a file cannot be read, 2 if no document can be made, 1 if something was not carried over and not
+        accepted, otherwise 0."""
+        wrong = [one for one in self.findings if one.grade is Grade.WRONG]
+        if wrong:
+            return FAILED if any(one.is_failure for one in wrong) else NO_DOCUMENT
         return int(any(one.grade is Grade.NOT_CARRIED_OVER and not self.accepted(one) for one in self.findings))
 
     def lines(self) -> list[str]:

@@ -144,7 +144,7 @@ def test_wrong_arguments(tmp_path: Path, arguments: list[str]) -> None:
 
 def test_a_project_that_is_missing(tmp_path: Path) -> None:
     found = run("none.toml", cwd=tmp_path)
-    assert (found.returncode, found.stdout) == (2, "")
+    assert (found.returncode, found.stdout) == (5, "")
     assert found.stderr.startswith("wrong none.toml: cannot be read: No such file or directory")
 
 

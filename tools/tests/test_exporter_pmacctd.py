@@ -50,6 +50,12 @@ def test_a_filter_of_a_plugin_does_not_apply_to_a_file() -> None:
     assert any("packets of a file" in one for one in meter.lost)
 
 
+def test_buffers_that_can_lose_packets_are_noted() -> None:
+    meter = read(["-i", "eth0", "-P", "nfprobe", "plugin_pipe_size=1000000", "pmacctd_pipe_size=1000000"])
+    assert [one.partition(":")[0] for one in meter.told if "is lost" in one] == ["plugin_pipe_size", "pmacctd_pipe_size"]
+    assert not meter.lost
+
+
 def test_addresses_that_are_counted_as_zero_are_not_carried_over() -> None:
     words = ["-i", "eth0", "-P", "nfprobe", "networks_file=/etc/networks.lst"]
     assert any("0.0.0.0" in one for one in read([*words, "networks_file_filter=true"]).lost) and not read(words).lost

@@ -11,7 +11,7 @@ import pytest
 from once_tools.model import Device, Direction, Finding, Grade, Interface, Place, Point
 from once_tools.paths import Declaration, cut_to_metered, declare
 from once_tools.paths.routes import Tables, read_routes
-from once_tools.paths.topology import same_names
+from once_tools.paths.spellings import Spellings
 from once_tools.project import parse_project
 from once_tools.source import Source
 
@@ -407,7 +407,7 @@ def test_a_device_without_a_table_is_wrong(tmp_path: Path) -> None:
     ("GigabitEthernet0/0/1", [])])
 def test_names_of_interfaces(name: str, expected: list[str]) -> None:
     names = ["GigabitEthernet0/0/0", "TenGigE0/1/0", "Bundle-Ether1", "ge-0/0/0.0", "ge-0/0/0.7"]
-    assert same_names(name, [Interface(one, Place("")) for one in names]) == expected
+    assert Spellings(Interface(one, Place("")) for one in names).same(name) == expected
 
 
 def test_wrong_names_are_wrong(tmp_path: Path) -> None:
@@ -534,3 +534,11 @@ def test_damaged_files_are_wrong(tmp_path: Path, name: str, text: str) -> None:
     declaration = declared(tmp_path, [EDGE], TRAFFIC + 'from = ["edge-1:Gi0/0/0"]\nto = ["edge-1:Te0/1/0"]\n',
                            edge_1=f'{name} = "file"')
     assert [one.place.file for one in declaration.findings if one.grade in (Grade.WRONG, Grade.NOT_CARRIED_OVER)] == ["file"]
+
+
+def test_a_subinterface_of_a_bundle_is_crossed_with_the_member_that_is_metered(tmp_path: Path) -> None:
+    """What a member meters has the packets of all subinterfaces of its bundle."""
+    one = device("a", "po1 members=e1", "po1.100 10.1.0.1/16", "e1", "x 10.2.0.1/16", metered=("e1:ingress", "po1.100:ingress"))
+    one.interfaces[1].parent = "po1"
+    declaration = declared(tmp_path, [one], TRAFFIC + 'from = ["a:po1.100"]\nto = ["a:x"]\n')
+    assert ways(declaration) == ["a:e1:in a:po1.100:in a:x:eg"]

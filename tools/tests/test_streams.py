@@ -9,6 +9,7 @@ from pathlib import Path
 import pytest
 
 from captures import (COLLECTOR, ROWS, data_chunk, ethernet, ipv4, ipv6, messages_of, pcap, pcapng, row, sctp, tcp, udp)
+from once_tools.import_main import main
 from once_tools.model import Grade
 from once_tools.streams.writing import Stream, read_capture, write_streams
 from programs import need
@@ -236,14 +237,9 @@ def test_streams_that_collect_reads_stay_whole(tmp_path: Path, name: str) -> Non
     (b"", "neither a pcap"), (b"\x1f\x8b\x08\0", "gunzip"), (b"\0\x0a\0\x10" + bytes(12), "is an IPFIX stream"),
     (pcap([])[:10], "file header"), (pcap([]) + struct.pack("<IIII", 0, 0, 1 << 30, 1 << 30), "damaged")])
 def test_other_files(tmp_path: Path, octets: bytes, words: str, capsys: pytest.CaptureFixture[str]) -> None:
-    from once_tools.commands import streams as command
-    import argparse
     path = tmp_path / "export.pcap"
     path.write_bytes(octets)
-    parser = argparse.ArgumentParser()
-    command.add_parser(parser.add_subparsers())
-    arguments = parser.parse_args(["streams", str(path), "--out", str(tmp_path / "out")])
-    assert arguments.run(arguments) == 2
+    assert main(["streams", str(path), "--out", str(tmp_path / "out")]) == 2
     assert words in capsys.readouterr().err and not (tmp_path / "out").exists()
 
 

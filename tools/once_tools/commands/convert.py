@@ -19,7 +19,8 @@ def add_parser(subparsers: Subparsers) -> None:
 
 
 def run(arguments: argparse.Namespace) -> int:
-    """Returns 0 if all was carried over or accepted, 1 if something was not, 2 if no document can be made."""
+    """Returns 0 if all was carried over or accepted, 1 if something was not, 2 if no document can be made, 5 if a file cannot be
+    read."""
     imported = import_project(read_project(arguments.project), options_of(arguments))
     if imported.pairs and arguments.out:
         write_texts(imported.texts(), arguments.out)

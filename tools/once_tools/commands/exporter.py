@@ -17,7 +17,7 @@ nfprobe), and one collector, which receives what goes to the first destination. 
 called with; those of pmacctd may name its file of settings (-f FILE), and set more as KEY=VALUE."""
 EPILOG = """What bears on totals and could not be carried over is printed on standard error, a line each that begins with
 `not carried over: `; what else is to be known follows in lines that begin with `note: `. Exit statuses: 0 all was carried
-over, 1 something was not, 2 no document can be made."""
+over, 1 something was not, 2 no document can be made, 5 a file cannot be read."""
 EXPORTERS = {"softflowd": softflowd.read, "pmacctd": pmacctd.read}
 
 
@@ -49,7 +49,7 @@ def run(arguments: argparse.Namespace) -> int:
         key = asked_key(arguments.key)
         meter = EXPORTERS[arguments.exporter](arguments.arguments)
         network = network_of(meter, key)
-    except (Unusable, table.Unreadable) as why:
+    except Unusable as why:
         print(why, file=sys.stderr)
         return 2
     print(json.dumps(network, indent=2, ensure_ascii=False))

@@ -2,11 +2,12 @@
 from __future__ import annotations
 
 import argparse
+import os
 import sys
 from pathlib import Path
 
 from once_tools.commands.options import Subparsers
-from once_tools.model import Place, Unusable
+from once_tools.model import Failed, Place
 from once_tools.proposal import project_text
 
 NAME = "new"
@@ -22,6 +23,7 @@ def add_parser(subparsers: Subparsers) -> None:
 def run(arguments: argparse.Namespace) -> int:
     """Prints the project."""
     if not arguments.folder.is_dir():
-        raise Unusable(Place(str(arguments.folder)), "this is no folder", "name the folder with the configurations")
+        raise Failed(Place(str(arguments.folder)), "this is no folder", "name the folder with the configurations")
+    os.listdir(arguments.folder)  # raises where the folder cannot be read: patterns would match nothing
     sys.stdout.write(project_text(arguments.folder))
     return 0

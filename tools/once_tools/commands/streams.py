@@ -5,8 +5,7 @@ import argparse
 import sys
 from pathlib import Path
 
-from once_tools.model import Unusable
-from once_tools.report import Report, line_of, printable
+from once_tools.report import Report, printable
 from once_tools.streams.writing import Stream, read_capture, write_streams
 
 DESCRIPTION = """Writes one IPFIX stream for `once collect` for each exporter and transport session of a capture (pcap or
@@ -26,13 +25,9 @@ def add_parser(subparsers: argparse._SubParsersAction[argparse.ArgumentParser]) 
 
 def run(arguments: argparse.Namespace) -> int:
     """Writes the streams; returns 0, 1 if something that counts is left out, or 2 if there is no stream."""
-    try:
-        streams, findings = read_capture(arguments.capture, tuple(arguments.port))
-        if streams:
-            write_streams(streams, arguments.out)
-    except Unusable as error:
-        print(line_of(error.finding), file=sys.stderr)
-        return 2
+    streams, findings = read_capture(arguments.capture, tuple(arguments.port))
+    if streams:
+        write_streams(streams, arguments.out)
     for stream in streams:
         print(_line(stream))
     report = Report(findings)

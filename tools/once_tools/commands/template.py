@@ -5,8 +5,7 @@ import argparse
 import sys
 from pathlib import Path
 
-from once_tools.model import Unusable
-from once_tools.report import line_of, printable
+from once_tools.report import printable
 from once_tools.streams.advice import bearing, document
 from once_tools.streams.capture import Reading
 from once_tools.streams.elements import name_of
@@ -31,11 +30,7 @@ def add_parser(subparsers: argparse._SubParsersAction[argparse.ArgumentParser]) 
 def run(arguments: argparse.Namespace) -> int:
     """Prints the templates; returns 0, or 2 if there are none."""
     survey, reading = Survey(), Reading(arguments.capture.name)
-    try:
-        Extraction(survey, tuple(arguments.port)).run(arguments.capture, reading)
-    except Unusable as error:
-        print(line_of(error.finding), file=sys.stderr)
-        return 2
+    Extraction(survey, tuple(arguments.port)).run(arguments.capture, reading)
     lines = [line for use in survey.uses for line in described(use)]
     for ends, records in survey.records_5.items():
         lines += [f"{ends}, NetFlow 5: {records} records of fixed fields, IPv4 alone, with counters of 4 octets", ""]

@@ -27,7 +27,7 @@ KNOWN = {"aggregate", "plugins", "pcap_interface", "pcap_savefile", "pcap_filter
          "pcap_direction", "nfprobe_receiver", "nfprobe_version", "nfprobe_maxflows", "nfprobe_timeouts",
          "nfprobe_engine", "nfprobe_dont_cache", "sampling_rate", "pmacctd_ext_sampling_rate", "sampling_map",
          "pcap_interfaces_map", "pre_tag_map", "pre_tag_filter", "snaplen", "promisc"}
-HARMLESS = re.compile(r"daemonize|debug|pidfile|syslog|logfile|core_proc_name|proc_name|plugin_(pipe|buffer)_size|"
+HARMLESS = re.compile(r"daemonize|debug|pidfile|syslog|logfile|core_proc_name|proc_name|plugin_(pipe|buffer)_size|pmacctd_pipe_size|"
                       r"nfprobe_(source_ip|hoplimit|ipprec|direction|ifindex|tstamp_usec|dtls.*)|pcap_interface_wait|"
                       r"pcap_ifindex|pcap_sf_.*|(timestamps|files|print|imt|sql|kafka|amqp|networks)_.*")
 
@@ -213,6 +213,9 @@ def tell(settings: Settings, meter: Meter) -> None:
     if settings.get("promisc", None, "true") == "true" and not settings.get("pcap_savefile"):
         meter.told.append("without promisc: false the interface is promiscuous: packets that pass it by on the wire "
                           "are seen too")
+    for key in ("plugin_pipe_size", "plugin_buffer_size", "pmacctd_pipe_size"):
+        if key in settings.keys():
+            meter.told.append("%s: what comes while this buffer is full is lost" % key)
     for key in settings.keys():
         if key not in KNOWN and not HARMLESS.fullmatch(key):
             meter.lost.append("%s: it isn't known here whether it bears on what is metered" % key)

@@ -3,11 +3,12 @@ from __future__ import annotations
 
 from dataclasses import dataclass, field, replace
 
-from once_tools.model import Crossing, Device, Direction, Finding, Grade, Place, Unusable
+from once_tools.model import Crossing, Device, Direction, Finding, Grade, Place, Topic, Unusable
 from once_tools.paths.batfish import batfish_paths
 from once_tools.paths.control import control_pieces
 from once_tools.paths.links import report_subnets
 from once_tools.paths.layers import layered, metered_by
+from once_tools.paths.nat import report_translation, translation_of
 from once_tools.paths.pieces import Declaration, Piece, beginnings
 from once_tools.paths.premises import meaning, premises
 from once_tools.paths.regions import Span, cut, span_of, whole
@@ -113,7 +114,8 @@ class _Declaring:
         if lacking:
             self.findings.append(Finding(Grade.PREMISE, one.place, f"IPv{version} is not configured at {listed(lacking)}: "
                                          f"no packet of '{one.name}' over IPv{version} comes in there"))
-        return [path for path in paths if (path[0].device, path[0].interface) not in lacking]
+        without = set(lacking)
+        return [path for path in paths if (path[0].device, path[0].interface) not in without]
 
     def _between_vrfs(self, one: Traffic, search: Search, found: list[Path], cut: set[Node]) -> list[Path]:
         """Returns paths for the interfaces that no path begins or ends at unless it leads from one VRF into another."""
@@ -300,19 +302,23 @@ def declare(devices: list[Device], project: Project) -> Declaration:
     for moments in making.tables.values():
         findings += [each for tables in moments for each in tables.findings]
     ends = {(path[-1].device, path[-1].interface) for piece in making.pieces for path in piece.paths if path}
-    findings += making.findings + report_subnets(topology, ends) + _premises(devices, project, pieces)
+    findings += making.findings + report_subnets(topology, ends) + _premises(devices, project, pieces, topology)
     return Declaration(pieces, topology, list(dict.fromkeys(findings)), _meaning(making))
 
 
-def _premises(devices: list[Device], project: Project, pieces: list[Piece]) -> list[Finding]:
+def _premises(devices: list[Device], project: Project, pieces: list[Piece], topology: Topology) -> list[Finding]:
     """Returns what the configurations of devices on the paths say that paths cannot follow."""
     on_paths = {one.device for piece in pieces for path in piece.paths for one in path}
     entries = {entry.name: entry for entry in project.devices}
+    metered = metered_by(devices)
     found: list[Finding] = []
     for device in devices:
         if device.name in on_paths and device.name in entries:
             entry = entries[device.name]
-            found += premises(device, project.sources(entry.config, entry.place))
+            sources = project.sources(entry.config, entry.place)
+            translation = translation_of(device, sources, topology)
+            found += premises(device, sources, {Topic.NAT} if translation else set())
+            found += report_translation(translation, pieces, metered) if translation else []
     return found
 
 

@@ -4,7 +4,7 @@ from __future__ import annotations
 import itertools
 from typing import Any, Iterable, Mapping
 
-from once_tools.model import Crossing, Device, Direction, Place, Unusable
+from once_tools.model import Crossing, Device, Direction, Interface, Place, Unusable
 from once_tools.paths.topology import Topology
 from once_tools.paths.ways import Path
 
@@ -48,19 +48,24 @@ def layered(path: Path, topology: Topology, metered: set[Crossing], place: Place
 
 
 def _layers(one: Crossing, topology: Topology, metered: set[Crossing]) -> list[Path]:
-    interfaces = topology.interfaces.get(one.device, {})
-    known = interfaces.get(one.interface)
-    members = known.members if known else []
+    members = _members(topology.interfaces.get(one.device, {}), one.interface)
     if any(Crossing(one.device, member, one.direction) in metered for member in members):
         return [_in_order(Crossing(one.device, member, one.direction), one) for member in members]
-    above = [Crossing(one.device, other.name, one.direction) for other in interfaces.values()
-             if one.interface in other.members]
+    above = [Crossing(one.device, name, one.direction)
+             for name in topology.bundles.get((one.device, one.interface), ())]
     above = [other for other in above if other in metered]
     main, dot, _ = one.interface.rpartition(".")
     below = Crossing(one.device, main, one.direction)
     if dot and one.device in topology.capturing and below in metered:
         return [_in_order(below, one)]
     return [_in_order(one, other) for other in above] or [(one,)]
+
+
+def _members(interfaces: Mapping[str, Interface], name: str) -> list[str]:
+    """Returns the ports of a VLAN or bundle; packets of a subinterface cross those of its main interface."""
+    known = interfaces.get(name)
+    main = interfaces.get(known.parent) if known else None
+    return (known.members if known else []) or (main.members if main else [])
 
 
 def _in_order(below: Crossing, above: Crossing) -> Path:

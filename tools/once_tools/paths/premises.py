@@ -63,10 +63,11 @@ def not_in_force(lines: Iterable[str]) -> tuple[str, ...]:
     return tuple((one[1] or f"set {one[2]}") + " " for one in found if one)
 
 
-def premises(device: Device, sources: Iterable[Source]) -> list[Finding]:
-    """Returns a finding for each kind of statement, at its first line, unless the reader has reported that line."""
+def premises(device: Device, sources: Iterable[Source], read: set[Topic] = set()) -> list[Finding]:
+    """Returns a finding for each kind of statement, at its first line, unless the reader has reported that line. `read` are
+    the topics that are reported in full elsewhere."""
     reported = {(one.place.file, one.place.line) for one in device.findings}
-    topics = {one.topic for one in device.findings if one.topic in (Topic.NAT, Topic.MPLS)}
+    topics = read | {one.topic for one in device.findings if one.topic in (Topic.NAT, Topic.MPLS)}
     found: dict[int, Finding] = {}
     more: dict[int, int] = {}
     for source in sources:

@@ -9,6 +9,7 @@ from typing import Mapping
 
 from once_tools.model import Cache, Destination, Device, Direction, Exporter, Interface, Place, Point, Topic, Unusable
 from once_tools.readers import filters
+from once_tools.readers.closing import IN_A_BUNDLE, close_subinterfaces
 from once_tools.readers.interface_names import aliases_of, parent_of
 from once_tools.readers.log import Log, sampling
 from once_tools.readers.paths_of_words import statements
@@ -19,6 +20,8 @@ from once_tools.source import Source
 
 KEYS = (*ADDRESSES, "protocolIdentifier", *PORTS)
 USUAL_PORT = 4739
+# Names of several interfaces.
+RANGE = re.compile(r",|\d-\d")
 HARMLESS = ("record export on inactive timeout", "record export on interval")
 HARMLESS_EXPORTER = ("format ipfix version 10", "template interval", "dscp")
 
@@ -50,6 +53,29 @@ class Section:
     trackers: dict[str, Tracker] = field(default_factory=dict)
 
 
+@dataclass
+class Port:
+    """How a port is switched: of which VLANs its packets are. `is_routed` says that it is not switched."""
+
+    is_routed: bool = False
+    is_trunk: bool = False
+    access: int = 1
+    allowed: set[int] | None = None
+
+
+def vlans_of(text: str) -> set[int] | None:
+    """Returns the VLANs of a list as `1,10-20`; None for all, or for words that are not known here."""
+    found: set[int] = set()
+    for part in text.split(","):
+        low, hyphen, high = part.partition("-")
+        if text == "none":
+            return set()
+        if not low.isdigit() or hyphen and not high.isdigit():
+            return None
+        found |= set(range(int(low), int(high or low) + 1))
+    return found
+
+
 class _Reading:
     """Reads one switch."""
 
@@ -58,8 +84,9 @@ class _Reading:
         self.device = Device(name, "arista-eos", [one.name for one in sources], findings=self.log.findings)
         self.sections: dict[str, Section] = {}
         self.interfaces: dict[str, Interface] = {}
-        self.uses: list[tuple[str, str, str, Place]] = []
+        self.uses: dict[tuple[str, str, str], Place] = {}
         self.bundled: dict[str, tuple[str, Place]] = {}
+        self.ports: dict[str, Port] = {}
         for source in sources:
             for one in statements(source):
                 self.take(one)
@@ -73,10 +100,19 @@ class _Reading:
             self.section(flow[0], self.sections.setdefault(flow[0], Section(one.place)), flow[1:], one.place)
         elif one.words[0] == "flow":
             self.log.unknown(one.place, " ".join(one.words[:3]), ["flow tracking hardware", "flow tracking sampled"])
+        elif interface and RANGE.search(interface[0]):
+            self.range(interface[0], interface[1:], one.place)
         elif interface:
             self.interface(interface[0], interface[1:], one.place)
         elif one.words[0] == "hostname" and len(one.words) == 2:
             self.device.hostname = one.words[1]
+        elif "flow" in one.words and {"tracker", "tracking"} & set(one.words) and one.words[0] != "hardware":
+            self.log.unknown(one.place, " ".join(one.words[:4]), ["flow tracking hardware", "flow tracking sampled"])
+
+    def range(self, name: str, words: list[str], place: Place) -> None:
+        """Takes a statement of several interfaces, as `Ethernet1-4` or `Ethernet1,Ethernet3`: no running configuration has it."""
+        self.log.lost(place, f"`interface {name}` names several interfaces, and the document has none of them",
+                      "give the output of `show running-config`", Topic.UNKNOWN)
 
     def section(self, kind: str, one: Section, words: list[str], place: Place) -> None:
         tracker, sample = match(words, "tracker *"), match(words, "sample *")
@@ -120,12 +156,17 @@ class _Reading:
         tracker, group = match(words, "flow tracker *"), match(words, "channel-group *")
         if words[:1] == ["flow"]:
             if tracker and tracker[0] in ("hardware", "sampled") and len(tracker) == 2:
-                if all(one[:3] != (name, tracker[0], tracker[1]) for one in self.uses):
-                    self.uses.append((name, tracker[0], tracker[1], place))
+                self.uses.setdefault((name, tracker[0], tracker[1]), place)
             else:
                 self.log.unknown(place, " ".join(words), ["flow tracker hardware", "flow tracker sampled"])
+        elif words[:2] == ["ipv6", "enable"] or words[:2] == ["ip", "unnumbered"] or words[:3] == ["ip", "address", "dhcp"]:
+            one.has |= {6 if words[0] == "ipv6" else 4}
         elif words[:2] in (["ip", "address"], ["ipv6", "address"]) and len(words) > 2:
-            self.address(one, words[2])
+            self.address(one, words[3] if words[2] == "virtual" and len(words) > 3 else words[2])
+        elif words[:1] == ["switchport"] or words == ["no", "switchport"]:
+            self.switchport(name, words)
+        elif "flow" in words and words[0] != "description":
+            self.log.unknown(place, " ".join(words), ["flow tracker hardware", "flow tracker sampled"])
         elif words[:1] == ["description"]:
             one.description = " ".join(words[1:])
         elif words[:1] == ["vrf"] and len(words) > 1:
@@ -137,6 +178,30 @@ class _Reading:
         elif group:
             self.bundled[name] = (f"Port-Channel{group[0]}", place)
 
+    def switchport(self, name: str, words: list[str]) -> None:
+        port = self.ports.setdefault(name, Port())
+        access, allowed = match(words, "switchport access vlan *"), match(words, "switchport trunk allowed vlan *")
+        if words[0] == "no":
+            port.is_routed = True
+        elif words[1:3] == ["mode", "trunk"]:
+            port.is_trunk = True
+        elif access and access[0].isdigit():
+            port.access = int(access[0])
+        elif allowed:
+            port.allowed = vlans_of(allowed[0])
+
+    def vlans(self) -> None:
+        """Makes switched ports members of the interfaces of their VLANs: a packet that is routed crosses both."""
+        svis = {int(name[4:]): one for name, one in self.interfaces.items() if re.fullmatch("Vlan[0-9]+", name)}
+        metered = {name for name, _, _ in self.uses}
+        for name, port in self.ports.items() if svis else ():
+            if port.is_routed or name in self.bundled or "." in name:
+                continue
+            of = set(svis) if port.is_trunk and port.allowed is None else port.allowed if port.is_trunk else {port.access}
+            for vlan in sorted(of or ()):
+                if vlan in svis and (name in metered or svis[vlan].name in metered):
+                    svis[vlan].members += [name] if name not in svis[vlan].members else []
+
     def address(self, one: Interface, text: str) -> None:
         try:
             found = str(ipaddress.ip_interface(text))
@@ -146,15 +211,17 @@ class _Reading:
 
     def read(self) -> Device:
         self.bundles()
+        self.vlans()
+        close_subinterfaces(self.interfaces)
         self.device.interfaces = list(self.interfaces.values())
-        for name, kind, tracker, place in self.uses:
+        for (name, kind, tracker), place in self.uses.items():
             self.use(name, kind, tracker, place)
         for kind, section in self.sections.items():
             self.meters(kind, section)
         return self.device
 
     def bundles(self) -> None:
-        metered = {name for name, _, _, _ in self.uses}
+        metered = {name for name, _, _ in self.uses}
         for name, (main, place) in self.bundled.items():
             members = self.interfaces.setdefault(main, Interface(main, place, aliases_of(main))).members
             members += [name] if name not in members else []
@@ -171,6 +238,10 @@ class _Reading:
             self.log.note(place, f"{name} is shut, and left out")
         else:
             known[tracker].uses.append((name, place))
+            if name in self.bundled:
+                bundle = self.bundled[name][0]
+                self.log.premise(place, IN_A_BUNDLE.format(name, bundle), f"meter at {bundle}", Topic.OTHER, None,
+                                 [f"{kind} {tracker} {one}" for one in known[tracker].exporters])
 
     def meters(self, kind: str, section: Section) -> None:
         """Adds what the trackers of a section meter and export."""

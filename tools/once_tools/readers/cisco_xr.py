@@ -9,6 +9,7 @@ from typing import Mapping
 
 from once_tools.model import Cache, Destination, Device, Direction, Exporter, Interface, Place, Point, Topic, Unusable
 from once_tools.readers import filters
+from once_tools.readers.closing import IN_A_BUNDLE, bundles_of, close_subinterfaces
 from once_tools.readers.interface_names import aliases_of, parent_of
 from once_tools.readers.log import Log, sampling
 from once_tools.readers.paths_of_words import statements
@@ -23,6 +24,9 @@ DIRECTIONS = {"ingress": Direction.INGRESS, "egress": Direction.EGRESS}
 HARMLESS_EXPORTER = ("dscp", "packet-length", "df-bit", "version")
 HARMLESS_OPTIONS = ("bgpattr", "outphysint", "outbundlemember")
 MOST_INTERFACES = 256
+# Words after the name of an interface, and words that only statements about flows have.
+KINDS_OF_INTERFACE = ("l2transport", "point-to-point", "multipoint")
+FLOW_MAPS = {"monitor", "monitor-map", "exporter-map", "sampler-map", "mon"}
 # What only a text of IOS-XR has.
 OWN = re.compile(r"(?m)^(!! IOS XR|interface (Bundle-Ether|TenGigE|HundredGigE|FortyGigE|MgmtEth)"
                  r"|interface GigabitEthernet\d+/\d+/\d+/\d)")
@@ -68,7 +72,7 @@ class _Reading:
         self.monitors: dict[str, MonitorMap] = {}
         self.samplers: dict[str, tuple[int | None, Place]] = {}
         self.interfaces: dict[str, Interface] = {}
-        self.uses: list[Use] = []
+        self.uses: dict[tuple[str, ...], Use] = {}
         self.found = 0
         for source in sources:
             for one in statements(source):
@@ -89,14 +93,16 @@ class _Reading:
                 self.found += not pattern.startswith("interface")
                 if found[1:2] == ["apply-group"]:
                     break
-                handler(found[0], found[1:], place)
+                is_kind = pattern.startswith("interface") and found[1:2] and found[1] in KINDS_OF_INTERFACE
+                handler(found[0], found[2 if is_kind else 1:], place)
                 return
         if words[0] == "hostname" and len(words) == 2:
             self.device.hostname = words[1]
         elif "apply-group" in words or words[0] == "apply-group":
             self.log.lost(place, "groups are not resolved, so what they bring is not in the document",
                           "send the output of `show running-config inheritance`")
-        elif words[0] in ("flow", "sampler-map") or match(words, "group *") and {"flow", "sampler"} & set(words):
+        elif words[0] in ("flow", "sampler-map") or {"flow", "sampler"} & set(words) and words[0] != "!!" \
+                and (match(words, "group *") or FLOW_MAPS & set(words)) or "netflow" in words:
             self.log.unknown(place, " ".join(words[:3]), ["flow exporter-map", "flow monitor-map", "sampler-map"])
 
     def exporter_map(self, name: str, words: list[str], place: Place) -> None:
@@ -157,8 +163,13 @@ class _Reading:
         bundle, vlan = match(words, "bundle id *"), match(words, "encapsulation dot1q *")
         if words[:1] == ["flow"]:
             self.use(name, words, place)
+        elif words[:2] in (["ipv4", "unnumbered"], ["ipv6", "enable"]) or words[:3] == ["ipv4", "address", "dhcp"] \
+                or words[:3] == ["ipv6", "address", "autoconfig"]:
+            one.has |= {4 if words[0] == "ipv4" else 6}
         elif words[:2] in (["ipv4", "address"], ["ipv6", "address"]) and len(words) > 2:
             self.address(one, words[2:])
+        elif "flow" in words and words[0] not in ("description", "!!"):
+            self.log.unknown(place, " ".join(words), ["flow ipv4 monitor", "flow ipv6 monitor", "flow mpls monitor"])
         elif words[:1] == ["description"]:
             one.description = " ".join(words[1:])
         elif words[:1] == ["vrf"] and len(words) == 2:
@@ -196,10 +207,11 @@ class _Reading:
 
     def add_use(self, use: Use) -> None:
         """Adds a monitor at an interface, once if a text has it twice."""
-        if all(replace(one, place=use.place) != use for one in self.uses):
-            self.uses.append(use)
+        self.uses.setdefault((use.interface, use.family, use.monitor, use.sampler, use.direction), use)
 
     def read(self) -> Device:
+        close_subinterfaces(self.interfaces)
+        self.bundles = bundles_of(self.interfaces, "Bundle-Ether")
         self.device.interfaces = list(self.interfaces.values())
         for name, one in self.exporters.items():
             self.exporter(name, one)
@@ -279,7 +291,7 @@ class _Reading:
 
     def points(self) -> None:
         groups: dict[tuple[str, str], list[Use]] = {}
-        for one in self.uses:
+        for one in self.uses.values():
             if self.is_usable(one):
                 groups.setdefault((one.monitor, one.direction), []).append(one)
         for (monitor, direction), found in groups.items():
@@ -316,6 +328,9 @@ class _Reading:
                            "name a monitor of the family")
             return False
         self.sampler(one, exporters)
+        if one.interface in self.bundles:
+            self.log.premise(one.place, IN_A_BUNDLE.format(one.interface, self.bundles[one.interface]),
+                             f"meter at {self.bundles[one.interface]}", Topic.OTHER, None, exporters)
         return any(cache.name == one.monitor for cache in self.device.caches)
 
     def sampler(self, one: Use, exporters: list[str]) -> None:

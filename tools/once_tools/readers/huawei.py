@@ -3,10 +3,12 @@ from __future__ import annotations
 
 import ipaddress
 import re
+from dataclasses import dataclass, field
 from typing import Mapping
 
 from once_tools.model import Cache, Destination, Device, Direction, Exporter, Interface, Place, Point, Topic, Unusable
 from once_tools.readers import filters
+from once_tools.readers.closing import IN_A_BUNDLE, bundles_of, close_subinterfaces
 from once_tools.readers.interface_names import aliases_of, parent_of
 from once_tools.readers.log import Log, sampling
 from once_tools.readers.paths_of_words import statements
@@ -24,6 +26,30 @@ KNOWN = ["ip netstream inbound", "ip netstream outbound", "ip netstream sampler 
          "ip netstream export host",
          "ip netstream export version", "ip netstream export source", "ip netstream timeout"]
 Sampler = tuple[str, int, Place]
+IN_AGGREGATION = ["enable", "ip netstream export host", "ip netstream export version", "ip netstream export source", "mask"]
+
+
+@dataclass
+class Aggregated:
+    """A section `ip netstream aggregation KIND`: it sends records of its own, to hosts of its own."""
+
+    name: str
+    place: Place
+    is_on: bool = False
+    hosts: list[Destination] = field(default_factory=list)
+    source: str = ""
+
+
+def vlans_of(words: list[str]) -> set[int]:
+    """Returns the VLANs of a list as `10 20 to 30`; `all` stands for all."""
+    if words == ["all"]:
+        return set(range(1, 4095))
+    found: set[int] = set()
+    for at, word in enumerate(words):
+        if word.isdigit():
+            low = int(words[at - 2]) if at > 1 and words[at - 1] == "to" and words[at - 2].isdigit() else int(word)
+            found |= set(range(low, int(word) + 1))
+    return found
 
 
 class _Reading:
@@ -33,11 +59,13 @@ class _Reading:
         self.log = Log(name)
         self.device = Device(name, "huawei", [one.name for one in sources], findings=self.log.findings)
         self.interfaces: dict[str, Interface] = {}
-        self.uses: list[tuple[str, str, str, Place]] = []
+        self.uses: dict[tuple[str, str, str], Place] = {}
         self.samplers: dict[tuple[str, str, str], Sampler] = {}
         self.versions: dict[str, tuple[str, Place]] = {}
         self.sources: dict[str, str] = {}
         self.hosts: dict[str, list[Destination]] = {"ip": [], "ipv6": []}
+        self.aggregated: dict[tuple[str, str], Aggregated] = {}
+        self.switched: dict[str, set[int]] = {}
         found = [one for source in sources for one in statements(source)]
         if not any(one.words[0] == "sysname" or "netstream" in one.words for one in found):
             raise Unusable(sources[0].place(0), "has no statement of VRP",
@@ -48,12 +76,18 @@ class _Reading:
     def take(self, one: Statement) -> None:
         interface = match(one.words, "interface *")
         netstream = match(one.words, "ip|ipv6 netstream")
+        aggregation = match(one.words, "ip|ipv6 netstream aggregation *")
         if interface:
             self.interface(interface[0], interface[1:], one.place)
+        elif aggregation:
+            self.aggregation(aggregation[0], aggregation[1], aggregation[2:], one.place)
         elif netstream:
             self.flow(netstream[0], netstream[1:], "", one.place)
         elif one.words[0] == "sysname" and len(one.words) == 2:
             self.device.hostname = one.words[1]
+        elif match(one.words, "slot * ip|ipv6 netstream sampler to slot"):
+            self.log.premise(one.place, "this has flows of the board processed: the boards of all metered interfaces are taken to "
+                             "have such a line, or to need none", "", Topic.OTHER)
         elif "netstream" in one.words:
             self.log.unknown(one.place, " ".join(one.words[:4]), KNOWN)
 
@@ -62,8 +96,13 @@ class _Reading:
         netstream = match(words, "ip|ipv6 netstream")
         if netstream:
             self.flow(netstream[0], netstream[1:], name, place)
+        elif words in (["ip", "address", "dhcp-alloc"], ["ipv6", "address", "auto", "link-local"]) \
+                or words[:3] == ["ip", "address", "unnumbered"]:
+            one.has |= {4 if words[0] == "ip" else 6}
         elif words[:2] in (["ip", "address"], ["ipv6", "address"]) and len(words) > 2:
             self.address(one, words[2:])
+        elif words[:3] == ["port", "default", "vlan"] or words[:4] == ["port", "trunk", "allow-pass", "vlan"]:
+            self.switched.setdefault(name, set()).update(vlans_of(words[3 if words[1] == "default" else 4:]))
         elif words == ["shutdown"]:
             one.is_shut = True
         elif words[:1] == ["description"]:
@@ -77,6 +116,14 @@ class _Reading:
         elif "netstream" in words:
             self.log.unknown(place, " ".join(words), KNOWN)
 
+    def vlans(self) -> None:
+        """Makes switched ports members of the interfaces of their VLANs: a packet that is routed crosses both."""
+        for name, vlans in self.switched.items():
+            for vlan in sorted(vlans):
+                one = self.interfaces.get(f"Vlanif{vlan}")
+                if one:
+                    one.members += [name] if name not in one.members else []
+
     def address(self, one: Interface, words: list[str]) -> None:
         text = f"{words[0]}/{words[1]}" if len(words) > 1 and re.match("[0-9]", words[1]) else words[0]
         try:
@@ -89,28 +136,63 @@ class _Reading:
         """Takes a statement of NetStream, of the router or of an interface."""
         sampler = match(words, "sampler * * inbound|outbound")
         if interface and words in (["inbound"], ["outbound"]):
-            if all(one[:3] != (interface, family, words[0]) for one in self.uses):
-                self.uses.append((interface, family, words[0], place))
+            self.uses.setdefault((interface, family, words[0]), place)
         elif sampler and sampler[0] in SAMPLERS and sampler[1].isdigit() and len(sampler) == 3:
             self.samplers[(interface, family, sampler[2])] = (sampler[0], int(sampler[1]), place)
         elif words[:1] == ["export"]:
             self.export(family, words[1:], place)
-        elif words[:1] == ["aggregation"] or words[:1] == ["record"]:
+        elif words[:1] == ["record"]:
             self.log.lost(place, f"{family} netstream {words[0]}: records of other keys are sent, which the document "
                           f"does not have",
                           "export original flows", Topic.MASK)
         elif not words or words[0] not in HARMLESS:
             self.log.unknown(place, " ".join([family, "netstream", *words]), KNOWN)
 
-    def export(self, family: str, words: list[str], place: Place) -> None:
+    def aggregation(self, family: str, kind: str, words: list[str], place: Place) -> None:
+        """Takes a statement of a section that aggregates records."""
+        name = f"{family} netstream aggregation {kind}"
+        one = self.aggregated.setdefault((family, kind), Aggregated(name, place))
+        export = match(words, "ip|ipv6 netstream export")
+        if words in (["enable"], ["undo", "enable"]):
+            one.is_on = words[0] == "enable"
+        elif export and export[1:2] == ["host"]:
+            found = self.host(export[1:], place)
+            one.hosts += [found] if found and found.name not in [host.name for host in one.hosts] else []
+        elif export and export[1:2] == ["source"] and len(export) > 2:
+            one.source = export[-1]
+        elif words and words[0] != "mask" and (not export or export[1:2] != ["version"]):
+            self.log.unknown(place, " ".join(words), IN_AGGREGATION)
+
+    def host(self, words: list[str], place: Place) -> Destination | None:
+        """Returns the destination of `host ADDRESS PORT [vpn-instance V] ..`, after a finding for other words."""
         host = match(words, "host * *")
-        if host and host[1].isdigit() and 0 < int(host[1]) < 65536 and host[2:3] in ([], ["vpn-instance"], ["version"]):
-            vrf = host[3] if host[2:3] == ["vpn-instance"] and len(host) > 3 else ""
-            found = Destination(destination_name(host[0], int(host[1])), host[0], int(host[1]), place, "udp", vrf)
-            if found.name not in [one.name for one in self.hosts[family]]:
+        if not host or not host[1].isdigit() or not 0 < int(host[1]) < 65536 \
+                or host[2:3] not in ([], ["vpn-instance"], ["version"]):
+            self.log.unknown(place, " ".join(["netstream export", *words]), KNOWN)
+            return None
+        vrf = host[3] if host[2:3] == ["vpn-instance"] and len(host) > 3 else ""
+        if host[2:3] == ["version"] or len(host) > 4:
+            self.log.unknown(place, " ".join(host[2 if host[2] == "version" else 4:]), KNOWN)
+        return Destination(destination_name(host[0], int(host[1])), host[0], int(host[1]), place, "udp", vrf)
+
+    def report_aggregations(self) -> None:
+        """Adds the exporters of aggregations, and reports that the document does not have their records."""
+        for (family, _), one in self.aggregated.items():
+            if not one.is_on:
+                self.log.note(one.place, "the aggregation is not enabled, and is left out")
+                continue
+            bears = (one.name,) if one.hosts else ()
+            if one.hosts:
+                self.device.exporters.append(Exporter(one.name, one.hosts, one.place, "parallel", one.source))
+            self.log.lost(one.place, f"{family} netstream aggregation: records of other keys are sent"
+                          f"{'' if one.hosts else ', and where to is not known'}, which the document does not have",
+                          "export original flows", Topic.MASK, None, bears)
+
+    def export(self, family: str, words: list[str], place: Place) -> None:
+        if words[:1] == ["host"]:
+            found = self.host(words, place)
+            if found and found.name not in [one.name for one in self.hosts[family]]:
                 self.hosts[family].append(found)
-            if host[2:3] == ["version"] or len(host) > 4:
-                self.log.unknown(place, " ".join(host[2 if host[2] == "version" else 4:]), KNOWN)
         elif words[:1] == ["version"] and len(words) > 1 and words[1] in ("5", "9", "ipfix"):
             self.versions[family] = (words[1], place)
         elif words[:1] == ["source"] and len(words) > 1:
@@ -119,11 +201,15 @@ class _Reading:
             self.log.unknown(place, " ".join([family, "netstream export", *words]), KNOWN)
 
     def read(self) -> Device:
+        self.vlans()
+        close_subinterfaces(self.interfaces)
+        self.bundles = bundles_of(self.interfaces, "Eth-Trunk")
         self.device.interfaces = list(self.interfaces.values())
         for family, version in FAMILIES.items():
-            found = [one for one in self.uses if one[1] == family]
+            found = [(*use, place) for use, place in self.uses.items() if use[1] == family]
             if found:
                 self.family(family, version, found)
+        self.report_aggregations()
         return self.device
 
     def family(self, family: str, version: int, found: list[tuple[str, str, str, Place]]) -> None:
@@ -165,6 +251,10 @@ class _Reading:
                 self.log.note(one[3], f"{one[0]} is shut, and left out")
             else:
                 open_ones.append(one)
+        for one in open_ones:
+            if one[0] in self.bundles:
+                self.log.premise(one[3], IN_A_BUNDLE.format(one[0], self.bundles[one[0]]), f"meter at {self.bundles[one[0]]}",
+                                 Topic.OTHER, None, exporters)
         rates = [self.sampler(one, exporters) for one in open_ones]
         if open_ones:
             self.device.points.append(Point(f"{name} {direction}", [one[0] for one in open_ones], DIRECTIONS[direction],

@@ -5,13 +5,14 @@ import re
 from typing import Mapping
 
 from once_tools.boxes import MOST_SELECTIONS, TooManyBoxes
-from once_tools.model import Cache, Destination, Device, Direction, Exporter, Place, Point, Selection, Topic, Unusable
+from once_tools.model import Cache, Destination, Device, Direction, Exporter, Interface, Place, Point, Selection, Topic, Unusable
 from once_tools.readers import filters
+from once_tools.readers.closing import close_subinterfaces
 from once_tools.readers.junos_config import FAMILIES, INHERITANCE, Collector, Instance, Sampling, Server
 from once_tools.readers.junos_terms import TermText, UnreadCondition, region_of, samples_and_ends
 from once_tools.readers.log import Log, sampling
 from once_tools.readers.records import ADDRESSES, PORTS, destination_name, fields
-from once_tools.readers.trees import braces, numbered, set_lines
+from once_tools.readers.trees import Statement, braces, numbered, set_lines
 from once_tools.source import Source
 
 KEYS = (*ADDRESSES, "protocolIdentifier", *PORTS, "ipClassOfService")
@@ -26,6 +27,11 @@ TOP = ("system", "interfaces", "chassis", "services", "forwarding-options", "fir
        "access", "event-options")
 
 
+def statements_of(source: Source) -> list[Statement]:
+    """Returns the statements of a text of `set` lines or of braces."""
+    return set_lines(source) if SET_LINE.search(source.text) else braces(source)
+
+
 class _Reading:
     """Reads one router."""
 
@@ -33,8 +39,7 @@ class _Reading:
         self.log = Log(name)
         self.device = Device(name, "junos", [one.name for one in sources], findings=self.log.findings)
         collector = Collector(self.log)
-        statements = [one for source in sources for one in (set_lines(source) if SET_LINE.search(source.text)
-                                                            else braces(source))]
+        statements = [one for source in sources for one in statements_of(source)]
         if not any(one.words[0] in TOP for one in statements):
             raise Unusable(sources[0].place(0), "has no statement of Junos",
                            "give the output of `show configuration | display set`")
@@ -55,7 +60,7 @@ class _Reading:
 
     def read(self) -> Device:
         self.device.hostname = self.config.hostname
-        self.device.interfaces = list(self.config.interfaces.values())
+        self.device.interfaces = self.interfaces()
         for one in self.device.interfaces:
             one.vrf = self.config.vrfs.get(one.name, one.vrf)
         for instance in self.config.instances.values():
@@ -63,6 +68,20 @@ class _Reading:
         self.points()
         self.report_rest()
         return self.device
+
+    def interfaces(self) -> list[Interface]:
+        """Returns the units, and the ports without units. A port with units carries packets of its units alone, so that its
+        name stands for them; they have its description and its members, and are shut with it."""
+        known = self.config.interfaces
+        close_subinterfaces(known)
+        units = [one for one in known.values() if one.parent]
+        for one in units:
+            port = known.get(one.parent)
+            if port:
+                one.description = one.description or port.description
+                one.members += [name for name in port.members if name not in one.members]
+        with_units = {one.parent for one in units}
+        return [one for one in known.values() if one.name not in with_units]
 
     def instance(self, one: Instance) -> None:
         """Adds the exporters and caches of an instance."""

@@ -11,11 +11,13 @@ from typing import Iterator, Mapping
 
 from once_tools.model import Cache, Destination, Device, Direction, Exporter, Interface, Place, Point, Topic, Unusable
 from once_tools.readers import filters
-from once_tools.readers.command_line import logical_lines
+from once_tools.readers.closing import close_subinterfaces
 from once_tools.readers.log import Log
 from once_tools.readers.records import ADDRESSES, PORTS, destination_name, fields
+from once_tools.readers.trees import numbered
 from once_tools.source import Source
 
+MENUS = ("interface", "ip", "ipv6", "system", "routing", "ppp", "queue", "snmp")
 VERBS = ("add", "set", "remove", "disable", "enable")
 FLOW = {"enabled", "interfaces", "active-flow-timeout", "inactive-flow-timeout", "cache-entries", "packet-sampling",
         "sampling-interval",
@@ -32,6 +34,8 @@ VERSIONS = {"1": 1, "5": 5, "9": 9, "ipfix": 10}
 COUNTS = {"ingress": Direction.INGRESS, "both": Direction.BOTH}
 NAME = "traffic-flow"
 FOUND = re.compile(r"\[ ?find [^\]]*\]")
+# The name that an interface has unless the line sets another.
+DEFAULT_NAME = re.compile(r"\[ ?find default-name=([^\s\]]+) ?\]")
 WORDS = re.compile(r'(?:[^\s"]|"(?:[^"\\]|\\.)*"?)+')
 QUOTES = re.compile('"')
 
@@ -46,19 +50,37 @@ class Line:
     place: Place = Place("")
 
 
+def joined_lines(source: Source) -> Iterator[tuple[int, str]]:
+    """Yields the lines of an export with their numbers. A backslash at the end continues a line, without the spaces before the
+    rest: an export breaks lines within words too."""
+    first, text = 0, ""
+    for number, line in numbered(source):
+        text, first = (text + line.strip(), first) if first else (line.strip(), number)
+        if text.endswith("\\"):
+            text = text[:-1]
+            continue
+        if text and not text.startswith("#"):
+            yield first, text
+        first, text = 0, ""
+    if text:
+        yield first, text
+
+
 def commands_of(source: Source) -> Iterator[Line]:
     """Yields the commands of an export; the menu stands in the line, or in a line before."""
     menu: list[str] = []
-    for number, text in logical_lines(source):
+    for number, text in joined_lines(source):
         place = Place(source.name, number, text)
         words = [QUOTES.sub("", word) for word in WORDS.findall(FOUND.sub("", text))]
+        default = DEFAULT_NAME.search(text)
         verb = next((index for index, word in enumerate(words) if word in VERBS), len(words))
-        if words and words[0].startswith("/"):
+        if words and re.match("/[a-z]", words[0]):
             menu = words[:verb]
         if verb < len(words):
             pairs = [word.partition("=") for word in words[verb + 1:]]
+            values = {"name": default[1]} if default else {}
             yield Line(" ".join(menu).lstrip("/").replace("/", " "), words[verb],
-                       {key: value for key, _, value in pairs}, place)
+                       values | {key: value for key, _, value in pairs}, place)
 
 
 class _Reading:
@@ -68,16 +90,18 @@ class _Reading:
         self.log, self.options = Log(name), options
         self.device = Device(name, "mikrotik", [one.name for one in sources], findings=self.log.findings)
         self.lines = [one for source in sources for one in commands_of(source)]
-        if not any(one.menu for one in self.lines):
+        if not any(one.menu.split(" ")[0] in MENUS for one in self.lines):
             raise Unusable(sources[0].place(0), "has no command of RouterOS", "give the output of `/export terse`")
         self.settings: dict[str, str] = {}
         self.place = Place(sources[0].name)
         self.records: dict[str, tuple[str, Place]] = {}
         self.interfaces: dict[str, Interface] = {}
+        self.bridged: dict[str, tuple[str, Place]] = {}
 
     def read(self) -> Device:
         for one in self.lines:
             self.take(one)
+        close_subinterfaces(self.interfaces)
         self.device.interfaces = list(self.interfaces.values())
         if self.settings.get("enabled", "no") != "yes":
             self.log.note(self.place, "traffic-flow is not enabled: nothing is metered")
@@ -106,11 +130,22 @@ class _Reading:
             name = one.values.get("interface", "")
             known = self.interfaces.setdefault(name, Interface(name, one.place)).addresses
             known += [one.values["address"]] if one.values.get("address", "") not in ("", *known) else []
+        elif one.menu == "interface bridge port" and one.verb == "add" and one.values.get("disabled") != "yes":
+            self.bridged[one.values.get("interface", "")] = (one.values.get("bridge", ""), one.place)
         elif one.menu.startswith("interface ") and one.values.get("name"):
+            for name in filter(None, one.values.get("slaves", "").split(",")):
+                self.bridged[name] = (one.values["name"], one.place)
             found = self.interfaces.setdefault(one.values["name"], Interface(one.values["name"], one.place))
-            found.description = one.values.get("comment", "")
-            found.is_shut = one.values.get("disabled") == "yes"
-            found.parent = one.values.get("interface", "") if one.menu == "interface vlan" else ""
+            found.description = one.values.get("comment", found.description)
+            found.is_shut = one.values.get("disabled", "yes" if found.is_shut else "no") == "yes"
+            found.parent = one.values.get("interface", found.parent) if one.menu == "interface vlan" else found.parent
+            found.vlan = int(one.values["vlan-id"]) if one.values.get("vlan-id", "").isdigit() else found.vlan
+        elif one.menu == "ip vrf" and one.verb == "add":
+            self.vrf(one)
+
+    def vrf(self, one: Line) -> None:
+        for name in filter(None, one.values.get("interfaces", "").split(",")):
+            self.interfaces.setdefault(name, Interface(name, one.place)).vrf = one.values.get("name", "")
 
     def target(self, one: Line) -> None:
         for key in sorted(set(one.values) - TARGET):
@@ -129,6 +164,9 @@ class _Reading:
         if name not in [other.name for other in self.device.exporters]:
             self.device.exporters.append(Exporter(name, [where], one.place, "parallel",
                                                   one.values.get("src-address", "")))
+        if "version" not in one.values:
+            self.log.premise(one.place, "no version is given: NetFlow 9 is taken to be sent", "set version=ipfix", Topic.OTHER, None,
+                             (name,))
         if version != 10:
             self.log.note(one.place, f"NetFlow {version} is not IPFIX: the audit is the same, but `once collect` "
                           f"refuses its messages",
@@ -145,6 +183,9 @@ class _Reading:
             self.device.caches.append(Cache(cache, "timeout", fields(keys, version, self.place), able, self.place))
             selections.append(filters.whole_family(cache, version, cache, self.place))
         names = self.names(exporters)
+        if not names:
+            self.log.note(self.place, "no interface is metered", exporters=exporters)
+            return
         self.device.points.append(Point(NAME, names, self.direction(exporters), selections, self.place,
                                         [self.place] * len(names)))
 
@@ -155,16 +196,49 @@ class _Reading:
     def names(self, exporters: list[str]) -> list[str]:
         text = self.settings.get("interfaces", "all")
         if text != "all":
-            names = [name for name in text.split(",") if name]
-            for name in names:
-                self.interfaces.setdefault(name, Interface(name, self.place))
+            names = self.listed([name for name in text.split(",") if name], exporters)
             self.device.interfaces = list(self.interfaces.values())
             return names
         names = [one.name for one in self.interfaces.values() if not one.is_shut]
+        self.report_bridges(names, exporters)
         self.log.premise(self.place, f"`interfaces` is all; the export names {', '.join(names) or 'none'}",
                          "name the interfaces", Topic.OTHER, None,
                          exporters)
         return names or ["all"]
+
+    def listed(self, names: list[str], exporters: list[str]) -> list[str]:
+        """Returns the interfaces of a list that are not disabled; a name that the export does not have is reported."""
+        found = []
+        for name in names:
+            if name not in self.interfaces:
+                self.log.premise(self.place, f"interface {name} is not in this export, which leaves out interfaces without "
+                                 "settings of their own: it is taken to be one, and no list of interfaces", "name the "
+                                 "interfaces of a list", Topic.OTHER, None, exporters)
+            one = self.interfaces.setdefault(name, Interface(name, self.place))
+            if one.is_shut:
+                self.log.note(self.place, f"{name} is disabled, and left out", exporters=exporters)
+            else:
+                found.append(name)
+        self.report_bridges(found, exporters)
+        self.report_vlans(found, exporters)
+        return found
+
+    def report_vlans(self, names: list[str], exporters: list[str]) -> None:
+        """Reports VLANs that are not listed beside their interface."""
+        for one in self.interfaces.values():
+            if one.parent in names and one.name not in names and not one.is_shut:
+                self.log.premise(one.place, f"{one.name} is a VLAN of {one.parent}, which is listed without it: its packets are "
+                                 "taken not to be metered", f"list {one.name}, if it is to be metered", Topic.OTHER, None,
+                                 exporters)
+
+    def report_bridges(self, names: list[str], exporters: list[str]) -> None:
+        """Reports ports of bridges that are metered beside their bridge."""
+        for name in names:
+            bridge, place = self.bridged.get(name, ("", self.place))
+            if bridge in names:
+                self.log.premise(place, f"{name} is a port of {bridge}, and both are listed: packets that are routed are taken to "
+                                 f"be metered at {bridge} alone", f"list {bridge} without its ports", Topic.OTHER, None,
+                                 exporters)
 
     def direction(self, exporters: list[str]) -> Direction:
         found = COUNTS.get(self.options.get("counts", ""))

@@ -10,6 +10,7 @@ from once_tools.readers.log import Log
 from once_tools.readers.nfacctd_filters import Key, aggregations_of
 from once_tools.readers.pcap_filter import UnreadFilter
 from once_tools.readers.pmacct_keys import PRIMITIVES, USUAL, WITHOUT_AXIS
+from once_tools.readers.pmacct_losses import Losses
 from once_tools.readers.pmacct_settings import (NETWORKS_FILTER, Plugin, Settings, is_networks_filter, other_source,
                                                 plugins_of, report_others, report_repeated, report_unknown, settings_of)
 from once_tools.readers.records import destination_name
@@ -68,10 +69,15 @@ class _Reading:
                 self.log.unknown(self.place("plugins"), plugin.kind, [*STORING, "tee"])
         self.device.listeners.insert(0, listener)
         self.report_rest()
+        Losses(self.settings, self.log, self.bears).report(self.plugins, self.place("plugins"))
         report_others(self.sources, self.settings.lines_in_force(FILES, [one.name for one in self.plugins]), self.log)
         report_repeated(self.settings, self.log)
         report_unknown(self.settings, self.plugins, KNOWN, self.log)
         return self.device
+
+    def bears(self, plugin: Plugin | None) -> tuple[str, ...]:
+        """Returns the exporters that a plugin's losses bear on; those of a plugin that stores bear on the collector."""
+        return (plugin.name,) if plugin and plugin.name in [one.name for one in self.device.exporters] else ()
 
     def accepts(self) -> list[str] | None:
         """Returns the senders of the allow file, None if any may send."""
@@ -208,7 +214,7 @@ class _Reading:
             elif one.key in LEAVING_OUT:
                 self.lost_filter(one.place)
             elif is_networks_filter(one):
-                self.log.lost(one.place, NETWORKS_FILTER, "take it out", Topic.FILTER)
+                self.log.lost(one.place, NETWORKS_FILTER, "take it out", Topic.MASK)
             elif one.key.endswith("_preprocess"):
                 self.log.lost(one.place, "the plugin may leave out totals before it stores them, but the document counts "
                               "all of them", "take it out", Topic.FILTER)

@@ -12,6 +12,7 @@ from once_tools.readers.capture import Capture, captures_of
 from once_tools.readers.log import Log, sampling
 from once_tools.readers.pcap_filter import UnreadFilter, region_of
 from once_tools.readers.pmacct_keys import PRIMITIVES, USUAL, WITHOUT_AXIS
+from once_tools.readers.pmacct_losses import Losses
 from once_tools.readers.pmacct_settings import (NETWORKS_FILTER, Plugin, is_networks_filter, plugins_of, report_others,
                                                 report_repeated, report_unknown, settings_of)
 from once_tools.readers.records import destination_name, fields
@@ -62,6 +63,8 @@ class _Reading:
         self.device.points = [self.point(capture, selections, len(captures) > 1) for capture in captures]
         self.report_overlaps(selections)
         self.report_rest()
+        Losses(self.settings, self.log, lambda plugin: (plugin.name,) if plugin else self.everywhere).report(
+            self.probes, self.place("plugins"))
         report_others(self.sources, self.settings.lines_in_force(FILES, [one.name for one in self.plugins]), self.log)
         report_repeated(self.settings, self.log)
         report_unknown(self.settings, self.plugins, KNOWN, self.log)
@@ -239,7 +242,7 @@ class _Reading:
             if one.key in SAMPLING and one.value not in ("0", "1"):
                 self.log.sampler(one.place, one.value if one.value.isdigit() else "N", exporters)
             elif is_networks_filter(one):
-                self.log.lost(one.place, NETWORKS_FILTER, "take it out", Topic.FILTER, None, exporters)
+                self.log.lost(one.place, NETWORKS_FILTER, "take it out", Topic.MASK, None, exporters)
             elif one.key == "pcap_savefile" and (self.settings.last("pcap_interface") or self.settings.last("pcap_interfaces_map")):
                 self.log.lost(one.place, "packets come from this file, and not from the interface that the document has",
                               "take one of them out", Topic.OTHER, None, exporters)

@@ -3,7 +3,7 @@ from __future__ import annotations
 
 import re
 from dataclasses import dataclass, field
-from typing import Iterator
+from typing import Callable, Iterator
 
 from once_tools.model import Place
 from once_tools.source import Source
@@ -49,7 +49,13 @@ def numbered(source: Source) -> Iterator[tuple[int, str]]:
         yield number, PAGER.sub("", line, count=1).replace("\r", "").replace("\x08", "")
 
 
-def indented(source: Source, comments: tuple[str, ...] = ("!", "#")) -> Node:
+def plain_words(line: str) -> Words:
+    """Returns the words of a line."""
+    return tuple(line.split())
+
+
+def indented(source: Source, comments: tuple[str, ...] = ("!", "#"),
+             words_of: Callable[[str], Words] = plain_words) -> Node:
     """Returns the tree of a text in which indentation makes the levels; the root has no words and line 0."""
     root = Node((), Place(source.name), -1)
     stack = [root]
@@ -58,7 +64,7 @@ def indented(source: Source, comments: tuple[str, ...] = ("!", "#")) -> Node:
         if not stripped or stripped.startswith(comments):
             continue
         depth = len(line) - len(line.lstrip())
-        node = Node(tuple(stripped.split()), Place(source.name, number, stripped), depth)
+        node = Node(words_of(stripped), Place(source.name, number, stripped), depth)
         while stack[-1].depth >= depth:
             stack.pop()
         stack[-1].children.append(node)
@@ -235,3 +241,36 @@ def settings(source: Source, comments: tuple[str, ...] = ("!", "#")) -> tuple[li
         else:
             found.append(Setting(match[1], match[3].strip(), place, match[2] or ""))
     return found, others
+
+
+QUOTED = re.compile(r'"((?:[^"\\]|\\.)*)"|\'([^\']*)\'|(\S+)')
+
+
+def quoted_words(line: str) -> Words:
+    """Returns the words of a line; what is between quotation marks is one word."""
+    return tuple(next(part for part in found if part is not None) for found in
+                 ([one[1], one[2], one[3]] for one in QUOTED.finditer(line)))
+
+
+def braced_lines(source: Source, comments: tuple[str, ...] = ("#", "//")) -> list[Statement]:
+    """Returns the statements of a text with braces in which each line is a statement, as VyOS' config.boot and SR OS write it.
+
+    A section without statements in it is a statement of its own.
+    """
+    found: list[Statement] = []
+    path: list[tuple[Words, Place, int]] = []
+    for number, line in uncommented(source):
+        stripped = line.strip()
+        if not stripped or stripped.startswith(comments):
+            continue
+        place = Place(source.name, number, stripped)
+        above = tuple(word for words, _, _ in path for word in words)
+        if stripped == "}":
+            if path:
+                words, at, count = path.pop()
+                found += [Statement(above, at)] if len(found) == count else []
+        elif stripped.endswith("{"):
+            path.append((quoted_words(stripped[:-1].strip()), place, len(found)))
+        else:
+            found.append(Statement(above + quoted_words(stripped), place))
+    return found

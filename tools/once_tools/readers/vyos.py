@@ -1,4 +1,4 @@
-"""VyOS 1.3 and 1.4: flow accounting, which is pmacct's uacctd, from `show configuration commands`."""
+"""VyOS 1.3 and 1.4: flow accounting, which is pmacct's uacctd, from `show configuration commands` or config.boot."""
 from __future__ import annotations
 
 import re
@@ -7,13 +7,20 @@ from typing import Mapping
 
 from once_tools.model import Cache, Destination, Device, Direction, Exporter, Interface, Place, Point, Topic, Unusable
 from once_tools.readers import filters
+from once_tools.readers.closing import bundles_of, close_subinterfaces
 from once_tools.readers.log import Log, sampling
 from once_tools.readers.records import SEVEN, destination_name, fields
 from once_tools.readers.statements import match
-from once_tools.readers.trees import Statement, set_lines
+from once_tools.readers.trees import Statement, braced_lines, numbered, set_lines
 from once_tools.source import Source
 
-HARMLESS = ("disable-imt", "buffer-size", "packet-length", "syslog-facility")
+HARMLESS = ("disable-imt", "syslog-facility")
+FLOW_WORDS = {"flow-accounting", "netflow"}
+# The sections of config.boot that are read; without one of them a text in braces is of another kind.
+SECTIONS = {"interfaces", "system", "nat", "protocols", "service"}
+BRACED = re.compile(r"(?m)^\s*(interfaces|system|nat|protocols|service)\s*\{\s*$")
+USUAL_LENGTH = 128
+EDIT = re.compile(r"\s*(edit|up|top|rename|copy|load|merge|rollback)\b")
 TIMEOUTS = {"max-active-life": "activeTimeout", "flow-generic": "idleTimeout"}
 OTHER_TIMEOUTS = ("expiry-interval", "icmp", "tcp-fin", "tcp-generic", "tcp-rst", "udp")
 KNOWN = ["interface", "enable-egress", "netflow server", "netflow version", "netflow sampling-rate",
@@ -38,14 +45,16 @@ class Rule:
     place: Place
     interface: str = ""
     source: str = ""
+    translation: str = ""
     is_disabled: bool = False
+    excludes: bool = False
 
 
 @dataclass
 class Accounting:
     """What flow accounting says."""
 
-    interfaces: list[tuple[str, Place]] = field(default_factory=list)
+    interfaces: dict[str, Place] = field(default_factory=dict)
     servers: dict[str, Server] = field(default_factory=dict)
     version: tuple[str, Place] | None = None
     rate: tuple[int, Place] | None = None
@@ -64,12 +73,33 @@ class _Reading:
         self.accounting = Accounting()
         self.interfaces: dict[str, Interface] = {}
         self.rules: dict[tuple[str, str], Rule] = {}
-        lines = [one for source in sources for one in set_lines(source)]
+        lines = [one for source in sources for one in self.statements(source)]
         if not lines:
-            raise Unusable(sources[0].place(0), "has no line that begins with `set`",
-                           "give the output of `show configuration commands`")
+            raise Unusable(sources[0].place(0), "has no line that begins with `set`, and no section in braces",
+                           "give the output of `show configuration commands`, or config.boot")
         for one in lines:
             self.take(Statement(tuple(word.strip("'") for word in one.words), one.place))
+
+    def statements(self, source: Source) -> list[Statement]:
+        """Returns the statements of `set` lines, or of sections in braces. A `set` line that is deactivated is none."""
+        if not BRACED.search(source.text):
+            self.report_edits(source)
+            found = set_lines(source)
+            for one in found:
+                if one.inactive and FLOW_WORDS & set(one.words):
+                    self.log.note(one.place, "this is deactivated: not in force, and left out")
+            return [one for one in found if not one.inactive]
+        found = braced_lines(source)
+        if not any(one.words[0] in SECTIONS for one in found):
+            return []
+        return found
+
+    def report_edits(self, source: Source) -> None:
+        """Reports commands that change a configuration, which no output of `show configuration commands` has."""
+        for number, line in numbered(source):
+            if EDIT.match(line):
+                self.log.lost(Place(source.name, number, line.strip()), "this command changes the configuration, and it is not "
+                              "applied here", "give the output of `show configuration commands`", Topic.UNKNOWN)
 
     def take(self, one: Statement) -> None:
         flow = match(one.words, "system flow-accounting")
@@ -92,13 +122,20 @@ class _Reading:
         """Takes a statement of flow accounting."""
         known = self.accounting
         if words[:1] == ["interface"] and len(words) == 2:
-            known.interfaces += [(words[1], place)] if words[1] not in [name for name, _ in known.interfaces] else []
+            known.interfaces.setdefault(words[1], place)
         elif words == ["enable-egress"]:
             known.egress = place
         elif words[:1] == ["sflow"]:
             self.log.note(place, "sFlow sends samples of packets and no flow records")
         elif words[:1] == ["netflow"]:
             self.netflow(words[1:], place)
+        elif words[:1] == ["packet-length"] and len(words) == 2 and words[1].isdigit():
+            if int(words[1]) < USUAL_LENGTH:
+                self.log.lost(place, "packets are captured in part: where headers are cut, ports are not seen",
+                              f"write {USUAL_LENGTH} or more, or leave it out", Topic.OTHER)
+        elif words[:1] == ["buffer-size"] and len(words) == 2 and words[1].isdigit():
+            self.log.note(place, f"packets wait in a buffer of {words[1]} MB for each server: those that come while it is full "
+                          "are lost")
         elif words and words[0] not in HARMLESS:
             self.log.unknown(place, " ".join(words[:2]), KNOWN)
 
@@ -137,13 +174,14 @@ class _Reading:
     def interface(self, name: str, words: list[str], place: Place) -> None:
         """Takes a statement of an interface, or of a VLAN below it."""
         one = self.interfaces.setdefault(name, Interface(name, place))
-        vlan = match(words, "vif *")
-        if vlan:
-            one = self.interfaces.setdefault(f"{name}.{vlan[0]}", Interface(f"{name}.{vlan[0]}", place, parent=name))
-            one.vlan = int(vlan[0]) if vlan[0].isdigit() else None
-            words = vlan[1:]
+        while vlan := match(words, "vif|vif-s|vif-c *"):
+            above, name, words = name, f"{name}.{vlan[1]}", vlan[2:]
+            one = self.interfaces.setdefault(name, Interface(name, place, parent=above))
+            one.vlan = int(vlan[1]) if vlan[1].isdigit() else None
         if words[:1] == ["address"] and len(words) == 2 and "/" in words[1]:
             one.addresses += [words[1]] if words[1] not in one.addresses else []
+        elif words in (["address", "dhcp"], ["address", "dhcpv6"]) or words[:2] == ["ipv6", "address"]:
+            one.has |= {4 if words[1] == "dhcp" else 6}
         elif words[:1] == ["description"]:
             one.description = " ".join(words[1:]).strip("'")
         elif words == ["disable"]:
@@ -169,10 +207,15 @@ class _Reading:
             rule.interface, rule.place = rest[-1], place
         elif rest[:2] == ["source", "address"] and len(rest) > 2:
             rule.source = rest[2]
+        elif rest[:2] == ["translation", "address"] and len(rest) > 2 and rest[2] != "masquerade":
+            rule.translation = rest[2]
         elif rest == ["disable"]:
             rule.is_disabled = True
+        elif rest == ["exclude"]:
+            rule.excludes = True
 
     def read(self) -> Device:
+        close_subinterfaces(self.interfaces)
         self.device.interfaces = list(self.interfaces.values())
         known = self.accounting
         if known.interfaces and known.servers:
@@ -180,7 +223,7 @@ class _Reading:
             self.report_nat()
             self.report_vlans()
         elif known.interfaces or known.servers:
-            place = known.interfaces[0][1] if known.interfaces else next(iter(known.servers.values())).place
+            place = next(iter(known.interfaces.values()), None) or next(iter(known.servers.values())).place
             what = "no netflow server: nothing is exported" if known.interfaces else "no interface: nothing is metered"
             self.log.note(place, f"flow-accounting has {what}")
         return self.device
@@ -212,7 +255,8 @@ class _Reading:
     def metered(self) -> list[tuple[str, Place]]:
         """Returns the interfaces of flow accounting that are not disabled."""
         found = []
-        for name, place in self.accounting.interfaces:
+        bundled = bundles_of(self.interfaces, "b")  # bond0, br0
+        for name, place in self.accounting.interfaces.items():
             interface = self.interfaces.get(name)
             if interface is None:
                 self.log.lost(place, f"interface {name} is not in this configuration", "correct its name",
@@ -221,6 +265,9 @@ class _Reading:
                 self.device.interfaces.append(interface)
             if interface.is_shut:
                 self.log.note(place, f"{name} is disabled, and left out")
+            elif name in bundled:
+                self.log.premise(place, f"{name} is a member of {bundled[name]}, at which IP has its packets: it is taken to meter "
+                                 "nothing", f"meter at {bundled[name]}", Topic.OTHER, None, list(self.accounting.servers))
             else:
                 found.append((name, place))
         return found
@@ -232,7 +279,7 @@ class _Reading:
 
     def report_meter(self, exporters: list[str], count: int) -> None:
         known, log = self.accounting, self.log
-        first = known.interfaces[0][1]
+        first = next(iter(known.interfaces.values()))
         if known.egress and count > 1:
             log.warning(known.egress, "packets are metered where they come in and where they leave, so each that is "
                         "forwarded between two of the "
@@ -264,13 +311,21 @@ class _Reading:
             if rule.is_disabled:
                 self.log.note(rule.place, f"{rule.kind} rule {rule.number} is disabled")
                 continue
+            if rule.excludes:
+                self.log.note(rule.place, f"{rule.kind} rule {rule.number} excludes packets from translation")
+                continue
             who = f"packets of {rule.source}" if rule.source else "packets that it translates"
             where = rule.interface or "it"
+            if rule.kind.endswith(" source") and self.is_beyond_meters(rule.interface):
+                self.log.note(rule.place, f"{rule.kind} rule {rule.number}: packets have other addresses beyond {where} alone, "
+                              "which is not metered: records have the addresses before the translation", exporters=exporters)
+                continue
             if rule.kind.endswith(" source"):
-                says = (f"{rule.kind} rule {rule.number}: beyond {where} {who} have another source, and packets that "
-                        f"come back have the address of "
-                        f"{where} as their destination, where they are metered: a report by destination counts them "
-                        f"under that address")
+                source = f"the source {rule.translation}" if rule.translation else "another source"
+                back = rule.translation or f"the address of {where}"
+                says = (f"{rule.kind} rule {rule.number}: beyond {where} {who} have {source}, and packets that come back "
+                        f"have {back} as their destination, where they are metered: a report by destination counts them "
+                        "under that address")
             else:
                 says = (f"{rule.kind} rule {rule.number}: packets have another destination beyond this router than "
                         f"where they are metered: a "
@@ -278,8 +333,14 @@ class _Reading:
             self.log.lost(rule.place, says, "report by addresses that are not translated, or accept this", Topic.NAT,
                           None, exporters)
 
+    def is_beyond_meters(self, interface: str) -> bool:
+        """Returns whether packets with translated sources, and those that come back to them, cross no metered interface in a
+        metered direction: they cross the interface that they leave by, and come back there."""
+        return bool(interface) and interface in self.interfaces and not self.accounting.egress \
+            and interface not in self.accounting.interfaces
+
     def report_vlans(self) -> None:
-        listed = {name for name, _ in self.accounting.interfaces}
+        listed = self.accounting.interfaces
         for one in self.interfaces.values():
             if one.parent in listed and one.name not in listed:
                 self.log.premise(one.place, f"{one.name} is not among the interfaces of flow-accounting; whether "
@@ -290,12 +351,14 @@ class _Reading:
 class Vyos:
     kind = "vyos"
     title = "VyOS 1.3 and 1.4"
-    how_to_get = "show configuration commands"
+    how_to_get = "show configuration commands, or the file /config/config.boot"
     certainty = "fairly"
 
     def detect(self, text: str) -> int:
-        if re.search(r"(?m)^set system flow-accounting\s", text):
+        if re.search(r"(?m)^set system flow-accounting\s|^ +flow-accounting \{", text):
             return 99
+        if re.search(r"(?m)^// vyos-config-version", text) or re.search(r"(?m)^ +(ethernet|bonding) \S+ \{\s*$", text):
+            return 85
         return 85 if re.search(r"(?m)^set interfaces (ethernet|bonding|loopback) \S+ (address|description|hw-id)",
                                text) else 0
 

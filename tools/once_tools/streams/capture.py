@@ -6,7 +6,7 @@ from dataclasses import dataclass, field
 from pathlib import Path
 from typing import BinaryIO, Iterator
 
-from once_tools.model import Place, Unusable
+from once_tools.model import Failed, Place, Unusable
 
 MOST_FRAME = 262_144
 MOST_BLOCK = 16 * 1024 * 1024
@@ -47,7 +47,7 @@ def frames_of(path: Path, reading: Reading) -> Iterator[Frame]:
             else:
                 raise Unusable(Place(reading.name), *_other_file(magic))
     except OSError as error:
-        raise Unusable(Place(reading.name), f"cannot be read: {error.strerror}",
+        raise Failed(Place(reading.name), f"cannot be read: {error.strerror}",
                        "name a capture that can be read") from error
 
 

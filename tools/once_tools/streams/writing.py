@@ -6,7 +6,7 @@ import tempfile
 from dataclasses import dataclass, field
 from pathlib import Path
 
-from once_tools.model import Finding, Grade, Place, Unusable
+from once_tools.model import Failed, Finding, Grade, Place
 from once_tools.streams.capture import Reading
 from once_tools.streams.extract import Extraction
 from once_tools.streams.leavings import findings_of
@@ -84,5 +84,5 @@ def write_streams(streams: list[Stream], folder: Path) -> None:
     except OSError as error:
         for temporary, _ in written:
             Path(temporary).unlink(missing_ok=True)
-        raise Unusable(Place(str(folder)), f"cannot be written: {error.strerror}",
-                       "name a folder with --out that can be written") from error
+        raise Failed(Place(str(folder)), f"cannot be written: {error.strerror}",
+                     "name a folder with --out that can be written") from error

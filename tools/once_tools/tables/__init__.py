@@ -1,1 +1,1 @@
-"""Networks and traffic from a table, a row for each thing."""
+"""Network and traffic documents from a table with a row for each of their parts."""

@@ -1,4 +1,4 @@
-"""The links and the report of a table, and the network document of it all."""
+"""The links and the report of a table, and the network document."""
 from __future__ import annotations
 
 from typing import Iterator
@@ -18,7 +18,7 @@ ROWS = {
 
 
 def links_of(there: devices.Devices, row: Row, taken: dict[tuple[str, str, str], int]) -> Iterator[Entry]:
-    """The links of a row, one for each device where they begin; notes which destinations are taken."""
+    """Yields the links of a row, one for each device at which it begins; `taken` remembers the destinations that have one."""
     _, exporter, destination, to_device, to_process = row.cells
     if to_device not in there.lists:
         there.faults.add(row.line, "there is no device %s" % to_device, "add a row: device %s" % to_device)
@@ -29,10 +29,10 @@ def links_of(there: devices.Devices, row: Row, taken: dict[tuple[str, str, str],
         names = [one["name"] for one in entry["destination"]] if entry else []
         if entry and destination not in names:
             there.faults.add(row.line, "%s of %s has no destination %s" % (exporter, device, destination),
-                             "name one that it has: " + ", ".join(names))
+                             "name one of these: " + ", ".join(names))
         start = (device, exporter, destination)
         if start in taken:
-            wrong = "destination %s of %s has a link since line %d" % (destination, device, taken[start])
+            wrong = "destination %s of %s already has the link of line %d" % (destination, device, taken[start])
             there.faults.add(row.line, wrong, "add a destination for each link")
         taken.setdefault(start, row.line)
         yield {"device": device, "exportingProcess": exporter, "destination": destination,
@@ -40,12 +40,12 @@ def links_of(there: devices.Devices, row: Row, taken: dict[tuple[str, str, str],
 
 
 def report_of(there: devices.Devices, rows: list[Row]) -> Entry | None:
-    """The report of the row that there has to be."""
+    """Returns the report of the one row of this kind."""
     if not rows:
-        there.faults.add(1, "no row tells the report", "add a row: report DEVICE COLLECTING-PROCESS KEY")
+        there.faults.add(1, "the table has no row report", "add a row: report DEVICE COLLECTING-PROCESS KEY")
         return None
     for row in rows[1:]:
-        there.faults.add(row.line, "a report stands in line %d" % rows[0].line, "take one of them out")
+        there.faults.add(row.line, "line %d already has the report" % rows[0].line, "take one of them out")
     device, process, key = rows[0].cells
     if device not in there.lists:
         there.faults.add(rows[0].line, "there is no device %s" % device, "add a row: device %s" % device)
@@ -55,7 +55,7 @@ def report_of(there: devices.Devices, rows: list[Row]) -> Entry | None:
 
 
 def network_of(rows: list[Row], faults: Faults) -> tuple[Entry, devices.Devices]:
-    """The network document of a table's rows, and its devices; where the table has a fault it is noted."""
+    """Returns the network document of a table, and its devices; what is wrong is added to the faults."""
     there = devices.Devices(faults)
     for row in rows:
         if row.kind == "device":

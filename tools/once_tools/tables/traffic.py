@@ -1,4 +1,4 @@
-"""The classes and paths of a table as a traffic declaration."""
+"""The traffic document of a table: its classes and paths."""
 from __future__ import annotations
 
 import itertools
@@ -15,12 +15,12 @@ DIRECTIONS = ["ingress", "egress"]
 
 
 def crossing_of(there: Devices, row: Row, text: str) -> Crossing | None:
-    """A crossing's devices, interface and direction: DEVICE:INTERFACE:DIRECTION, the device a name or a pattern."""
+    """Returns the device or pattern, the devices, the interface and the direction of DEVICE:INTERFACE:DIRECTION."""
     device, _, rest = text.partition(":")
     interface, _, direction = rest.rpartition(":")
     if not cells.is_name(interface):
         cure = "write DEVICE:INTERFACE:ingress or DEVICE:INTERFACE:egress"
-        there.faults.add(row.line, "%s is no crossing" % text, cure)
+        there.faults.add(row.line, "%s is not a crossing" % text, cure)
         return None
     if cells.word(row, direction, DIRECTIONS, "direction", there.faults) is None:
         return None
@@ -28,13 +28,13 @@ def crossing_of(there: Devices, row: Row, text: str) -> Crossing | None:
 
 
 def paths_of(there: Devices, row: Row) -> Iterator[list[Entry]]:
-    """The paths of a row, one for each device that a pattern fits. A pattern that stands twice is one device."""
+    """Yields the paths of a row, one for each device that a pattern matches. A pattern that occurs twice is one device."""
     found = [crossing_of(there, row, text) for text in cells.listed(row.cells[1])]
     crossings = [one for one in found if one is not None]
     if len(crossings) < len(found):
         return
     if len(crossings) > 32:
-        there.faults.add(row.line, "%d crossings" % len(crossings), "write at most 32")
+        there.faults.add(row.line, "the path has %d crossings" % len(crossings), "write at most 32")
     patterns = {crossing[0]: crossing[1] for crossing in crossings}
     for chosen in itertools.product(*patterns.values()):
         device_of = dict(zip(patterns, chosen))
@@ -43,7 +43,7 @@ def paths_of(there: Devices, row: Row) -> Iterator[list[Entry]]:
 
 
 def class_of(row: Row, faults: Faults) -> Entry:
-    """The class of a row, without its paths."""
+    """Returns the class of a row, without its paths."""
     entry: Entry = {"name": row.cells[0], "region": cells.region(row, row.cells[1], faults), "paths": []}
     if len(row.cells) > 2:
         if cells.word(row, row.cells[2], ["exempt"], "mark", faults):
@@ -52,14 +52,14 @@ def class_of(row: Row, faults: Faults) -> Entry:
 
 
 def traffic_of(rows: list[Row], there: Devices) -> Entry | None:
-    """The traffic declaration of a table's rows, or nothing where it has no classes."""
+    """Returns the traffic document of a table, or None if the table has no classes."""
     faults = there.faults
     classes: dict[str, Entry] = {}
     lines: dict[str, int] = {}
     for row in rows:
         if row.kind == "class":
             if row.cells[0] in classes:
-                faults.add(row.line, "there is a class %s already" % row.cells[0], "give this one another name")
+                faults.add(row.line, "there already is a class %s" % row.cells[0], "give this one another name")
             elif cells.name(row, row.cells[0], faults):
                 classes[row.cells[0]], lines[row.cells[0]] = class_of(row, faults), row.line
     ways = [row for row in rows if row.kind == "path"]
