@@ -30,7 +30,7 @@ PATTERNS = [
              "policy routing: paths follow destinations alone, and what this policy sends elsewhere has another path",
              "declare the traffic that it takes with 'paths', or by roles ('from' and 'to')"),
     _pattern(r"^\s*ip nat (inside|outside|source|pool)|^set nat (source|destination)|^set security nat |^\s*nat outbound|"
-             r"/ip firewall nat|^set services nat ", Grade.NOT_CARRIED_OVER,
+             r"/ip firewall nat(?!.*\bdisabled=yes\b)|^set services nat ", Grade.NOT_CARRIED_OVER,
              "address translation (NAT): a packet has other addresses after it, and whether one packet is counted on both "
              "sides the audit cannot see", "declare a class for each side of the translation, and meter one side alone",
              Topic.NAT),
@@ -53,6 +53,15 @@ PATTERNS = [
              "make all MTUs on metered paths equal, or meter before this interface"),
 ]
 
+# A rule of VyOS that is disabled, or statements of Junos that are not in force.
+OFF = re.compile(r"(set nat \S+ rule \S+) disable\s*|deactivate (.+?)\s*")
+
+
+def not_in_force(lines: Iterable[str]) -> tuple[str, ...]:
+    """Returns how the statements begin that other lines disable or deactivate."""
+    found = [OFF.fullmatch(line) for line in lines]
+    return tuple((one[1] or f"set {one[2]}") + " " for one in found if one)
+
 
 def premises(device: Device, sources: Iterable[Source]) -> list[Finding]:
     """Returns a finding for each kind of statement, at its first line, unless the reader has reported that line."""
@@ -61,9 +70,10 @@ def premises(device: Device, sources: Iterable[Source]) -> list[Finding]:
     found: dict[int, Finding] = {}
     more: dict[int, int] = {}
     for source in sources:
+        off = not_in_force(source.lines())
         for number, line in enumerate(source.lines(), 1):
             for at, pattern in enumerate(PATTERNS):
-                if not pattern.expression.search(line) or pattern.topic in topics:
+                if not pattern.expression.search(line) or pattern.topic in topics or line.startswith(off):
                     continue
                 if at in found:
                     more[at] = more.get(at, 0) + 1
