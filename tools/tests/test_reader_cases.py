@@ -135,6 +135,15 @@ def test_nfacctd_forwards_by_balancing_pools_and_takes_allowed_senders() -> None
     assert shape(device)["exporters"]["t"][0] == "loadBalancing"
 
 
+def test_nfacctd_reads_the_files_that_settings_of_a_plugin_name_and_reports_others() -> None:
+    text = "plugins: tee[a], tee[b]\ntee_receivers[a]: /etc/old.lst\ntee_receivers[a]: /etc/a.lst\ntee_receivers[b]: b.lst\n"
+    device = read_text("nfacctd", text, a_lst="id=1 ip=192.0.2.1:1\n", b_lst="id=1 ip=192.0.2.2:2\n",
+                       old_lst="id=1 ip=192.0.2.3:3\n")
+    assert [one.address for each in device.exporters for one in each.destinations] == ["192.0.2.1", "192.0.2.2"]
+    unread = [one.place.file for one in device.findings if one.grade is Grade.NOT_CARRIED_OVER]
+    assert unread == ["old.lst"]
+
+
 STORES = "plugins: print[p]\nnfacctd_port: 4739\naggregate[p]: src_host\n"
 BY_SOURCE = [("sourceIPv4Address", None)], [("sourceIPv6Address", None)]
 

@@ -7,7 +7,7 @@ from __future__ import annotations
 
 import re
 from dataclasses import dataclass
-from typing import Sequence
+from typing import Iterable, Sequence
 
 from once_tools.model import Place, Unusable
 from once_tools.readers.log import Log
@@ -54,6 +54,11 @@ class Settings:
                                    and one.plugin in (plugin, f"default_{plugin}")):
                 return one
         return None
+
+    def lines_in_force(self, keys: Iterable[str], plugins: Iterable[str]) -> list[Setting]:
+        """Returns the lines of keys that are in force for the daemon or for one of the plugins."""
+        found = [self.last(key, plugin) for key in keys for plugin in (None, *plugins)]
+        return [one for one in found if one]
 
     def own(self, key: str, plugin: str) -> Setting | None:
         """Returns the last line of a key that is for one plugin alone."""
@@ -138,9 +143,9 @@ def is_networks_filter(one: Setting) -> bool:
     return one.key == "networks_file_filter" and one.value.lower() == "true"
 
 
-def report_others(sources: Sequence[Source], lines: Sequence[Setting | None], log: Log) -> None:
+def report_others(sources: Sequence[Source], lines: Sequence[Setting], log: Log) -> None:
     """Reports texts beside the settings that no line names, so that they are not read."""
-    named = {line.value.rsplit("/", 1)[-1] for line in lines if line}
+    named = {line.value.rsplit("/", 1)[-1] for line in lines}
     for source in sources[1:]:
         if source.name.rsplit("/", 1)[-1] not in named:
             log.lost(Place(source.name), "the first file does not name this one, so it is not read", "give each daemon a "

@@ -62,7 +62,7 @@ class _Reading:
         self.device.points = [self.point(capture, selections, len(captures) > 1) for capture in captures]
         self.report_overlaps(selections)
         self.report_rest()
-        report_others(self.sources, [self.settings.last(key) for key in FILES], self.log)
+        report_others(self.sources, self.settings.lines_in_force(FILES, [one.name for one in self.plugins]), self.log)
         report_repeated(self.settings, self.log)
         report_unknown(self.settings, self.plugins, KNOWN, self.log)
         return self.device
