@@ -24,11 +24,12 @@ class Report:
     place: Place
     process: str = ""
     plugin: str = ""
+    collector_place: Place = Place("")  # the line of `collector`
 
 
 @dataclass(frozen=True)
 class DeviceEntry:
-    """A device with its files, as the project names them. `options` go to the reader."""
+    """A device with its files, as the project names them. `options` go to the reader; `kind_place` is the line of `kind`."""
 
     name: str
     place: Place
@@ -40,6 +41,7 @@ class DeviceEntry:
     aliases: tuple[str, ...] = ()
     meter: str = ""
     options: Mapping[str, str] = field(default_factory=dict)
+    kind_place: Place = Place("")
 
 
 @dataclass(frozen=True)
@@ -234,7 +236,8 @@ def _device(table: Table) -> DeviceEntry:
             options[key] = table.text(key)
     return DeviceEntry(
         table.text("name", True), table.place(), table.text("kind"), table.texts("config"), table.texts("addresses"),
-        table.texts("routes"), table.texts("lldp"), table.texts("aliases"), options.get("meter", ""), options)
+        table.texts("routes"), table.texts("lldp"), table.texts("aliases"), options.get("meter", ""), options,
+        table.place("kind") if "kind" in table.raw else table.place())
 
 
 def _directions(table: Table) -> tuple[Direction, ...]:
@@ -273,7 +276,7 @@ def _accepts(table: Table) -> list[Accept]:
 
 def _report(table: Table) -> Report:
     return Report(table.text("collector", True), table.texts("key"), table.place(), table.text("process"),
-                  table.text("plugin"))
+                  table.text("plugin"), table.place("collector") if "collector" in table.raw else table.place())
 
 
 def _addresses(table: Table) -> list[AddressEntry]:

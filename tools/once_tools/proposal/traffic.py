@@ -1,0 +1,213 @@
+"""The traffic of a proposed project: all packets that may pass from one interface to another."""
+from __future__ import annotations
+
+from dataclasses import dataclass, field
+
+from once_tools.model import Crossing, Direction
+from once_tools.proposal.areas import Area, Edge, Surroundings
+from once_tools.proposal.toml import comment, listed, quoted
+
+# A traffic between two lists of interfaces is written for representatives if it has more pairs than this.
+MOST_PAIRS = 40_000
+EXEMPT = "exempt = true"
+
+
+@dataclass
+class Flow:
+    """A traffic from some interfaces to others, written as roles or interfaces; or along paths of single crossings."""
+
+    name: str
+    says: list[str]
+    start: list[Edge] = field(default_factory=list)
+    end: list[Edge] = field(default_factory=list)
+    roles: tuple[str, str] = ("", "")
+    paths: list[str] = field(default_factory=list)
+    version: int | None = None
+
+
+@dataclass
+class Proposed:
+    """The traffic of a project, and what is to be said of traffic that is not proposed."""
+
+    flows: list[Flow] = field(default_factory=list)
+    unsaid: list[str] = field(default_factory=list)
+
+
+def pairs_of(area: Area, start: str, end: str) -> bool:
+    """Returns whether packets can pass from an interface of a role to another interface of a role."""
+    starts, ends = ([edge.node for edge in area.edges if edge.role == role] for role in (start, end))
+    return any(one != other for one in starts[:2] for other in ends[:2])
+
+
+def edges_of(areas: list[Area], role: str) -> list[Edge]:
+    """Returns the interfaces of a role."""
+    return [edge for area in areas for edge in area.edges if edge.role == role]
+
+
+def between(areas: list[Area], name: str, says: list[str], start: str, end: str) -> list[Flow]:
+    """Returns the traffic from a role to a role, if there is a way."""
+    there = [area for area in areas if pairs_of(area, start, end)]
+    return [Flow(name, says, edges_of(there, start), edges_of(there, end), (start, end))] if there else []
+
+
+def between_core(areas: list[Area], around: Surroundings, proposed: Proposed) -> list[Flow]:
+    """Returns the traffic between interfaces of the core: where one is metered, or is known to be one by a guess alone."""
+    there = [area for area in areas if pairs_of(area, "core", "core")]
+    wanted = [area for area in there if any(around.is_metered(edge.node) or not edge.is_sure for edge in area.edges
+                                            if edge.role == "core")
+              or not any(edge.role == "customers" for edge in area.edges)]
+    for area in there:
+        if area not in wanted:
+            proposed.unsaid.append(f"Packets between the core interfaces of {', '.join(area.names)} are metered nowhere, and no "
+                                   "traffic is proposed for them.")
+    return between(wanted, "between core", ["Packets from one core interface to another."], "core", "core")
+
+
+def between_roles(around: Surroundings, proposed: Proposed) -> list[Flow]:
+    """Returns the traffic between customers, the core and interfaces of no role."""
+    areas = [area for area in around.areas if any(edge.role for edge in area.edges)]
+    for edge in (edge for area in areas for edge in area.edges if not edge.role):
+        edge.role = "others"
+    found = between(areas, "up", ["What customers send."], "customers", "core")
+    found += between(areas, "down", ["What the core sends to customers."], "core", "customers")
+    found += between(areas, "between customers", ["Packets from one customer to another."], "customers", "customers")
+    found += between_core(areas, around, proposed)
+    for role, what, verb in (("customers", "customers", "send"), ("core", "the core", "sends")):
+        found += between(areas, f"others to {role}", [f"What comes in at `others` and leaves to {what}."], "others", role)
+        found += between(areas, f"{role} to others", [f"What {what} {verb} to `others`."], role, "others")
+    return found + between(areas, "between others", ["Packets from one of `others` to another."], "others", "others")
+
+
+def through(area: Area) -> Flow:
+    """Returns all traffic through devices of which nothing says what their interfaces lead to."""
+    names = " and ".join(area.names)
+    if area.is_host:
+        says = [f"All packets that pass between the interfaces that {names} meters. If it has others, add traffic between them and "
+                "these."]
+    else:
+        what = "ports" if area.is_switch else "interfaces"
+        says = [f"No file says what the {what} of {names} lead to: these are all packets that come in at one and leave by another."]
+    return Flow(f"through {names}", says, area.edges, area.edges)
+
+
+def at_host(area: Area) -> list[Flow]:
+    """Returns the traffic at the interfaces that a host's meter names: between them, or what comes in and what leaves at the
+    only one."""
+    if len(area.edges) > 1:
+        return [through(area)]
+    edge = area.edges[0]
+    device, name = edge.node
+    says = f"The other interfaces of {device} are not known: these are all packets that come in at {name}."
+    return [Flow(f"in at {device} {name}", [says], [edge], [edge], paths=[f"{edge.text}:ingress"]),
+            Flow(f"out at {device} {name}", [f"All packets that leave at {name}."], [edge], [edge], paths=[f"{edge.text}:egress"])]
+
+
+def versions_at(edge: Edge, around: Surroundings) -> set[int]:
+    """Returns the versions of IP at an interface: those of its addresses, or those that its device meters if the device shows
+    none."""
+    one, device = edge.interface, edge.node[0]
+    shown = {6 if ":" in text else 4 for text in one.addresses} | set(one.has)
+    return shown if shown or around.has_addresses(device) else around.versions.get(device, set()) or {4}
+
+
+def versions_of(flow: Flow, around: Surroundings) -> set[int]:
+    """Returns the versions of IP of which a packet can come in and leave."""
+    starts, ends = ([(edge.node, versions_at(edge, around)) for edge in edges] for edges in (flow.start, flow.end))
+    found: set[int] = set()
+    for version in (4, 6):
+        first, last = ([node for node, each in edges if version in each] for edges in (starts, ends))
+        if first and last and (flow.paths or len({*first, *last}) > 1):
+            found.add(version)
+    return found
+
+
+def with_versions(flow: Flow, around: Surroundings) -> list[Flow]:
+    """Returns a traffic for each version of IP that must be named, since the addresses of its ends say something else."""
+    can, edges = versions_of(flow, around), [*flow.start, *flow.end]
+    shown = {6 if ":" in text else 4 for edge in edges for text in edge.interface.addresses}
+    shown |= {version for edge in edges for version in edge.interface.has}
+    if not can or can == (shown or {4}) and not (shown and flow.paths):
+        return [flow]
+    found = []
+    for version in sorted(can):
+        again = len(can) > 1 and version == 6
+        says = ["The same over IPv6."] if again else list(flow.says)
+        if shown - can:
+            says.append(f"IPv{10 - version} is left out: no packet of it can come in at one of these interfaces and leave by another "
+                        "that has an address of it.")
+        found.append(Flow(flow.name + (" over IPv6" if again else ""), says, flow.start, flow.end, flow.roles, flow.paths, version))
+    return found
+
+
+def likeness(edge: Edge, around: Surroundings) -> tuple[object, ...]:
+    """Returns what of an interface bears on how its packets are counted."""
+    seen = tuple(sorted((point.name, point.direction.value) for point in around.devices[edge.node[0]].points
+                        if edge.node[1] in point.interfaces)) if edge.node[0] in around.devices else ()
+    return edge.node[0], edge.interface.vrf, seen, frozenset(versions_at(edge, around))
+
+
+def representatives(edges: list[Edge], around: Surroundings) -> list[Edge]:
+    """Returns two of the interfaces that are metered alike, for all of them."""
+    found: dict[tuple[object, ...], list[Edge]] = {}
+    for edge in edges:
+        group = found.setdefault(likeness(edge, around), [])
+        if len(group) < 2:
+            group.append(edge)
+    return [edge for group in found.values() for edge in group]
+
+
+def reduced(flow: Flow, around: Surroundings) -> Flow:
+    """Returns a traffic with few enough paths to audit: of too many interfaces, two of those that are metered alike."""
+    if len(flow.start) * len(flow.end) <= MOST_PAIRS:
+        return flow
+    start, end = representatives(flow.start, around), representatives(flow.end, around)
+    says = [*flow.says, f"Of {len(flow.start)} and {len(flow.end)} interfaces, those that are metered alike are represented by two "
+            "of them: packets of the others are counted as packets of these are."]
+    return Flow(flow.name, says, start, end, ("", ""), flow.paths, flow.version)
+
+
+def is_metered(flow: Flow, around: Surroundings) -> bool:
+    """Returns whether anything on the interfaces of a traffic meters it for the report; devices between them may, too."""
+    crossings = [Crossing(*edge.node, Direction.INGRESS) for edge in flow.start]
+    crossings += [Crossing(*edge.node, Direction.EGRESS) for edge in flow.end]
+    return any(one in around.for_report for one in crossings)
+
+
+def lines_of(flow: Flow) -> list[str]:
+    """Returns the table of a traffic."""
+    lines = [line for text in flow.says for line in comment(text)] + ["[[traffic]]", f"name = {quoted(flow.name)}"]
+    if flow.paths:
+        lines.append(f"paths = [{', '.join(listed([one]) for one in flow.paths)}]")
+    else:
+        for key, role, edges in (("from", flow.roles[0], flow.start), ("to", flow.roles[1], flow.end)):
+            lines.append(f"{key} = {listed([role] if role else [edge.text for edge in edges])}")
+    return [*lines, *([f"version = {flow.version}"] if flow.version else []), ""]
+
+
+def with_advice(flow: Flow, around: Surroundings) -> Flow:
+    """Returns a traffic with what the user has to decide if nothing meters it where it comes in or leaves, and no other device
+    is on its way."""
+    linked = {name for area in around.areas for name in area.names if len(area.names) > 1}
+    if not any(edge.node[0] in linked for edge in flow.start) and not is_metered(flow, around):
+        flow.says.append(f"No meter for the report is at these interfaces in this direction: write {EXEMPT} if these packets must "
+                         "not be counted.")
+    return flow
+
+
+def traffic_of(around: Surroundings) -> Proposed:
+    """Returns the traffic that is proposed for a network."""
+    proposed = Proposed()
+    flows = between_roles(around, proposed)
+    for area in around.areas:
+        if area.is_host:
+            flows += at_host(area)
+        elif not any(edge.role for edge in area.edges):
+            flows.append(through(area))
+    taken: set[str] = set()
+    for flow in flows:
+        for one in with_versions(reduced(flow, around), around):
+            while one.name in taken:
+                one.name += f" of {one.start[0].node[0]}" if one.start[0].node[0] not in one.name else " too"
+            taken.add(one.name)
+            proposed.flows.append(with_advice(one, around))
+    return proposed
