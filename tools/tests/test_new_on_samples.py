@@ -36,7 +36,12 @@ def cases() -> list[Case]:
             for number, wanted in enumerate(tomllib.loads((folder / "new.expected").read_text(encoding="utf-8"))["cases"], 1)]
 
 
-CASES = pytest.mark.parametrize("case", cases(), ids=lambda case: f"{case.folder.name}-{case.number}")
+def each(found: list[Case]) -> pytest.MarkDecorator:
+    """Returns a mark by which a test runs for each of some cases."""
+    return pytest.mark.parametrize("case", found, ids=lambda case: f"{case.folder.name}-{case.number}")
+
+
+ALL = cases()
 
 
 def proposed(case: Case, folder: Path) -> str:
@@ -90,7 +95,7 @@ def edited(text: str, after: dict[str, Any]) -> str:
     return text
 
 
-@CASES
+@each(ALL)
 def test_proposal(case: Case, tmp_path: Path) -> None:
     found = tomllib.loads(proposed(case, tmp_path))
     wanted = case.wanted
@@ -103,22 +108,25 @@ def test_proposal(case: Case, tmp_path: Path) -> None:
         assert sorted(one["from"]) == sorted(one["to"]) == sorted(ends)
 
 
-@CASES
+@each(ALL)
 def test_proposal_is_read_back(case: Case, tmp_path: Path) -> None:
     proposed(case, tmp_path)
     findings = read_project(tmp_path / "project.toml").findings
     assert [one for one in findings if one.grade is Grade.WRONG] == []
 
 
-@CASES
+@each(ALL)
 def test_answer(case: Case, once: str, tmp_path: Path) -> None:
     proposed(case, tmp_path)
     check_answer(audited(once, tmp_path), case.wanted)
 
 
-@CASES
+@each([case for case in ALL if "after" in case.wanted])
 def test_answer_after_the_edit(case: Case, once: str, tmp_path: Path) -> None:
-    text, after = proposed(case, tmp_path), case.wanted.get("after")
-    if after:
-        (tmp_path / "project.toml").write_text(edited(text, after), encoding="utf-8")
-        check_answer(audited(once, tmp_path), after)
+    text, after = proposed(case, tmp_path), case.wanted["after"]
+    (tmp_path / "project.toml").write_text(edited(text, after), encoding="utf-8")
+    check_answer(audited(once, tmp_path), after)
+
+
+def test_every_sample_has_a_case() -> None:
+    assert {folder.name for folder in FOLDERS} >= {path.name for path in (TESTS / "samples").iterdir() if path.is_dir()}

@@ -51,5 +51,6 @@ def test_other_files_are_named(tmp_path: Path) -> None:
 def test_a_bundle_is_in_a_role_and_its_members_are_not(tmp_path: Path) -> None:
     (tmp_path / "r.cfg").write_text("hostname r\nversion 17.9\ninterface Port-channel1\n description core\n ip address 172.31.0.1 "
                                     "255.255.255.254\ninterface TenGigabitEthernet0/0/0\n description core member\n no ip "
-                                    "address\n channel-group 1 mode active\n")
-    assert proposed(tmp_path)["roles"]["core"] == ["r:Port-channel1"]
+                                    "address\n channel-group 1 mode active\ninterface GigabitEthernet0/1\n ip address 10.1.0.1 "
+                                    "255.255.0.0\n")
+    assert proposed(tmp_path)["roles"] == {"core": ["r:Port-channel1"], "customers": ["r:GigabitEthernet0/1"]}

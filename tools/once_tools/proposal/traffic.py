@@ -140,10 +140,12 @@ def with_versions(flow: Flow, around: Surroundings) -> list[Flow]:
 
 
 def likeness(edge: Edge, around: Surroundings) -> tuple[object, ...]:
-    """Returns what of an interface bears on how its packets are counted."""
-    seen = tuple(sorted((point.name, point.direction.value) for point in around.devices[edge.node[0]].points
-                        if edge.node[1] in point.interfaces)) if edge.node[0] in around.devices else ()
-    return edge.node[0], edge.interface.vrf, seen, frozenset(versions_at(edge, around))
+    """Returns what of an interface bears on how its packets are counted: its meters, and the versions of IP there."""
+    device, name = edge.node
+    points = around.devices[device].points if device in around.devices else []
+    seen = {(point.direction.value, one.cache, *sorted(one.match.items())) for point in points if name in point.interfaces
+            for one in point.selections}
+    return device, edge.interface.vrf, frozenset(seen), frozenset(versions_at(edge, around))
 
 
 def representatives(edges: list[Edge], around: Surroundings) -> list[Edge]:
