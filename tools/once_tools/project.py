@@ -73,12 +73,14 @@ class AddressEntry:
 
 @dataclass(frozen=True)
 class LinksEntry:
-    """Where links between devices are read from: CSV tables, LLDP and CDP outputs, shared small subnets."""
+    """Where links between devices are read from: CSV tables, pairs of `DEVICE:INTERFACE`, LLDP and CDP outputs, shared small
+    subnets."""
 
     table: tuple[str, ...] = ()
     lldp: tuple[str, ...] = ()
     subnets: bool = True
     place: Place = Place("")
+    pairs: tuple[tuple[str, ...], ...] = ()
 
 
 @dataclass(frozen=True)
@@ -202,14 +204,26 @@ def _axes(table: Table) -> dict[str, str]:
     return found
 
 
-def _paths(table: Table) -> tuple[tuple[str, ...], ...]:
-    value = table.value("paths")
+def _lists(table: Table, key: str, example: str) -> tuple[tuple[str, ...], ...]:
+    value = table.value(key)
     if value is None:
         return ()
-    if isinstance(value, list) and all(isinstance(path, list) for path in value):
-        return tuple(tuple(str(crossing) for crossing in path) for path in value)
-    table.wrong("paths", "'paths' must be a list of lists", 'write paths = [["edge-1:eth0:ingress"]]')
+    if isinstance(value, list) and all(isinstance(each, list) for each in value):
+        return tuple(tuple(str(one) for one in each) for each in value)
+    table.wrong(key, f"'{key}' must be a list of lists", f"write {key} = {example}")
     return ()
+
+
+def _paths(table: Table) -> tuple[tuple[str, ...], ...]:
+    return _lists(table, "paths", '[["edge-1:eth0:ingress"]]')
+
+
+def _pairs(table: Table) -> tuple[tuple[str, ...], ...]:
+    found = _lists(table, "pairs", '[["edge-1:eth1", "core-1:eth0"]]')
+    for one in found:
+        if len(one) != 2 or not all(":" in each for each in one):
+            table.wrong("pairs", f"'{', '.join(one)}' is no pair of interfaces", 'write ["edge-1:eth1", "core-1:eth0"]')
+    return tuple(one for one in found if len(one) == 2 and all(":" in each for each in one))
 
 
 def _traffic(table: Table) -> Traffic:
@@ -288,7 +302,7 @@ def _roles(table: Table) -> list[Role]:
 
 
 def _links(table: Table) -> LinksEntry:
-    return LinksEntry(table.texts("table"), table.texts("lldp"), table.flag("subnets", True), table.place())
+    return LinksEntry(table.texts("table"), table.texts("lldp"), table.flag("subnets", True), table.place(), _pairs(table))
 
 
 def _path_options(table: Table) -> PathOptions:

@@ -178,3 +178,32 @@ def test_bridges_that_nothing_joins(tmp_path: Path) -> None:
     assert {one["name"]: sorted(one["from"]) for one in found["traffic"] if one["version"] == 4} == {
         "through br-ex": ["h:br-ex", "h:eth3"],
         "through br-int": ["h:br-int", "h:eth1", "h:eth2", "h:vnet0", "h:vnet1"]}
+
+
+XR = "flow exporter-map E\n destination 192.0.2.10\n transport udp 4739\n!\nflow monitor-map M\n record ipv4\n exporter E\n!\n"
+
+
+def xr(host: str, **descriptions: str) -> str:
+    """Returns a router of IOS-XR whose interfaces have descriptions, `Te1` for TenGigE0/0/0/1."""
+    return f"hostname {host}\n{XR}" + "".join(
+        f"interface TenGigE0/0/0/{name[2:]}\n description {text}\n ipv4 address 10.{len(host)}.{name[2:]}.1/24\n"
+        " flow ipv4 monitor M ingress\n!\n" for name, text in descriptions.items())
+
+
+LINKED = [["pe-1:TenGigE0/0/0/2", "p-1:TenGigE0/0/0/1"]]
+
+
+@pytest.mark.parametrize("here, there, wanted", [
+    ("to p-1 Te0/0/0/1", "to pe-1 Te0/0/0/2", LINKED),
+    ("P-1:te0/0/0/1 (100G)", "spare", LINKED),
+    ("link to p-1", "link to pe-1", LINKED),
+    ("to p-1 Te0/0/0/1", "to pe-9", LINKED),  # pe-9 is no device of the folder
+    ("to p-1 Te0/0/0/1", "to pe-1 Te0/0/0/1", []),  # they disagree
+    ("to p-1", "spare", []),  # by which interface of p-1 is not said
+    ("to p-10 Te0/0/0/1", "spare", []),
+])
+def test_links_that_descriptions_name(tmp_path: Path, here: str, there: str, wanted: list[list[str]]) -> None:
+    found, text = proposed(tmp_path, pe_cfg=xr("pe-1", Te1="customer", Te2=here), p_cfg=xr("p-1", Te1=there, Te2="peering"))
+    pairs = [sorted(pair, reverse=True) for pair in found.get("links", {}).get("pairs", [])]
+    assert pairs == [sorted(pair, reverse=True) for pair in wanted]
+    assert ("# Descriptions of these name a device of this folder" in text) == (not wanted and "p-10" not in here)

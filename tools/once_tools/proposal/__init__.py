@@ -4,9 +4,10 @@ from __future__ import annotations
 from pathlib import Path
 
 from once_tools.project import Project, parse_project
-from once_tools.proposal.areas import Edge, Surroundings, partial_meters, surroundings
+from once_tools.proposal.areas import Edge, Surroundings, partial_meters, surroundings, topology_of_project
 from once_tools.proposal.collectors import collectors_of
 from once_tools.proposal.files import Folder, Found, Output, look_at
+from once_tools.proposal.links import Described, described_links
 from once_tools.proposal.roles import give_roles
 from once_tools.proposal.toml import comment, commented, listed, one_or_list, quoted
 from once_tools.proposal.traffic import Proposed, lines_of, traffic_of
@@ -28,6 +29,9 @@ def device_lines(one: Found, folder: Folder, guess: bool) -> list[str]:
     if one.path:
         files = [folder.spelled(path) for path in (one.path, *one.named)]
         lines.append(f"config = {one_or_list(files)}" + (f"  # {printable(one.trouble)}" if one.trouble else ""))
+    if one.options:
+        lines += comment("No file names the interface that it meters: write its name here.")
+        lines.append("options = { " + ", ".join(f"{key} = {quoted(value)}" for key, value in one.options.items()) + " }")
     for output in (Output.ADDRESSES, Output.ROUTES, Output.NEIGHBOURS):
         if output in one.outputs:
             lines.append(f"{output.value} = {one_or_list([folder.spelled(path) for path in one.outputs[output]])}")
@@ -52,6 +56,10 @@ def role_lines(around: Surroundings) -> list[str]:
         lines += comment("Nothing says what `others` lead to: put each into another role.")
     if around.linked:
         lines += comment("Links join these, so they are in no role: " + named(around.linked))
+    if around.unlinked:
+        lines += comment("Descriptions of these name a device of this folder, but which interface of it is at the other end is not "
+                         f"clear: {named(around.unlinked)}. Add the links as pairs = [[\"DEVICE:INTERFACE\", "
+                         "\"DEVICE:INTERFACE\"]] under [links], so that a packet that both ends meter is seen.")
     reasons: dict[str, list[str]] = {}
     for text, reason in around.left_out:
         reasons.setdefault(reason, []).append(text)
@@ -88,23 +96,33 @@ def project_of(lines: list[str], folder: Path) -> Project:
     return parse_project(Source("project", "\n".join(lines) + "\n"), folder.resolve())
 
 
-def known_lines(folder: Folder, guess: bool = False) -> list[str]:
+def link_lines(folder: Folder, described: list[Described]) -> list[str]:
+    """Returns the table of the links that a file or descriptions of interfaces name."""
+    lines = ["[links]"] if folder.links or described else []
+    if folder.links:
+        lines.append(f"table = {one_or_list([folder.spelled(one) for one in folder.links])}")
+    if described:
+        pairs = [(listed([":".join(one.a), ":".join(one.b)]), printable(one.reason)) for one in described]
+        lines += ["pairs = [", *(f"    {pair},  # {reason}" for pair, reason in pairs), "]"]
+    return [*lines, ""] if lines else []
+
+
+def known_lines(folder: Folder, described: list[Described], guess: bool = False) -> list[str]:
     """Returns the tables of what the files say: the report, the devices, the collectors and the links."""
     report, collectors = collectors_of(folder, guess)
     lines = [*comment(HEAD), *report, ""]
     for one in folder.devices:
         lines += device_lines(one, folder, guess)
-    lines += collectors
-    if folder.links:
-        lines += ["[links]", f"table = {one_or_list([folder.spelled(one) for one in folder.links])}", ""]
-    return lines
+    return [*lines, *collectors, *link_lines(folder, described)]
 
 
 def project_text(path: Path) -> str:
     """Returns the text of a project for a folder."""
     folder = look_at(path)
-    around = surroundings(project_of(known_lines(folder, True), path))
+    described, unsure = described_links(topology_of_project(project_of(known_lines(folder, [], True), path)))
+    around = surroundings(project_of(known_lines(folder, described, True), path))
     give_roles(around)
+    around.unlinked = [":".join(node) for node in unsure]
     proposed = traffic_of(around)
-    lines = known_lines(folder) + role_lines(around) + traffic_lines(proposed, around) + file_lines(folder)
+    lines = known_lines(folder, described) + role_lines(around) + traffic_lines(proposed, around) + file_lines(folder)
     return "\n".join(lines).rstrip("\n") + "\n"

@@ -51,7 +51,8 @@ class Area:
 @dataclass
 class Surroundings:
     """What is known of the network of a project: its devices, links and tables, the crossings that are metered at all and for
-    the report, and the parts of the network. `left_out` are interfaces that no traffic is proposed for, each with the reason."""
+    the report, and the parts of the network. `left_out` are interfaces that no traffic is proposed for, each with the reason;
+    `linked` are those that links join, `unlinked` those that are said to lead to a device without a link that is known."""
 
     project: Project
     devices: dict[str, Device]
@@ -63,6 +64,7 @@ class Surroundings:
     areas: list[Area] = field(default_factory=list)
     left_out: list[tuple[str, str]] = field(default_factory=list)
     linked: list[str] = field(default_factory=list)
+    unlinked: list[str] = field(default_factory=list)
 
     def has_addresses(self, device: str) -> bool:
         """Returns whether the interfaces of a device are known with their addresses."""
@@ -163,6 +165,11 @@ def versions_of(device: Device) -> set[int]:
     """Returns the versions of IP that a device meters."""
     spelled = {one.match.get("ipVersion", "") for point in device.points for one in point.selections}
     return {version for version in (4, 6) if str(version) in spelled or "" in spelled}
+
+
+def topology_of_project(project: Project) -> Topology:
+    """Returns the interfaces of a project's devices, and the links between them."""
+    return topology_of(load_devices(project)[0], project)
 
 
 def surroundings(project: Project) -> Surroundings:

@@ -21,6 +21,10 @@ GENERAL = re.compile(r"(pmacctd|uacctd|nfacctd|nfcapd|softflowd|ovsdb|conf|confi
                      r"show|display|export|ip|addr(ess(es)?)?|routes?|lldp|cdp|neighbou?rs?|interfaces?)", re.I)
 
 
+# What a meter on a host is asked for if no file names the interface that it meters.
+INTERFACE = {"interfaces": "eth0"}
+
+
 class Output(enum.Enum):
     """An output of a command, or a table that a user keeps; the value is the member of the project that names it."""
 
@@ -33,14 +37,15 @@ class Output(enum.Enum):
 @dataclass
 class Found:
     """A device or collector with its files. `kinds` has several entries if it is not clear of which kind the configuration
-    is, the likeliest first and read, and none if there is no configuration; `plain` is the kind of a device of which outputs
-    were found."""
+    is, the likeliest first and read, and none if there is no configuration; `options` are those without which it is not read,
+    as a guess; `plain` is the kind of a device of which outputs were found."""
 
     name: str
     path: Path | None = None
     kinds: list[str] = field(default_factory=list)
     device: Device | None = None
     trouble: str = ""
+    options: dict[str, str] = field(default_factory=dict)
     named: list[Path] = field(default_factory=list)
     outputs: dict[Output, list[Path]] = field(default_factory=dict)
     plain: str = ""
@@ -137,11 +142,14 @@ def read_configuration(source: Source, path: Path, kinds: list[str], folder: Fol
     """Returns what a configuration is read as, with the files of the folder that it names."""
     found = Found(name_of(path, folder.path), path, kinds)
     found.named = [one for one in files if one != path and re.search(rf"[/\s:=]{re.escape(one.name)}\b", source.text)]
-    try:
-        sources = [source, *(read_source(one, folder.spelled(one)) for one in found.named)]
-        found.device = READERS[kinds[0]].read(path.stem, sources, {})
-    except Unusable as why:
-        found.trouble = why.finding.says if len(kinds) == 1 else ""
+    sources = [source, *(read_source(one, folder.spelled(one)) for one in found.named)]
+    guesses: list[dict[str, str]] = [{}, INTERFACE] if kinds[0] in CAPTURING else [{}]
+    for options in guesses:
+        try:
+            found.device, found.options, found.trouble = READERS[kinds[0]].read(path.stem, sources, options), options, ""
+            break
+        except Unusable as why:
+            found.trouble = found.trouble or why.finding.says
     found.name = found.device.hostname if found.device and found.device.hostname else found.name
     return found
 
