@@ -9,7 +9,8 @@ from once_tools.importing import Imported, Options
 from projects import RECORD, made
 
 ROUTER = "interface GigabitEthernet0/0\n ip flow monitor M input\ninterface GigabitEthernet0/1\n ip flow monitor M input\n"
-PROJECT = ('[report]\ncollector = "billing"\nkey = "sourceIPv4Address"\n[[collectors]]\nname = "billing"\nlisten = ["192.0.2.10:4739"]\n'
+PROJECT = ('[report]\ncollector = "billing"\nkey = "sourceIPv4Address"\n[[collectors]]\nname = "billing"\n'
+           'listen = ["192.0.2.10:4739"]\n'
            '[[devices]]\nname = "a"\nconfig = "a.cfg"\n[[devices]]\nname = "b"\nconfig = "b.cfg"\n[links]\npairs = PAIRS\n'
            '[[traffic]]\nname = "up"\nsource = "10.0.0.0/8"\nfrom = ["a:Gi0/0"]\nto = ["b:Gi0/1"]\n')
 
@@ -21,7 +22,8 @@ def with_pairs(folder: Path, pairs: str) -> Imported:
 
 def test_a_pair_is_a_link(tmp_path: Path) -> None:
     found = with_pairs(tmp_path, '[["a:Gi0/1", "b:GigabitEthernet0/0"]]')
-    paths = [[(one.device, one.interface, one.direction.value) for one in path] for each in found.pairs[0].classes for path in each.paths]
+    paths = [[(one.device, one.interface, one.direction.value) for one in path]
+             for each in found.pairs[0].classes for path in each.paths]
     assert paths == [[("a", "GigabitEthernet0/0", "ingress"), ("a", "GigabitEthernet0/1", "egress"),
                       ("b", "GigabitEthernet0/0", "ingress"), ("b", "GigabitEthernet0/1", "egress")]]
 

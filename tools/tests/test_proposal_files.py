@@ -96,3 +96,34 @@ def test_audit_names_the_line_of_a_kind_to_fill_in(tmp_path: Path) -> None:
     found = run("audit", "project.toml", "--once", "true", cwd=tmp_path)
     assert found.returncode == 2
     assert "wrong project.toml:7: 'kind = \"?\"': the kind of r.txt is not clear from the text; write kind = " in found.stdout
+
+
+def test_two_routers_of_one_host_name(tmp_path: Path) -> None:
+    """Routers that nobody has named have the name that they are delivered with; their addresses differ."""
+    found, _ = proposed(tmp_path, a_cfg="hostname Router\n" + lan(0) + lan(1) + RECORD.replace("198.51.100.1 ", "198.51.100.2 "),
+                        b_cfg="hostname Router\n" + lan(2) + lan(3) + RECORD)
+    assert [(one["name"], one["config"]) for one in found["devices"]] == [("Router", "a.cfg"), ("Router-2", "b.cfg")]
+
+
+def test_a_copy_of_a_configuration(tmp_path: Path) -> None:
+    text = "hostname r\n" + RECORD + lan(0)
+    found, _ = proposed(tmp_path, **{"r_cfg": text + lan(1), "r_cfg_old": text + lan(1) + lan(2)})
+    assert [(one["name"], one["config"]) for one in found["devices"]] == [("r", "r.cfg")]
+
+
+def test_a_collector_behind_one_that_forwards(once: str, tmp_path: Path) -> None:
+    """The totals are those of the collector that stores; the replicator before it stores nothing."""
+    tee = "nfacctd_ip: 192.0.2.50\nnfacctd_port: 2100\nplugins: tee[t]\ntee_receivers[t]: /etc/pmacct/receivers.lst\n"
+    found, text = proposed(tmp_path, probe_conf=PROBE.replace("pcap_interface: eth0", "pcap_interface: eth0\npcap_direction: in"),
+                           a_conf=tee, receivers_lst="id=1 ip=192.0.2.51:2200\n",
+                           b_conf="nfacctd_ip: 192.0.2.51\nnfacctd_port: 2200\nplugins: print[a]\naggregate[a]: src_host\n")
+    assert found["report"]["collector"] == "b"
+    (tmp_path / "project.toml").write_text(text.replace('name = "out at', 'exempt = true\nname = "out at'))
+    assert run("audit", "project.toml", "--once", once, cwd=tmp_path).returncode == 0
+
+
+def test_a_collector_that_no_file_describes_behind_one_that_forwards(tmp_path: Path) -> None:
+    tee = "nfacctd_ip: 192.0.2.50\nnfacctd_port: 2100\nplugins: tee[t]\ntee_receivers[t]: /etc/pmacct/receivers.lst\n"
+    found, _ = proposed(tmp_path, probe_conf=PROBE, a_conf=tee, receivers_lst="id=1 ip=192.0.2.51:2200\n")
+    named = {one["name"]: one.get("listen") for one in found["collectors"]}
+    assert named[found["report"]["collector"]] == ["192.0.2.51:2200"]

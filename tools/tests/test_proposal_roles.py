@@ -59,12 +59,14 @@ def test_a_default_route_of_ios_xr(tmp_path: Path) -> None:
     found, _ = proposed(tmp_path, x_cfg="hostname x\nflow exporter-map E\n destination 192.0.2.10\n transport udp 4739\n!\n"
                         "flow monitor-map M\n record ipv4\n exporter E\n!\ninterface TenGigE0/0/0/0\n ipv4 address 10.0.0.1/24\n"
                         " flow ipv4 monitor M ingress\n!\ninterface TenGigE0/0/0/1\n ipv4 address 10.0.1.1/24\n"
-                        " flow ipv4 monitor M ingress\n!\nrouter static\n address-family ipv4 unicast\n  0.0.0.0/0 10.0.1.9\n !\n!\n")
+                        " flow ipv4 monitor M ingress\n!\nrouter static\n address-family ipv4 unicast\n  0.0.0.0/0 10.0.1.9\n"
+                        " !\n!\n")
     assert found["roles"] == {"core": ["x:TenGigE0/0/0/1"], "customers": ["x:TenGigE0/0/0/0"]}
 
 
 def test_subnets_of_two_hosts_are_taken_for_the_core(tmp_path: Path) -> None:
-    found, text = proposed(tmp_path, r_cfg=RECORD + lan(0) + interface("GigabitEthernet0/1", address="172.31.0.1 255.255.255.252"))
+    pair = interface("GigabitEthernet0/1", address="172.31.0.1 255.255.255.252")
+    found, text = proposed(tmp_path, r_cfg=RECORD + lan(0) + pair)
     assert found["roles"] == {"customers": ["r:GigabitEthernet0/0"], "core": ["r:GigabitEthernet0/1"]}
     assert '"r:GigabitEthernet0/1",  # a guess: a subnet of two hosts' in text
 
@@ -122,7 +124,8 @@ def test_a_router_that_meters_nothing_alone(once: str, tmp_path: Path) -> None:
     (tmp_path / "project.toml").write_text(named)
     audit = run("audit", "project.toml", "--once", once, cwd=tmp_path)
     assert audit.returncode == 1
-    assert "is metered nowhere: s GigabitEthernet0/8 ingress has no monitor; s GigabitEthernet0/9 egress has no monitor" in audit.stdout
+    assert ("is metered nowhere: s GigabitEthernet0/8 ingress has no monitor; s GigabitEthernet0/9 egress has no monitor"
+            in audit.stdout)
 
 
 def test_one_interface_alone(tmp_path: Path) -> None:
@@ -207,3 +210,18 @@ def test_links_that_descriptions_name(tmp_path: Path, here: str, there: str, wan
     pairs = [sorted(pair, reverse=True) for pair in found.get("links", {}).get("pairs", [])]
     assert pairs == [sorted(pair, reverse=True) for pair in wanted]
     assert ("# Descriptions of these name a device of this folder" in text) == (not wanted and "p-10" not in here)
+
+
+def test_a_large_subnet_that_two_routers_share(tmp_path: Path) -> None:
+    """Whether packets pass from one to the other is not known: a comment asks for the link."""
+    shared = interface("GigabitEthernet0/5", address="192.168.7.1 255.255.255.0")
+    _, text = proposed(tmp_path, r_cfg="hostname r\n" + RECORD + lan(0) + shared,
+                       s_cfg="hostname s\n" + RECORD + lan(1) + shared.replace("7.1 ", "7.2 "))
+    said = " ".join(line.lstrip("# ") for line in text.splitlines())
+    assert "r GigabitEthernet0/5, s GigabitEthernet0/5 are in one subnet, 192.168.7.0/24, which is too large" in said
+
+
+def test_meters_of_one_host_are_asked_about(tmp_path: Path) -> None:
+    probe = "plugins: nfprobe\npcap_interface: eth0\nnfprobe_receiver: 192.0.2.50:2100\naggregate: src_host\n"
+    _, text = proposed(tmp_path, inner_conf=probe, outer_conf=probe.replace("eth0", "eth1"))
+    assert "# If two of inner, outer meter interfaces of one host" in text

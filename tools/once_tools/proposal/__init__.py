@@ -3,6 +3,7 @@ from __future__ import annotations
 
 from pathlib import Path
 
+from once_tools.paths.links import report_subnets
 from once_tools.project import Project, parse_project
 from once_tools.proposal.areas import Edge, Surroundings, partial_meters, surroundings, topology_of_project
 from once_tools.proposal.collectors import collectors_of
@@ -18,8 +19,8 @@ HEAD = ("A project of once-import, proposed for the files of this folder. The co
         "what only you can know. Check them, then run: once-import audit PROJECT")
 ROLES = ("What each interface leads to. `customers` are those inside, `core` are uplinks, peers and other routers. Put an "
          "interface into the other role, or leave it out, if it is wrong here.")
-TRAFFIC = ("Each packet of this traffic must be counted exactly once. Write exempt = true below a name if its packets must not be "
-           "counted; take out what does not occur.")
+TRAFFIC = ("Each packet of this traffic must be counted exactly once. Write exempt = true below a name if its packets must "
+           "not be counted; take out what does not occur.")
 MOST_NAMED = 40
 
 
@@ -44,28 +45,37 @@ def named(entries: list[str]) -> str:
 
 
 def role_lines(around: Surroundings) -> list[str]:
-    """Returns the roles, and as comments the interfaces that are in none."""
+    """Returns the roles, with what suggests them."""
     found: dict[str, list[Edge]] = {}
     for role in ("customers", "core", "others"):
         edges = [edge for area in around.areas for edge in area.edges if edge.role == role]
         found |= {role: edges} if edges else {}
     lines = [*comment(ROLES), "[roles]"] if found else []
     for role, edges in found.items():
-        lines += [f"{role} = " + commented((edge.text, edge.reason) for edge in edges)]
+        lines.append(f"{role} = " + commented((edge.text, edge.reason) for edge in edges))
     if "others" in found:
         lines += comment("Nothing says what `others` lead to: put each into another role.")
+    lines += left_lines(around)
+    return [*lines, ""] if lines else []
+
+
+def left_lines(around: Surroundings) -> list[str]:
+    """Returns comments about the interfaces that are in no role, and about links that may be missing."""
+    lines: list[str] = []
     if around.linked:
         lines += comment("Links join these, so they are in no role: " + named(around.linked))
     if around.unlinked:
-        lines += comment("Descriptions of these name a device of this folder, but which interface of it is at the other end is not "
-                         f"clear: {named(around.unlinked)}. Add the links as pairs = [[\"DEVICE:INTERFACE\", "
+        lines += comment("Descriptions of these name a device of this folder, but which interface of it is at the other end is "
+                         f"not clear: {named(around.unlinked)}. Add the links as pairs = [[\"DEVICE:INTERFACE\", "
                          "\"DEVICE:INTERFACE\"]] under [links], so that a packet that both ends meter is seen.")
+    for one in report_subnets(around.topology, {edge.node for area in around.areas for edge in area.edges}):
+        lines += comment(f"{one.says}. If packets do, add pairs under [links].")
     reasons: dict[str, list[str]] = {}
     for text, reason in around.left_out:
         reasons.setdefault(reason, []).append(text)
     for reason, texts in reasons.items():
         lines += comment(f"In no role ({reason}): {named(texts)}")
-    return [*lines, ""] if lines else []
+    return lines
 
 
 def traffic_lines(proposed: Proposed, around: Surroundings) -> list[str]:
@@ -73,8 +83,8 @@ def traffic_lines(proposed: Proposed, around: Surroundings) -> list[str]:
     lines = comment(TRAFFIC if proposed.flows else "No interface was found by which packets pass, so no traffic is proposed: add "
                     "[[traffic]] with a name, and the interfaces as from and to.")
     for text, place in partial_meters(around):
-        lines += comment(f"A filter takes a part of the packets at {text} ({where(place)}): write source, destination or the like "
-                         "for the packets that must be counted there, and add exempt traffic for the rest.")
+        lines += comment(f"A filter takes a part of the packets at {text} ({where(place)}): write source, destination or the "
+                         "like for the packets that must be counted there, and add exempt traffic for the rest.")
     for text in proposed.unsaid:
         lines += comment(text)
     return [*lines, "", *(line for flow in proposed.flows for line in lines_of(flow))]

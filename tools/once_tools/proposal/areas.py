@@ -18,6 +18,7 @@ from once_tools.proposal.bridges import bridges_of
 LOOPBACK = re.compile(r"(loopback|lo\d*(\.\d+)?$|dum(my)?\d|null\d|system$|local$)", re.I)
 MANAGEMENT_PORT = re.compile(r"(mgmt|management)", re.I)
 JUNOS_MANAGEMENT = re.compile(r"(fxp|em|me|vme)\d*(\.\d+)?$", re.I)
+UNMETERED = "its device meters nothing, and no link to one that meters is known"
 MANAGEMENT = re.compile(r"\b(mgmt|management|oob|out.of.band)\b|^mgmt", re.I)
 
 
@@ -95,7 +96,7 @@ def edges_of(name: str, around: Surroundings) -> list[Edge]:
             continue
         if around.topology.peers.get(node):
             around.linked.append(f"{name}:{one.name}")
-        elif management(name, one, kind):
+        elif management(name, one, kind) and not around.is_metered(node, True):
             around.left_out.append((f"{name}:{one.name}", "for management"))
         elif one.addresses or one.has or not has_addresses or around.is_metered(node, True):
             found.append(Edge(node, one))
@@ -132,7 +133,7 @@ def areas_of(around: Surroundings) -> list[Area]:
               or any(around.devices[name].points for name in one.names if name in around.devices)]
     for area in areas if meters else []:
         if area not in meters:
-            around.left_out += [(edge.text, "its device meters nothing, and no link to one that meters is known") for edge in area.edges]
+            around.left_out += [(edge.text, UNMETERED) for edge in area.edges]
     return [one for one in (meters or areas) if passes(one, around)]
 
 

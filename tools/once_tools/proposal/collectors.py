@@ -41,6 +41,12 @@ class Candidate:
         plugins = [name for name, _, _ in self.found.device.proposed_keys] if self.found and self.found.device else []
         return any(BILLING.search(text) for text in [*texts, *plugins, *(one.exporter for one in self.senders)])
 
+    @property
+    def only_forwards(self) -> bool:
+        """Whether it is an nfacctd that stores nothing and sends on what it receives."""
+        device = self.found.device if self.found else None
+        return device is not None and device.kind == "nfacctd" and not device.proposed_keys and bool(device.exporters)
+
     def devices(self) -> list[str]:
         """Returns the devices that send to it."""
         return list(dict.fromkeys(one.device for one in self.senders))
@@ -65,28 +71,48 @@ def configured(found: Found) -> Candidate:
                                          for address, port, _ in one.listens])
 
 
+def candidate_at(end: Endpoint, found: list[Candidate]) -> Candidate | None:
+    """Returns the collector that listens at an endpoint; one that listens at all its addresses, if it is the only one at this
+    port, is taken to have this address."""
+    exact = next((one for one in found if end in one.listens), None)
+    anywhere = [one for one in found if any(at.address in ANY and at.port == end.port for at in one.listens)]
+    if exact is None and len(anywhere) == 1:
+        anywhere[0].guessed += [end.address] if end.address not in anywhere[0].guessed else []
+        return anywhere[0]
+    return exact
+
+
+def add_forwarded(found: list[Candidate]) -> None:
+    """Gives each collector the senders of those that forward to it. An endpoint that nothing known listens at is a collector of
+    its own if what sends there stores nothing itself."""
+    for _ in range(len(found)):
+        for one in list(found):
+            for end in ends_of([one.found]) if one.found else {}:
+                other = candidate_at(end, found)
+                if other is None and one.only_forwards:
+                    other = Candidate("", None, [end])
+                    found.append(other)
+                if other is not None and other is not one:
+                    other.senders += [each for each in one.senders if each not in other.senders]
+
+
 def candidates_of(folder: Folder) -> list[Candidate]:
     """Returns the collectors: those with configurations, then an endpoint each that nothing of these listens at."""
-    known = [configured(one) for one in folder.collectors]
-    ends = ends_of(folder.devices)
-    found = list(known)
-    for end, senders in ends.items():
-        exact = next((one for one in known if end in one.listens), None)
-        anywhere = [one for one in known if any(at.address in ANY and at.port == end.port for at in one.listens)]
-        if exact is None and len(anywhere) == 1:
-            exact = anywhere[0]
-            exact.guessed += [end.address]
-        if exact is None:
-            exact = Candidate("", None, [end])
-            found.append(exact)
-        exact.senders += senders
+    found = [configured(one) for one in folder.collectors]
+    for end, senders in ends_of(folder.devices).items():
+        one = candidate_at(end, found)
+        if one is None:
+            one = Candidate("", None, [end])
+            found.append(one)
+        one.senders += senders
+    add_forwarded(found)
     return found
 
 
 def chosen(candidates: list[Candidate]) -> tuple[Candidate | None, str]:
     """Returns the collector to report from, and why it: one for billing, else that of most devices, else the first."""
-    def rank(one: Candidate) -> tuple[bool, int, bool]:
-        return not one.is_for_billing, -len(one.devices()), one.found is None
+    def rank(one: Candidate) -> tuple[bool, bool, int, bool]:
+        return one.only_forwards, not one.is_for_billing, -len(one.devices()), one.found is None
 
     if not candidates:
         return None, ""

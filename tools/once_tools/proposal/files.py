@@ -21,6 +21,8 @@ GENERAL = re.compile(r"(pmacctd|uacctd|nfacctd|nfcapd|softflowd|ovsdb|conf|confi
                      r"show|display|export|ip|addr(ess(es)?)?|routes?|lldp|cdp|neighbou?rs?|interfaces?)", re.I)
 
 
+# Names of copies that editors and people keep.
+COPY = re.compile(r"(\.(bak|old|orig|save|backup|copy|\d+)|~)$|\b(old|backup|copy)\b", re.I)
 # What a meter on a host is asked for if no file names the interface that it meters.
 INTERFACE = {"interfaces": "eth0"}
 
@@ -154,18 +156,28 @@ def read_configuration(source: Source, path: Path, kinds: list[str], folder: Fol
     return found
 
 
+def addresses_of(one: Found) -> set[str]:
+    """Returns the addresses that a configuration gives its interfaces."""
+    return {text.partition("/")[0] for each in (one.device.interfaces if one.device else []) for text in each.addresses}
+
+
 def is_twin(one: Found, other: Found) -> bool:
-    """Returns whether two configurations are of one device: they have one host name, or one file name in one folder."""
+    """Returns whether two configurations are of one device: they have one host name, or one file name in one folder, and not
+    only addresses that the other one does not have."""
     hosts = [each.device.hostname if each.device else "" for each in (one, other)]
     together = one.path is not None and other.path is not None and one.path.parent == other.path.parent
-    return one.kinds == other.kinds and one.name == other.name and (hosts[0] == hosts[1] != "" or together and "" in hosts)
+    known = [addresses_of(each) for each in (one, other)]
+    differ = all(known) and not known[0] & known[1]
+    is_named_alike = one.kinds == other.kinds and one.name == other.name
+    return is_named_alike and not differ and (hosts[0] == hosts[1] != "" or together and "" in hosts)
 
 
 def without_twins(found: list[Found], folder: Folder) -> list[Found]:
-    """Returns the configurations without second texts of one device: the text that has its host name is kept, of several
-    the longest."""
-    def worth(one: Found) -> tuple[bool, int]:
-        return bool(one.device and one.device.hostname), one.path.stat().st_size if one.path else 0
+    """Returns the configurations without second texts of one device: the text that is no copy by its name is kept, of several
+    the one that has its host name, of several the longest."""
+    def worth(one: Found) -> tuple[bool, bool, int]:
+        is_copy = one.path is not None and COPY.search(one.path.name) is not None
+        return not is_copy, bool(one.device and one.device.hostname), one.path.stat().st_size if one.path else 0
 
     kept: list[Found] = []
     for one in found:

@@ -82,11 +82,12 @@ def through(area: Area) -> Flow:
     """Returns all traffic through devices of which nothing says what their interfaces lead to."""
     names = " and ".join(area.names)
     if area.is_host:
-        says = [f"All packets that pass between the interfaces that {names} meters. If it has others, add traffic between them and "
-                "these."]
+        says = [f"All packets that pass between the interfaces that {names} meters. If it has others, add traffic between them "
+                "and these."]
     else:
         what = "ports" if area.is_switch else "interfaces"
-        says = [f"No file says what the {what} of {names} lead to: these are all packets that come in at one and leave by another."]
+        says = [f"No file says what the {what} of {names} lead to: these are all packets that come in at one and leave by "
+                "another."]
     return Flow(f"through {names}", says, area.edges, area.edges)
 
 
@@ -98,8 +99,9 @@ def at_host(area: Area) -> list[Flow]:
     edge = area.edges[0]
     device, name = edge.node
     says = f"The other interfaces of {device} are not known: these are all packets that come in at {name}."
+    out = f"All packets that leave at {name}."
     return [Flow(f"in at {device} {name}", [says], [edge], [edge], paths=[f"{edge.text}:ingress"]),
-            Flow(f"out at {device} {name}", [f"All packets that leave at {name}."], [edge], [edge], paths=[f"{edge.text}:egress"])]
+            Flow(f"out at {device} {name}", [out], [edge], [edge], paths=[f"{edge.text}:egress"])]
 
 
 def versions_at(edge: Edge, around: Surroundings) -> set[int]:
@@ -133,9 +135,10 @@ def with_versions(flow: Flow, around: Surroundings) -> list[Flow]:
         again = len(can) > 1 and version == 6
         says = ["The same over IPv6."] if again else list(flow.says)
         if shown - can:
-            says.append(f"IPv{10 - version} is left out: no packet of it can come in at one of these interfaces and leave by another "
-                        "that has an address of it.")
-        found.append(Flow(flow.name + (" over IPv6" if again else ""), says, flow.start, flow.end, flow.roles, flow.paths, version))
+            says.append(f"IPv{10 - version} is left out: no packet of it can come in at one of these interfaces and leave by "
+                        "another that has an address of it.")
+        name = flow.name + (" over IPv6" if again else "")
+        found.append(Flow(name, says, flow.start, flow.end, flow.roles, flow.paths, version))
     return found
 
 
@@ -163,8 +166,8 @@ def reduced(flow: Flow, around: Surroundings) -> Flow:
     if len(flow.start) * len(flow.end) <= MOST_PAIRS:
         return flow
     start, end = representatives(flow.start, around), representatives(flow.end, around)
-    says = [*flow.says, f"Of {len(flow.start)} and {len(flow.end)} interfaces, those that are metered alike are represented by two "
-            "of them: packets of the others are counted as packets of these are."]
+    says = [*flow.says, f"Of {len(flow.start)} and {len(flow.end)} interfaces, those that are metered alike are represented by "
+            "two of them: packets of the others are counted as packets of these are."]
     return Flow(flow.name, says, start, end, ("", ""), flow.paths, flow.version)
 
 
@@ -191,8 +194,8 @@ def with_advice(flow: Flow, around: Surroundings) -> Flow:
     is on its way."""
     linked = {name for area in around.areas for name in area.names if len(area.names) > 1}
     if not any(edge.node[0] in linked for edge in flow.start) and not is_metered(flow, around):
-        flow.says.append(f"No meter for the report is at these interfaces in this direction: write {EXEMPT} if these packets must "
-                         "not be counted.")
+        flow.says.append(f"No meter for the report is at these interfaces in this direction: write {EXEMPT} if these packets "
+                         "must not be counted.")
     return flow
 
 
@@ -205,6 +208,11 @@ def traffic_of(around: Surroundings) -> Proposed:
             flows += at_host(area)
         elif not any(edge.role for edge in area.edges):
             flows.append(through(area))
+    hosts = [area.names[0] for area in around.areas if area.is_host]
+    if len(hosts) > 1:
+        proposed.unsaid.append(f"If two of {', '.join(hosts[:8])} meter interfaces of one host, add traffic for the packets that "
+                               "pass from one of these interfaces to the other, so that the audit sees that both meter them: "
+                               f"paths = [[\"{hosts[0]}:INTERFACE:ingress\", \"{hosts[1]}:INTERFACE:egress\"]].")
     taken: set[str] = set()
     for flow in flows:
         for one in with_versions(reduced(flow, around), around):
