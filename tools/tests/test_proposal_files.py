@@ -57,6 +57,18 @@ def test_a_collector_that_listens_at_all_addresses(once: str, tmp_path: Path) ->
     assert run("audit", "project.toml", "--once", once, cwd=tmp_path).returncode == 0
 
 
+def test_a_collector_that_cannot_be_read(tmp_path: Path) -> None:
+    found, text = proposed(tmp_path, a_conf=PROBE, b_args="nfcapd -p 70000 -l /var/cache\n")
+    assert [one["name"] for one in found["devices"]] == ["a"]
+    assert [one["name"] for one in found["collectors"]] == ["b", "collector-1"]
+    assert 'config = "b.args"  # -p: 70000 is not a port' in text
+
+
+def test_an_exporter_without_a_readable_address(tmp_path: Path) -> None:
+    found, _ = proposed(tmp_path, r_cfg=RECORD.replace("192.0.2.10", "192.0.2[10") + lan(0) + lan(1))
+    assert "collectors" not in found and found["report"]["collector"] == "?"
+
+
 def test_the_collector_of_most_devices(tmp_path: Path) -> None:
     other = PROBE.replace("192.0.2.50:2100", "192.0.2.51:2100")
     found, _ = proposed(tmp_path, a_conf=other, b_conf=PROBE, c_conf=PROBE)

@@ -135,6 +135,11 @@ def test_one_interface_alone(tmp_path: Path) -> None:
         ("out at r GigabitEthernet0/0", [["r:GigabitEthernet0/0:egress"]])]
 
 
+def test_one_interface_alone_that_nothing_meters(tmp_path: Path) -> None:
+    found, _ = proposed(tmp_path, r_cfg="version 17\nhostname r\n" + lan(0, metered=False))
+    assert names(found) == ["in at r GigabitEthernet0/0", "out at r GigabitEthernet0/0"]
+
+
 def test_a_host_that_meters_two_interfaces(tmp_path: Path) -> None:
     found, _ = proposed(tmp_path, p_conf="plugins: nfprobe\npcap_interfaces_map: /etc/p.map\nnfprobe_receiver: 192.0.2.1:4739\n",
                         p_map="ifname=eth0 direction=in\nifname=eth1 direction=in\n")

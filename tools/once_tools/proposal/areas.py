@@ -134,7 +134,12 @@ def areas_of(around: Surroundings) -> list[Area]:
     for area in areas if meters else []:
         if area not in meters:
             around.left_out += [(edge.text, UNMETERED) for edge in area.edges]
-    return [one for one in (meters or areas) if passes(one, around)]
+    found = [one for one in (meters or areas) if passes(one, around)]
+    if not found:
+        found = [replace(one, is_host=len(one.edges) == 1) for one in areas if one.edges]
+        texts = {edge.text for area in found for edge in area.edges}
+        around.left_out = [one for one in around.left_out if one[0] not in texts]
+    return found
 
 
 def passes(area: Area, around: Surroundings) -> bool:

@@ -4,11 +4,11 @@ from __future__ import annotations
 import re
 from dataclasses import dataclass, field
 
-from once_tools.endpoints import Endpoint, normal
+from once_tools.endpoints import Endpoint, endpoint_of, normal
 from once_tools.model import Place
 from once_tools.proposal.files import Folder, Found
 from once_tools.proposal.toml import comment, listed, one_or_list, quoted
-from once_tools.report import where
+from once_tools.report import printable, where
 
 BILLING = re.compile(r"bill|account(ing|s)?\b|charg", re.I)
 ANY = ("*", "0.0.0.0", "::", "")
@@ -58,7 +58,7 @@ def ends_of(devices: list[Found]) -> dict[Endpoint, list[Sender]]:
     for one in devices:
         for exporter in one.device.exporters if one.device else []:
             for to in exporter.destinations:
-                if to.address:
+                if to.address and endpoint_of(str(Endpoint(to.address, to.port))):
                     found.setdefault(Endpoint(normal(to.address), to.port), []).append(
                         Sender(one.name, exporter.name, to.place))
     return found
@@ -161,7 +161,7 @@ def collector_lines(one: Candidate, folder: Folder, guess: bool) -> list[str]:
     lines = comment(f"{sent_by(one)}.") if one.senders else comment("No device of this folder sends here.")
     files = [folder.spelled(path) for path in [*([one.found.path] if one.found.path else []), *one.found.named]]
     lines += ["[[collectors]]", f"name = {quoted(one.name)}", folder.kind_of(one.found, guess),
-              f"config = {one_or_list(files)}"]
+              f"config = {one_or_list(files)}" + (f"  # {printable(one.found.trouble)}" if one.found.trouble else "")]
     if one.guessed:
         lines += [*comment("It listens at all its addresses, and exporters send to these at its port. Are they its own?"),
                   f"addresses = {listed(one.guessed)}"]

@@ -23,6 +23,7 @@ GENERAL = re.compile(r"(pmacctd|uacctd|nfacctd|nfcapd|softflowd|ovsdb|conf|confi
 
 # Names of copies that editors and people keep.
 COPY = re.compile(r"(\.(bak|old|orig|save|backup|copy|\d+)|~)$|\b(old|backup|copy)\b", re.I)
+COLLECTING = ("nfacctd", "nfcapd")
 # What a meter on a host is asked for if no file names the interface that it meters.
 INTERFACE = {"interfaces": "eth0"}
 
@@ -244,7 +245,7 @@ def look_at(path: Path) -> Folder:
     read = {one.path for one in configurations}
     for one in without_twins(configurations, folder):
         one.name, one.named = unused(one.name, taken), [other for other in one.named if other not in read]
-        collects = one.device is not None and one.device.listeners and not one.device.points
+        collects = one.device.listeners and not one.device.points if one.device else one.kinds[0] in COLLECTING
         (folder.collectors if collects else folder.devices).append(one)
     add_outputs(outputs, folder, taken)
     folder.devices.sort(key=first_file)
