@@ -3,6 +3,7 @@ from __future__ import annotations
 
 import codecs
 from dataclasses import dataclass
+from functools import cached_property
 from pathlib import Path
 
 from once_tools.model import Place, Unusable
@@ -17,13 +18,17 @@ class Source:
     name: str
     text: str
 
+    @cached_property
+    def _lines(self) -> tuple[str, ...]:
+        return tuple(self.text.replace("\r\n", "\n").split("\n"))
+
     def lines(self) -> list[str]:
         """Returns the lines without their ends; CR LF and LF both end a line."""
-        return self.text.replace("\r\n", "\n").split("\n")
+        return list(self._lines)
 
     def place(self, line: int) -> Place:
         """Returns the place of a 1-based line, with its words."""
-        lines = self.lines()
+        lines = self._lines
         return Place(self.name, line, lines[line - 1].strip() if 0 < line <= len(lines) else "")
 
 

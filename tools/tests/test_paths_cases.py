@@ -11,7 +11,7 @@ import pytest
 from once_tools.model import Device, Direction, Finding, Grade, Interface, Place, Point
 from once_tools.paths import Declaration, cut_to_metered, declare
 from once_tools.paths.routes import Tables, read_routes
-from once_tools.paths.topology import same_names
+from once_tools.paths.spellings import Spellings
 from once_tools.project import parse_project
 from once_tools.source import Source
 
@@ -407,7 +407,7 @@ def test_a_device_without_a_table_is_wrong(tmp_path: Path) -> None:
     ("GigabitEthernet0/0/1", [])])
 def test_names_of_interfaces(name: str, expected: list[str]) -> None:
     names = ["GigabitEthernet0/0/0", "TenGigE0/1/0", "Bundle-Ether1", "ge-0/0/0.0", "ge-0/0/0.7"]
-    assert same_names(name, [Interface(one, Place("")) for one in names]) == expected
+    assert Spellings(Interface(one, Place("")) for one in names).same(name) == expected
 
 
 def test_wrong_names_are_wrong(tmp_path: Path) -> None:

@@ -113,7 +113,8 @@ class _Declaring:
         if lacking:
             self.findings.append(Finding(Grade.PREMISE, one.place, f"IPv{version} is not configured at {listed(lacking)}: "
                                          f"no packet of '{one.name}' over IPv{version} comes in there"))
-        return [path for path in paths if (path[0].device, path[0].interface) not in lacking]
+        without = set(lacking)
+        return [path for path in paths if (path[0].device, path[0].interface) not in without]
 
     def _between_vrfs(self, one: Traffic, search: Search, found: list[Path], cut: set[Node]) -> list[Path]:
         """Returns paths for the interfaces that no path begins or ends at unless it leads from one VRF into another."""

@@ -48,13 +48,12 @@ def layered(path: Path, topology: Topology, metered: set[Crossing], place: Place
 
 
 def _layers(one: Crossing, topology: Topology, metered: set[Crossing]) -> list[Path]:
-    interfaces = topology.interfaces.get(one.device, {})
-    known = interfaces.get(one.interface)
+    known = topology.interfaces.get(one.device, {}).get(one.interface)
     members = known.members if known else []
     if any(Crossing(one.device, member, one.direction) in metered for member in members):
         return [_in_order(Crossing(one.device, member, one.direction), one) for member in members]
-    above = [Crossing(one.device, other.name, one.direction) for other in interfaces.values()
-             if one.interface in other.members]
+    above = [Crossing(one.device, name, one.direction)
+             for name in topology.bundles.get((one.device, one.interface), ())]
     above = [other for other in above if other in metered]
     main, dot, _ = one.interface.rpartition(".")
     below = Crossing(one.device, main, one.direction)

@@ -67,7 +67,7 @@ def _end(topology: Topology, device: str, interface: str, place: Place) -> Node 
 
 def lifted(topology: Topology, node: Node, place: Place) -> Node | None:
     """Returns the bundle that an interface is a member of, or the interface itself."""
-    bundles = [one.name for one in topology.interfaces[node[0]].values() if node[1] in one.members]
+    bundles = topology.bundles.get(node, [])
     if len(bundles) > 1:
         topology.wrong(place, f"{node[0]} {node[1]} is a member of {', '.join(bundles)}, and the link is of one of them",
                        "name the VLAN's or bundle's interface in a table of links")
@@ -148,8 +148,7 @@ def add_neighbours(device: str, seen: list[Seen], topology: Topology, known: dic
 
 def _port(topology: Topology, device: str, seen: Seen) -> str | None:
     for name in seen.ports:
-        found = [one for one in topology.interfaces[device] if one == name]
-        if found or any(name in one.aliases for one in topology.interfaces[device].values()):
+        if name in topology.interfaces[device] or topology.has_alias(device, name):
             return topology.interface(device, name, seen.place)
     for name in seen.ports[:1]:
         if re.search(r"\d", name):

@@ -69,10 +69,14 @@ def classes_of(pieces: list[Piece]) -> list[TrafficClass]:
     pieces = joined(joined(pieces, "destination"), "source")
     found: list[TrafficClass] = []
     names: set[str] = set()
+    by_traffic: dict[str, list[Piece]] = {}
+    for piece in pieces:
+        by_traffic.setdefault(piece.traffic, []).append(piece)
+    title = {traffic: _Titles(same) for traffic, same in by_traffic.items()}
     for piece in pieces:
         parts = [piece.paths[at:at + MOST_PATHS] for at in range(0, len(piece.paths), MOST_PATHS)]
         for number, paths in enumerate(parts, 1):
-            name = _name(piece, pieces) + (f" {number}" if len(parts) > 1 else "")
+            name = title[piece.traffic].of(piece) + (f" {number}" if len(parts) > 1 else "")
             name = _unused(name, names)
             found.append(TrafficClass(name, _region(piece), list(paths), piece.exempt, piece.place))
     return found
@@ -86,17 +90,24 @@ def _region(piece: Piece) -> dict[str, str]:
     return found | dict(piece.axes) | {"ipVersion": str(piece.version)}
 
 
-def _name(piece: Piece, pieces: Iterable[Piece]) -> str:
-    """Returns the traffic's name, with what tells this piece from the traffic's others."""
-    same = [one for one in pieces if one.traffic == piece.traffic]
-    versions = {one.version for one in same}
-    same = [one for one in same if one.version == piece.version]
-    name = piece.traffic + (" over IPv6" if len(versions) > 1 and piece.version == 6 else "")
-    if len({one.destination for one in same}) > 1:
-        name += f" to {piece.destination}"
-    if len({one.source for one in same}) > 1:
-        name += f" from {piece.source}"
-    return name
+class _Titles:
+    """The names of the pieces of one traffic: its own name, with what distinguishes a piece from the others."""
+
+    def __init__(self, pieces: Iterable[Piece]) -> None:
+        self._sources: dict[int, set[Span | None]] = {}
+        self._destinations: dict[int, set[Span | None]] = {}
+        for one in pieces:
+            self._sources.setdefault(one.version, set()).add(one.source)
+            self._destinations.setdefault(one.version, set()).add(one.destination)
+
+    def of(self, piece: Piece) -> str:
+        """Returns the name of a piece."""
+        name = piece.traffic + (" over IPv6" if len(self._sources) > 1 and piece.version == 6 else "")
+        if len(self._destinations[piece.version]) > 1:
+            name += f" to {piece.destination}"
+        if len(self._sources[piece.version]) > 1:
+            name += f" from {piece.source}"
+        return name
 
 
 def _unused(name: str, names: set[str]) -> str:

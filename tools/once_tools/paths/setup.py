@@ -48,8 +48,7 @@ def _add_interfaces(topology: Topology, entry: DeviceEntry, device: Device | Non
 
 
 def _is_short(topology: Topology, device: str, name: str) -> bool:
-    from once_tools.paths.topology import same_names
-    return len(same_names(name, list(topology.interfaces[device].values()))) == 1
+    return len(topology.same_names(device, name)) == 1
 
 
 def _add_links(topology: Topology, project: Project) -> None:

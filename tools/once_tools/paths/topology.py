@@ -8,19 +8,20 @@ from dataclasses import dataclass, field
 from fnmatch import fnmatchcase
 
 from once_tools.model import Finding, Grade, Interface, Place
+from once_tools.paths.spellings import Spellings, letters_of
 
 Node = tuple[str, str]  # a device and one of its interfaces
 Address = ipaddress.IPv4Address | ipaddress.IPv6Address
 
-# Short names whose letters are not the first letters of the long name.
-SHORT = {"be": "bundleether", "ge": "gigabitethernet", "xge": "xgigabitethernet", "po": "portchannel", "te": "tengig",
-         "hu": "hundredgig", "fo": "fortygig", "twe": "twentyfivegig", "vl": "vlan", "lo": "loopback", "tu": "tunnel"}
+# Names that are near to a wrong one are looked up for this number of wrong names: each lookup compares all names.
+MOST_NEAR = 50
 
 
 @dataclass
 class Topology:
-    """What is known of the network between the devices. Interfaces are in the order of their configurations; `capturing` are
-    the devices whose meters capture frames, so that they see packets of a VLAN's interface at its main interface too."""
+    """What is known of the network between the devices. Interfaces are in the order of their configurations; `bundles` are
+    the VLANs and bundles that an interface is a member of; `capturing` are the devices whose meters capture frames, so that
+    they see packets of a VLAN's interface at its main interface too."""
 
     interfaces: dict[str, dict[str, Interface]] = field(default_factory=dict)
     aliases: dict[str, list[str]] = field(default_factory=dict)
@@ -28,10 +29,15 @@ class Topology:
     owners: dict[Address, list[Node]] = field(default_factory=dict)
     findings: list[Finding] = field(default_factory=list)
     capturing: set[str] = field(default_factory=set)
+    bundles: dict[Node, list[str]] = field(default_factory=dict)
+    _spellings: dict[str, Spellings] = field(default_factory=dict)
+    _near: int = 0
 
     def add_interface(self, device: str, interface: Interface) -> None:
         """Adds an interface, or what is new of one that is known."""
-        known = self.interfaces.setdefault(device, {}).setdefault(interface.name, interface)
+        if interface.name not in self.interfaces.setdefault(device, {}):
+            self._add_names(device, interface)
+        known = self.interfaces[device].setdefault(interface.name, interface)
         readable = [text for text in interface.addresses if is_interface_address(text)]
         for text in interface.addresses:
             if text not in readable and re.search(r"\d", text):
@@ -45,6 +51,19 @@ class Topology:
                 nodes = self.owners.setdefault(address, [])
                 if (device, interface.name) not in nodes:
                     nodes.append((device, interface.name))
+
+    def _add_names(self, device: str, interface: Interface) -> None:
+        self._spellings.setdefault(device, Spellings()).add(interface)
+        for member in dict.fromkeys(interface.members):
+            self.bundles.setdefault((device, member), []).append(interface.name)
+
+    def same_names(self, device: str, name: str) -> list[str]:
+        """Returns the interfaces of a device that a short or other spelling may mean."""
+        return self._spellings[device].same(name) if device in self._spellings else []
+
+    def has_alias(self, device: str, name: str) -> bool:
+        """Returns whether a name is an alias of an interface of a device."""
+        return device in self._spellings and self._spellings[device].has_alias(name)
 
     def add_peers(self, a: Node, b: Node) -> None:
         """Joins two interfaces by a link."""
@@ -79,14 +98,15 @@ class Topology:
         known = self.interfaces.get(device, {})
         if name in known:
             return name
-        found = same_names(name, list(known.values()))
+        found = self.same_names(device, name)
         if len(found) == 1:
             return found[0]
         if len(found) > 1:
             self.wrong(place, f"'{name}' of {device} may be any of {', '.join(found)}", "write the interface's full name")
             return None
         if self.is_inventory(device):
-            close = difflib.get_close_matches(name, list(known), 1, 0.5)
+            self._near += 1
+            close = difflib.get_close_matches(name, list(known), 1, 0.5) if self._near <= MOST_NEAR else []
             self.wrong(place, f"{device} has no interface '{name}'",
                        f"write '{close[0]}'" if close else "known are: " + ", ".join(list(known)[:12]))
             return None
@@ -150,34 +170,11 @@ def address_of(text: str) -> Address | None:
         return None
 
 
-def _letters(name: str) -> tuple[str, str]:
-    found = re.match(r"[^0-9]*", name)
-    letters = found[0] if found else ""
-    return re.sub(r"[^a-z]", "", letters.casefold()), name[len(letters):]
-
-
-def same_names(name: str, interfaces: list[Interface]) -> list[str]:
-    """Returns the interfaces that a short or other spelling stands for."""
-    found = [one.name for one in interfaces if name in one.aliases or name.casefold() == one.name.casefold()]
-    found = found or [one.name for one in interfaces if "." in one.name and one.name.partition(".")[0] == name]
-    letters, numbers = _letters(name)
-    if found or re.match(r"[a-z]+-\d", name):
-        return found  # Junos has no short names
-    starts = [letters, SHORT[letters]] if letters in SHORT else [letters]
-    for one in interfaces:
-        long, its_numbers = _letters(one.name)
-        is_short = len(letters) >= 2 and any(long.startswith(start) for start in starts)
-        is_long = len(long) >= 2 and letters.startswith(long)
-        if numbers and numbers == its_numbers and (is_short or is_long):
-            found.append(one.name)
-    return found
-
-
 def _matches(interface: Interface, pattern: str) -> bool:
     if any(fnmatchcase(name, pattern) for name in (interface.name, *interface.aliases)):
         return True
-    letters, _ = _letters(pattern)
-    long, _ = _letters(interface.name)
+    letters, _ = letters_of(pattern)
+    long, _ = letters_of(interface.name)
     if len(letters) < 2 or not long.startswith(letters):
         return False
     at = len(re.match(r"[^0-9*?\[]*", pattern)[0])  # type: ignore[index]

@@ -7,7 +7,7 @@ from once_tools.model import Direction, Interface, Unusable
 from once_tools.paths.pieces import Piece
 from once_tools.paths.regions import Span
 from once_tools.paths.routes import Tables
-from once_tools.paths.topology import Address, Node, Topology, address_of, same_names
+from once_tools.paths.topology import Address, Node, Topology, address_of
 from once_tools.paths.ways import Path, Target, Walker, crossing
 from once_tools.project import Project
 
@@ -21,8 +21,8 @@ def ends_of(topology: Topology, device: str, interface: Interface) -> tuple[Addr
     source, destination = address_of(interface.tunnel_source), address_of(interface.tunnel_destination)
     if source is None and interface.tunnel_source:
         known = topology.interfaces[device]
-        names = [interface.tunnel_source] if interface.tunnel_source in known else same_names(
-            interface.tunnel_source, list(known.values()))
+        names = [interface.tunnel_source] if interface.tunnel_source in known else topology.same_names(
+            device, interface.tunnel_source)
         texts = [text for name in names[:1] for text in known[name].addresses]
         found = [address_of(text) for text in texts]
         source = next((one for one in found if one and destination and one.version == destination.version), None)

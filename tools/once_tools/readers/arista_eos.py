@@ -58,7 +58,7 @@ class _Reading:
         self.device = Device(name, "arista-eos", [one.name for one in sources], findings=self.log.findings)
         self.sections: dict[str, Section] = {}
         self.interfaces: dict[str, Interface] = {}
-        self.uses: list[tuple[str, str, str, Place]] = []
+        self.uses: dict[tuple[str, str, str], Place] = {}
         self.bundled: dict[str, tuple[str, Place]] = {}
         for source in sources:
             for one in statements(source):
@@ -120,8 +120,7 @@ class _Reading:
         tracker, group = match(words, "flow tracker *"), match(words, "channel-group *")
         if words[:1] == ["flow"]:
             if tracker and tracker[0] in ("hardware", "sampled") and len(tracker) == 2:
-                if all(one[:3] != (name, tracker[0], tracker[1]) for one in self.uses):
-                    self.uses.append((name, tracker[0], tracker[1], place))
+                self.uses.setdefault((name, tracker[0], tracker[1]), place)
             else:
                 self.log.unknown(place, " ".join(words), ["flow tracker hardware", "flow tracker sampled"])
         elif words[:2] in (["ip", "address"], ["ipv6", "address"]) and len(words) > 2:
@@ -147,14 +146,14 @@ class _Reading:
     def read(self) -> Device:
         self.bundles()
         self.device.interfaces = list(self.interfaces.values())
-        for name, kind, tracker, place in self.uses:
+        for (name, kind, tracker), place in self.uses.items():
             self.use(name, kind, tracker, place)
         for kind, section in self.sections.items():
             self.meters(kind, section)
         return self.device
 
     def bundles(self) -> None:
-        metered = {name for name, _, _, _ in self.uses}
+        metered = {name for name, _, _ in self.uses}
         for name, (main, place) in self.bundled.items():
             members = self.interfaces.setdefault(main, Interface(main, place, aliases_of(main))).members
             members += [name] if name not in members else []

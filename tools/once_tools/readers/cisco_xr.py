@@ -68,7 +68,7 @@ class _Reading:
         self.monitors: dict[str, MonitorMap] = {}
         self.samplers: dict[str, tuple[int | None, Place]] = {}
         self.interfaces: dict[str, Interface] = {}
-        self.uses: list[Use] = []
+        self.uses: dict[tuple[str, ...], Use] = {}
         self.found = 0
         for source in sources:
             for one in statements(source):
@@ -196,8 +196,7 @@ class _Reading:
 
     def add_use(self, use: Use) -> None:
         """Adds a monitor at an interface, once if a text has it twice."""
-        if all(replace(one, place=use.place) != use for one in self.uses):
-            self.uses.append(use)
+        self.uses.setdefault((use.interface, use.family, use.monitor, use.sampler, use.direction), use)
 
     def read(self) -> Device:
         self.device.interfaces = list(self.interfaces.values())
@@ -279,7 +278,7 @@ class _Reading:
 
     def points(self) -> None:
         groups: dict[tuple[str, str], list[Use]] = {}
-        for one in self.uses:
+        for one in self.uses.values():
             if self.is_usable(one):
                 groups.setdefault((one.monitor, one.direction), []).append(one)
         for (monitor, direction), found in groups.items():

@@ -33,7 +33,7 @@ class _Reading:
         self.log = Log(name)
         self.device = Device(name, "huawei", [one.name for one in sources], findings=self.log.findings)
         self.interfaces: dict[str, Interface] = {}
-        self.uses: list[tuple[str, str, str, Place]] = []
+        self.uses: dict[tuple[str, str, str], Place] = {}
         self.samplers: dict[tuple[str, str, str], Sampler] = {}
         self.versions: dict[str, tuple[str, Place]] = {}
         self.sources: dict[str, str] = {}
@@ -89,8 +89,7 @@ class _Reading:
         """Takes a statement of NetStream, of the router or of an interface."""
         sampler = match(words, "sampler * * inbound|outbound")
         if interface and words in (["inbound"], ["outbound"]):
-            if all(one[:3] != (interface, family, words[0]) for one in self.uses):
-                self.uses.append((interface, family, words[0], place))
+            self.uses.setdefault((interface, family, words[0]), place)
         elif sampler and sampler[0] in SAMPLERS and sampler[1].isdigit() and len(sampler) == 3:
             self.samplers[(interface, family, sampler[2])] = (sampler[0], int(sampler[1]), place)
         elif words[:1] == ["export"]:
@@ -121,7 +120,7 @@ class _Reading:
     def read(self) -> Device:
         self.device.interfaces = list(self.interfaces.values())
         for family, version in FAMILIES.items():
-            found = [one for one in self.uses if one[1] == family]
+            found = [(*use, place) for use, place in self.uses.items() if use[1] == family]
             if found:
                 self.family(family, version, found)
         return self.device

@@ -51,7 +51,7 @@ class _Reading:
         self.is_on = False
         self.interfaces: dict[str, Interface] = {}
         self.owners: dict[str, tuple[str, ...]] = {}
-        self.uses: list[Use] = []
+        self.uses: dict[tuple[str, str, str], Use] = {}
         found = [one for source in sources for one in statements(source)]
         if not any("cflowd" in one.words or one.words[0] in ("configure", "/configure") for one in found):
             raise Unusable(sources[0].place(0), "has no statement of SR OS",
@@ -130,8 +130,7 @@ class _Reading:
             direction = found[2] if found[1:2] == ["direction"] and found[2:] and found[2] in DIRECTIONS else ""
             if len(found) > 1 and (not direction or len(found) > 3):
                 self.log.unknown(place, " ".join(found[1:]), [f"direction {one}" for one in DIRECTIONS])
-            if all((one.interface, one.kind, one.direction) != (name, found[0], direction) for one in self.uses):
-                self.uses.append(Use(name, found[0], direction, place))
+            self.uses.setdefault((name, found[0], direction), Use(name, found[0], direction, place))
         elif words[:3] == ["cflowd-parameters", "sampling", "multicast"]:
             self.log.note(place, "multicast is not declared as traffic")
         elif words[-1] not in ("cflowd-parameters", "exit", "shutdown"):
@@ -176,7 +175,7 @@ class _Reading:
 
     def points(self, exporters: list[str]) -> None:
         groups: dict[str, list[Use]] = {}
-        for one in self.uses:
+        for one in self.uses.values():
             if one.kind == "acl":
                 self.log.lost(one.place, "filters choose which packets are sampled; the document meters all packets "
                               "here",

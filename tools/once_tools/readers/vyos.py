@@ -45,7 +45,7 @@ class Rule:
 class Accounting:
     """What flow accounting says."""
 
-    interfaces: list[tuple[str, Place]] = field(default_factory=list)
+    interfaces: dict[str, Place] = field(default_factory=dict)
     servers: dict[str, Server] = field(default_factory=dict)
     version: tuple[str, Place] | None = None
     rate: tuple[int, Place] | None = None
@@ -92,7 +92,7 @@ class _Reading:
         """Takes a statement of flow accounting."""
         known = self.accounting
         if words[:1] == ["interface"] and len(words) == 2:
-            known.interfaces += [(words[1], place)] if words[1] not in [name for name, _ in known.interfaces] else []
+            known.interfaces.setdefault(words[1], place)
         elif words == ["enable-egress"]:
             known.egress = place
         elif words[:1] == ["sflow"]:
@@ -180,7 +180,7 @@ class _Reading:
             self.report_nat()
             self.report_vlans()
         elif known.interfaces or known.servers:
-            place = known.interfaces[0][1] if known.interfaces else next(iter(known.servers.values())).place
+            place = next(iter(known.interfaces.values()), None) or next(iter(known.servers.values())).place
             what = "no netflow server: nothing is exported" if known.interfaces else "no interface: nothing is metered"
             self.log.note(place, f"flow-accounting has {what}")
         return self.device
@@ -212,7 +212,7 @@ class _Reading:
     def metered(self) -> list[tuple[str, Place]]:
         """Returns the interfaces of flow accounting that are not disabled."""
         found = []
-        for name, place in self.accounting.interfaces:
+        for name, place in self.accounting.interfaces.items():
             interface = self.interfaces.get(name)
             if interface is None:
                 self.log.lost(place, f"interface {name} is not in this configuration", "correct its name",
@@ -232,7 +232,7 @@ class _Reading:
 
     def report_meter(self, exporters: list[str], count: int) -> None:
         known, log = self.accounting, self.log
-        first = known.interfaces[0][1]
+        first = next(iter(known.interfaces.values()))
         if known.egress and count > 1:
             log.warning(known.egress, "packets are metered where they come in and where they leave, so each that is "
                         "forwarded between two of the "
@@ -279,7 +279,7 @@ class _Reading:
                           None, exporters)
 
     def report_vlans(self) -> None:
-        listed = {name for name, _ in self.accounting.interfaces}
+        listed = self.accounting.interfaces
         for one in self.interfaces.values():
             if one.parent in listed and one.name not in listed:
                 self.log.note(one.place, f"{one.name} is not among the interfaces of flow-accounting; whether "
