@@ -5,7 +5,7 @@ import re
 from dataclasses import dataclass
 
 from once_tools.model import Interface
-from once_tools.paths.topology import Node, Topology, same_names
+from once_tools.paths.topology import Node, Topology
 from once_tools.report import where
 
 WORD = re.compile(r"[^\s,;()\[\]=]+")
@@ -32,11 +32,11 @@ class Described:
 def claims_of(node: Node, one: Interface, topology: Topology) -> list[Claim]:
     """Returns what the description of an interface says that it leads to."""
     found = []
-    for device, interfaces in topology.interfaces.items():
+    for device in topology.interfaces:
         named = re.search(rf"(?<![\w-]){re.escape(device)}(?![\w-])", one.description, re.I) if device != node[0] else None
         if named:
             words = WORD.findall(one.description[named.end():].replace(":", " "))
-            ends = [names[0] for word in words for names in [same_names(word, list(interfaces.values()))] if len(names) == 1]
+            ends = [names[0] for word in words for names in [topology.same_names(device, word)] if len(names) == 1]
             found.append(Claim(node, device, ends[0] if ends else ""))
     return found
 
