@@ -1,5 +1,5 @@
 """Each mistake that operators make comes out in the audit of the project that `once-import new` proposes, with nothing edited:
-the lines that `report.expected` names are named."""
+the lines that make it are named."""
 from __future__ import annotations
 
 import re
@@ -11,9 +11,19 @@ import pytest
 from conftest import TESTS
 from test_commands import Ran, run
 
-FOLDERS = sorted(path.parent for path in (TESTS / "mistakes").glob("*/project.toml"))
-# What no file of these folders says: see the tests below.
-APART = ("04-decommissioned-collector", "08-tunnel-inside-and-outside")
+# The exit status, and the lines of the fragments that make the mistake.
+MISTAKES = [
+    ("01-input-and-output", 1, {"edge-1.cfg:2", "edge-1.cfg:4"}),  # input, output
+    ("02-both-ends-of-a-link", 1, {"edge-1.cfg:4", "core-1.cfg:4"}),  # where customers come in, and the other end of the link
+    ("03-sampler-left-on", 7, {"edge-1.cfg:4"}),
+    ("05-overlapping-filters", 1, {"pmacctd.conf:4"}),
+    ("06-port-and-vlan", 1, {"sw-1.cfg:3", "sw-1.cfg:6"}),
+    ("07-vrf-leak", 1, {"edge-1.cfg:3", "edge-1.cfg:8"}),
+    ("09-fallback-that-nobody-bills", 1, {"cpe-7.cfg:3"}),  # the backup destination
+    ("10-ipv6-not-metered", 1, {"edge-1.cfg:4"}),  # the address of IPv6
+    ("11-egress-on-some-interfaces", 1, {"core-1.cfg:4"}),  # the upstream without a monitor
+    ("12-mediator-without-the-key", 1, {"cpe-7.cfg:1"}),  # the aggregation
+]
 
 
 def joined(folder: Path, made: Path) -> None:
@@ -41,14 +51,13 @@ def named(lines: list[str]) -> set[str]:
             re.findall(r"(\S+\.(?:cfg|conf):\d+)(?=: ')", line)}
 
 
-@pytest.mark.parametrize("folder", [one for one in FOLDERS if one.name not in APART], ids=lambda folder: folder.name)
-def test_mistake_comes_out(folder: Path, once: str, tmp_path: Path) -> None:
-    joined(folder, tmp_path)
+@pytest.mark.parametrize("name, status, wanted", MISTAKES, ids=[name for name, _, _ in MISTAKES])
+def test_mistake_comes_out(name: str, status: int, wanted: set[str], once: str, tmp_path: Path) -> None:
+    joined(TESTS / "mistakes" / name, tmp_path)
     proposed(tmp_path)
     found = audited(once, tmp_path)
-    assert found.returncode == (7 if folder.name == "03-sampler-left-on" else 1), found.stdout
-    wanted = named((folder / "report.expected").read_text(encoding="utf-8").splitlines())
-    assert wanted and wanted <= named(found.stdout.splitlines())
+    assert found.returncode == status, found.stdout
+    assert wanted <= named(found.stdout.splitlines())
 
 
 def test_a_collector_that_was_taken_down_is_asked_about(once: str, tmp_path: Path) -> None:
