@@ -102,6 +102,26 @@ def test_core_interfaces_of_which_one_is_metered(tmp_path: Path) -> None:
     assert names(found) == ["up", "down", "between core"]
 
 
+def test_core_interfaces_of_two_routers_of_which_one_meters_there(tmp_path: Path) -> None:
+    core = ["description core"]
+    found, text = proposed(
+        tmp_path, r_cfg="hostname r\n" + RECORD + lan(0, "description customer") + lan(1, *core) + lan(2, *core),
+        s_cfg="hostname s\n" + RECORD + lan(3, "description customer") + lan(4, *core, metered=False)
+        + lan(5, *core, metered=False))
+    one = next(one for one in found["traffic"] if one["name"] == "between core")
+    assert one["from"] == one["to"] == ["r:GigabitEthernet0/1", "r:GigabitEthernet0/2"]
+    assert "# Packets between the core interfaces of s are metered nowhere" in text
+
+
+def test_core_interfaces_with_a_metered_link_between_them(tmp_path: Path) -> None:
+    """A packet from one uplink to the other is counted at the link, perhaps at both its ends."""
+    link = interface("GigabitEthernet0/9", address="172.31.0.0 255.255.255.254")
+    found, _ = proposed(
+        tmp_path, r_cfg="hostname r\n" + RECORD + lan(0, "description customer") + lan(1, "description core", metered=False) + link,
+        s_cfg="hostname s\n" + RECORD + lan(2, "description core", metered=False) + link.replace("172.31.0.0 ", "172.31.0.1 "))
+    assert names(found) == ["up", "down", "between core"]
+
+
 def test_management_interfaces_are_in_no_role(tmp_path: Path) -> None:
     found, text = proposed(tmp_path, r_cfg=RECORD + lan(0, "description customer") + lan(1, "description core")
                            + lan(2, "vrf forwarding Mgmt-intf", metered=False) + lan(3, "description OOB switch", metered=False))

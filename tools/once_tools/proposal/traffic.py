@@ -1,7 +1,7 @@
 """The traffic of a proposed project: all packets that may pass from one interface to another."""
 from __future__ import annotations
 
-from dataclasses import dataclass, field
+from dataclasses import dataclass, field, replace
 
 from once_tools.model import Crossing, Direction
 from once_tools.proposal.areas import Area, Edge, Surroundings
@@ -50,17 +50,26 @@ def between(areas: list[Area], name: str, says: list[str], start: str, end: str)
     return [Flow(name, says, edges_of(there, start), edges_of(there, end), (start, end))] if there else []
 
 
+def may_count_transit(area: Area, around: Surroundings) -> bool:
+    """Returns whether packets between core interfaces may be counted: something is metered elsewhere than where customers are,
+    or which interfaces are core is a guess, or there are no customers."""
+    customers = {edge.node for edge in area.edges if edge.role == "customers"}
+    elsewhere = {(one.device, one.interface) for one in around.metered if one.device in area.names} - customers
+    return bool(elsewhere) or not customers or any(not edge.is_sure for edge in area.edges if edge.role == "core")
+
+
 def between_core(areas: list[Area], around: Surroundings, proposed: Proposed) -> list[Flow]:
-    """Returns the traffic between interfaces of the core: where one is metered, or is known to be one by a guess alone."""
+    """Returns the traffic between interfaces of the core, where its packets may be counted."""
     there = [area for area in areas if pairs_of(area, "core", "core")]
-    wanted = [area for area in there if any(around.is_metered(edge.node) or not edge.is_sure for edge in area.edges
-                                            if edge.role == "core")
-              or not any(edge.role == "customers" for edge in area.edges)]
+    wanted = [area for area in there if may_count_transit(area, around)]
     for area in there:
         if area not in wanted:
             proposed.unsaid.append(f"Packets between the core interfaces of {', '.join(area.names)} are metered nowhere, and no "
                                    "traffic is proposed for them.")
-    return between(wanted, "between core", ["Packets from one core interface to another."], "core", "core")
+    found = between(wanted, "between core", ["Packets from one core interface to another."], "core", "core")
+    if wanted != there:
+        found = [replace(one, roles=("", "")) for one in found]
+    return found
 
 
 def between_roles(around: Surroundings, proposed: Proposed) -> list[Flow]:
@@ -143,11 +152,13 @@ def with_versions(flow: Flow, around: Surroundings) -> list[Flow]:
 
 
 def likeness(edge: Edge, around: Surroundings) -> tuple[object, ...]:
-    """Returns what of an interface bears on how its packets are counted: its meters, and the versions of IP there."""
+    """Returns what of an interface bears on how its packets are counted: the meters there, at its main interface and at its
+    members, and the versions of IP."""
     device, name = edge.node
+    names = {name: "", edge.interface.parent: "main", **{one: "member" for one in edge.interface.members}}
     points = around.devices[device].points if device in around.devices else []
-    seen = {(point.direction.value, one.cache, *sorted(one.match.items())) for point in points if name in point.interfaces
-            for one in point.selections}
+    seen = {(names[each], point.direction.value, one.cache, *sorted(one.match.items())) for point in points
+            for each in names.keys() & set(point.interfaces) for one in point.selections}
     return device, edge.interface.vrf, frozenset(seen), frozenset(versions_at(edge, around))
 
 
