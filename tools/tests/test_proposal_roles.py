@@ -198,6 +198,23 @@ def test_too_many_pairs_are_represented_by_interfaces_that_are_metered_alike(onc
     assert run("audit", "project.toml", "--once", once, cwd=tmp_path).returncode == 1
 
 
+def test_a_mesh_with_too_many_paths(once: str, tmp_path: Path) -> None:
+    """Eight routers with a link between any two have 109,592 paths over at most 8 devices between their 8 customers, and 28,952
+    over at most 6. `once-import` lists 100,000."""
+    files = {}
+    for one in range(8):
+        links = "".join(
+            interface(f"GigabitEthernet1/{other}", metered=False,
+                      address=f"172.31.{min(one, other)}.{2 * max(one, other) + (one > other)} 255.255.255.254")
+            for other in range(8) if other != one)
+        files[f"r{one}_cfg"] = f"hostname r{one}\n{RECORD}" + lan(one, f"description customer {one}") + links
+    found, text = proposed(tmp_path, **files)
+    assert [(one["name"], one["hops"]) for one in found["traffic"]] == [("between customers", 6)]
+    (tmp_path / "project.toml").write_text(text)
+    audit = run("audit", "project.toml", "--once", once, cwd=tmp_path)
+    assert audit.returncode == 0 and "premise project.toml" in audit.stdout
+
+
 def test_bridges_that_nothing_joins(tmp_path: Path) -> None:
     """Without their patch ports the two bridges of the sample pass no packets to each other."""
     sample = (Path(__file__).parent / "samples" / "openvswitch" / "hv-1.ovsdb.json").read_text()

@@ -3,13 +3,16 @@ from __future__ import annotations
 
 from dataclasses import dataclass, field, replace
 
-from once_tools.model import Crossing, Direction
+from once_tools.model import Crossing, Direction, Place, Unusable
+from once_tools.paths.ways import Search, simple_paths
 from once_tools.proposal.areas import Area, Edge, Surroundings
 from once_tools.proposal.toml import comment, listed, quoted
 
 # A traffic between two lists of interfaces is written for representatives if it has more pairs than this.
 MOST_PAIRS = 40_000
 EXEMPT = "exempt = true"
+# Numbers of devices that a path may lead over, the usual one first.
+HOPS = (8, 6, 5, 4, 3, 2)
 
 
 @dataclass
@@ -23,6 +26,7 @@ class Flow:
     roles: tuple[str, str] = ("", "")
     paths: list[str] = field(default_factory=list)
     version: int | None = None
+    hops: int | None = None
 
 
 @dataclass
@@ -147,7 +151,7 @@ def with_versions(flow: Flow, around: Surroundings) -> list[Flow]:
             says.append(f"IPv{10 - version} is left out: no packet of it can come in at one of these interfaces and leave by "
                         "another that has an address of it.")
         name = flow.name + (" over IPv6" if again else "")
-        found.append(Flow(name, says, flow.start, flow.end, flow.roles, flow.paths, version))
+        found.append(replace(flow, name=name, says=says, version=version))
     return found
 
 
@@ -179,7 +183,22 @@ def reduced(flow: Flow, around: Surroundings) -> Flow:
     start, end = representatives(flow.start, around), representatives(flow.end, around)
     says = [*flow.says, f"Of {len(flow.start)} and {len(flow.end)} interfaces, those that are metered alike are represented by "
             "two of them: packets of the others are counted as packets of these are."]
-    return Flow(flow.name, says, start, end, ("", ""), flow.paths, flow.version)
+    return replace(flow, says=says, start=start, end=end, roles=("", ""))
+
+
+def with_hops(flow: Flow, around: Surroundings) -> Flow:
+    """Returns a traffic whose paths can be listed: over fewer devices than usual, if they are too many."""
+    if not any(edge.node[0] in area.names and len(area.names) > 1 for area in around.areas for edge in flow.start[:1]):
+        return flow
+    starts, ends = ([edge.node for edge in edges] for edges in (flow.start, flow.end))
+    for hops in HOPS:
+        try:
+            simple_paths(around.topology, Search(starts, ends, hops, False, Place("")), set())
+        except Unusable:
+            continue
+        says = [*flow.says, f"Paths over more than {hops} devices are too many to list: give routing tables for them."]
+        return flow if hops == HOPS[0] else replace(flow, hops=hops, says=says)
+    return flow
 
 
 def is_metered(flow: Flow, around: Surroundings) -> bool:
@@ -197,6 +216,7 @@ def lines_of(flow: Flow) -> list[str]:
     else:
         for key, role, edges in (("from", flow.roles[0], flow.start), ("to", flow.roles[1], flow.end)):
             lines.append(f"{key} = {listed([role] if role else [edge.text for edge in edges])}")
+    lines += [f"hops = {flow.hops}"] if flow.hops else []
     return [*lines, *([f"version = {flow.version}"] if flow.version else []), ""]
 
 
@@ -226,7 +246,7 @@ def traffic_of(around: Surroundings) -> Proposed:
                                f"paths = [[\"{hosts[0]}:INTERFACE:ingress\", \"{hosts[1]}:INTERFACE:egress\"]].")
     taken: set[str] = set()
     for flow in flows:
-        for one in with_versions(reduced(flow, around), around):
+        for one in with_versions(with_hops(reduced(flow, around), around), around):
             while one.name in taken:
                 one.name += f" of {one.start[0].node[0]}" if one.start[0].node[0] not in one.name else " too"
             taken.add(one.name)
