@@ -235,6 +235,25 @@ def xr(host: str, **descriptions: str) -> str:
         " flow ipv4 monitor M ingress\n!\n" for name, text in descriptions.items())
 
 
+SIX = "flow monitor-map M6\n record ipv6\n exporter E\n!\n"
+
+
+def test_versions_that_some_interfaces_have(once: str, tmp_path: Path) -> None:
+    """IPv6 is configured at one of two customers and at the core: what it sends over IPv6 comes in there alone."""
+    def port(number: int, text: str, six: bool) -> str:
+        more = f" ipv6 address 2001:db8:{number}::1/64\n flow ipv6 monitor M6 ingress\n" if six else ""
+        return (f"interface TenGigE0/0/0/{number}\n description {text}\n ipv4 address 10.0.{number}.1/24\n"
+                f" flow ipv4 monitor M ingress\n{more}!\n")
+
+    found, text = proposed(tmp_path, x_cfg=f"hostname x\n{XR}{SIX}" + port(1, "customer", True) + port(2, "customer", False)
+                           + port(3, "core", True))
+    assert [(one["name"], one["from"], one["to"], one.get("version")) for one in found["traffic"]] == [
+        ("up", ["customers"], ["core"], 4), ("up over IPv6", ["x:TenGigE0/0/0/1"], ["x:TenGigE0/0/0/3"], 6),
+        ("down", ["core"], ["customers"], None), ("between customers", ["customers"], ["customers"], 4)]
+    (tmp_path / "project.toml").write_text(text)
+    assert run("audit", "project.toml", "--once", once, cwd=tmp_path).returncode == 0
+
+
 LINKED = [["pe-1:TenGigE0/0/0/2", "p-1:TenGigE0/0/0/1"]]
 
 

@@ -8,10 +8,11 @@ from once_tools.project import Project, parse_project
 from once_tools.proposal.areas import Edge, Surroundings, partial_meters, surroundings, topology_of_project
 from once_tools.proposal.collectors import collectors_of
 from once_tools.proposal.files import Folder, Found, Output, look_at
+from once_tools.proposal.flows import lines_of
 from once_tools.proposal.links import Described, described_links
 from once_tools.proposal.roles import give_roles
 from once_tools.proposal.toml import comment, commented, listed, one_or_list, quoted
-from once_tools.proposal.traffic import Proposed, lines_of, traffic_of
+from once_tools.proposal.traffic import Proposed, traffic_of
 from once_tools.report import printable, where
 from once_tools.source import Source
 

@@ -6,27 +6,14 @@ from dataclasses import dataclass, field, replace
 from once_tools.model import Crossing, Direction, Place, Unusable
 from once_tools.paths.ways import Search, simple_paths
 from once_tools.proposal.areas import Area, Edge, Surroundings
-from once_tools.proposal.toml import comment, listed, quoted
+from once_tools.proposal.flows import Flow
+from once_tools.proposal.versions import versions_at, with_versions
 
 # A traffic between two lists of interfaces is written for representatives if it has more pairs than this.
 MOST_PAIRS = 40_000
 EXEMPT = "exempt = true"
 # Numbers of devices that a path may lead over, the usual one first.
 HOPS = (8, 6, 5, 4, 3, 2)
-
-
-@dataclass
-class Flow:
-    """A traffic from some interfaces to others, written as roles or interfaces; or along paths of single crossings."""
-
-    name: str
-    says: list[str]
-    start: list[Edge] = field(default_factory=list)
-    end: list[Edge] = field(default_factory=list)
-    roles: tuple[str, str] = ("", "")
-    paths: list[str] = field(default_factory=list)
-    version: int | None = None
-    hops: int | None = None
 
 
 @dataclass
@@ -117,44 +104,6 @@ def at_host(area: Area) -> list[Flow]:
             Flow(f"out at {device} {name}", [out], [edge], [edge], paths=[f"{edge.text}:egress"])]
 
 
-def versions_at(edge: Edge, around: Surroundings) -> set[int]:
-    """Returns the versions of IP at an interface: those of its addresses, or those that its device meters if the device shows
-    none."""
-    one, device = edge.interface, edge.node[0]
-    shown = {6 if ":" in text else 4 for text in one.addresses} | set(one.has)
-    return shown if shown or around.has_addresses(device) else around.versions.get(device, set()) or {4}
-
-
-def versions_of(flow: Flow, around: Surroundings) -> set[int]:
-    """Returns the versions of IP of which a packet can come in and leave."""
-    starts, ends = ([(edge.node, versions_at(edge, around)) for edge in edges] for edges in (flow.start, flow.end))
-    found: set[int] = set()
-    for version in (4, 6):
-        first, last = ([node for node, each in edges if version in each] for edges in (starts, ends))
-        if first and last and (flow.paths or len({*first, *last}) > 1):
-            found.add(version)
-    return found
-
-
-def with_versions(flow: Flow, around: Surroundings) -> list[Flow]:
-    """Returns a traffic for each version of IP that must be named, since the addresses of its ends say something else."""
-    can, edges = versions_of(flow, around), [*flow.start, *flow.end]
-    shown = {6 if ":" in text else 4 for edge in edges for text in edge.interface.addresses}
-    shown |= {version for edge in edges for version in edge.interface.has}
-    if not can or can == (shown or {4}) and not (shown and flow.paths):
-        return [flow]
-    found = []
-    for version in sorted(can):
-        again = len(can) > 1 and version == 6
-        says = ["The same over IPv6."] if again else list(flow.says)
-        if shown - can:
-            says.append(f"IPv{10 - version} is left out: no packet of it can come in at one of these interfaces and leave by "
-                        "another that has an address of it.")
-        name = flow.name + (" over IPv6" if again else "")
-        found.append(replace(flow, name=name, says=says, version=version))
-    return found
-
-
 def likeness(edge: Edge, around: Surroundings) -> tuple[object, ...]:
     """Returns what of an interface bears on how its packets are counted: the meters there, at its main interface and at its
     members, and the versions of IP."""
@@ -206,18 +155,6 @@ def is_metered(flow: Flow, around: Surroundings) -> bool:
     crossings = [Crossing(*edge.node, Direction.INGRESS) for edge in flow.start]
     crossings += [Crossing(*edge.node, Direction.EGRESS) for edge in flow.end]
     return any(one in around.for_report for one in crossings)
-
-
-def lines_of(flow: Flow) -> list[str]:
-    """Returns the table of a traffic."""
-    lines = [line for text in flow.says for line in comment(text)] + ["[[traffic]]", f"name = {quoted(flow.name)}"]
-    if flow.paths:
-        lines.append(f"paths = [{', '.join(listed([one]) for one in flow.paths)}]")
-    else:
-        for key, role, edges in (("from", flow.roles[0], flow.start), ("to", flow.roles[1], flow.end)):
-            lines.append(f"{key} = {listed([role] if role else [edge.text for edge in edges])}")
-    lines += [f"hops = {flow.hops}"] if flow.hops else []
-    return [*lines, *([f"version = {flow.version}"] if flow.version else []), ""]
 
 
 def with_advice(flow: Flow, around: Surroundings) -> Flow:
