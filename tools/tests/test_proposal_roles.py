@@ -117,7 +117,8 @@ def test_core_interfaces_with_a_metered_link_between_them(tmp_path: Path) -> Non
     """A packet from one uplink to the other is counted at the link, perhaps at both its ends."""
     link = interface("GigabitEthernet0/9", address="172.31.0.0 255.255.255.254")
     found, _ = proposed(
-        tmp_path, r_cfg="hostname r\n" + RECORD + lan(0, "description customer") + lan(1, "description core", metered=False) + link,
+        tmp_path, r_cfg="hostname r\n" + RECORD + lan(0, "description customer") + lan(1, "description core", metered=False)
+        + link,
         s_cfg="hostname s\n" + RECORD + lan(2, "description core", metered=False) + link.replace("172.31.0.0 ", "172.31.0.1 "))
     assert names(found) == ["up", "down", "between core"]
 
@@ -286,3 +287,15 @@ def test_meters_of_one_host_are_asked_about(tmp_path: Path) -> None:
     probe = "plugins: nfprobe\npcap_interface: eth0\nnfprobe_receiver: 192.0.2.50:2100\naggregate: src_host\n"
     _, text = proposed(tmp_path, inner_conf=probe, outer_conf=probe.replace("eth0", "eth1"))
     assert "# If two of inner, outer meter interfaces of one host" in text
+
+
+def test_versions_of_a_role_whose_interfaces_have_no_way_to_each_other(tmp_path: Path) -> None:
+    """Two core interfaces of r pass IPv4 to each other. The one of x has IPv6, and no other one to pass it to."""
+    six = " ipv6 address 2001:db8::1/64\n"
+    found, _ = proposed(
+        tmp_path, r_cfg="hostname r\n" + RECORD + lan(0, "description customer") + lan(1, "description core")
+        + lan(2, "description core"),
+        x_cfg=f"hostname x\n{XR}" + "interface TenGigE0/0/0/1\n description customer\n ipv4 address 10.7.1.1/24\n"
+        f" flow ipv4 monitor M ingress\n!\ninterface TenGigE0/0/0/2\n description core\n ipv4 address 10.7.2.1/24\n{six}"
+        " flow ipv4 monitor M ingress\n!\n")
+    assert {one["name"]: one.get("version") for one in found["traffic"]} == {"up": 4, "down": 4, "between core": 4}

@@ -37,8 +37,8 @@ def edges_of(areas: list[Area], role: str) -> list[Edge]:
 
 def between(areas: list[Area], name: str, says: list[str], start: str, end: str) -> list[Flow]:
     """Returns the traffic from a role to a role, if there is a way."""
-    there = [area for area in areas if pairs_of(area, start, end)]
-    return [Flow(name, says, edges_of(there, start), edges_of(there, end), (start, end))] if there else []
+    is_there = any(pairs_of(area, start, end) for area in areas)
+    return [Flow(name, says, edges_of(areas, start), edges_of(areas, end), (start, end))] if is_there else []
 
 
 def may_count_transit(area: Area, around: Surroundings) -> bool:
@@ -57,10 +57,9 @@ def between_core(areas: list[Area], around: Surroundings, proposed: Proposed) ->
         if area not in wanted:
             proposed.unsaid.append(f"Packets between the core interfaces of {', '.join(area.names)} are metered nowhere, and no "
                                    "traffic is proposed for them.")
-    found = between(wanted, "between core", ["Packets from one core interface to another."], "core", "core")
-    if wanted != there:
-        found = [replace(one, roles=("", "")) for one in found]
-    return found
+    found = between(areas if wanted == there else wanted, "between core", ["Packets from one core interface to another."], "core",
+                    "core")
+    return found if wanted == there else [replace(one, roles=("", "")) for one in found]
 
 
 def between_roles(around: Surroundings, proposed: Proposed) -> list[Flow]:
@@ -137,7 +136,8 @@ def reduced(flow: Flow, around: Surroundings) -> Flow:
 
 def with_hops(flow: Flow, around: Surroundings) -> Flow:
     """Returns a traffic whose paths can be listed: over fewer devices than usual, if they are too many."""
-    if not any(edge.node[0] in area.names and len(area.names) > 1 for area in around.areas for edge in flow.start[:1]):
+    linked = {name for area in around.areas for name in area.names if len(area.names) > 1}
+    if not any(edge.node[0] in linked for edge in flow.start):
         return flow
     starts, ends = ([edge.node for edge in edges] for edges in (flow.start, flow.end))
     for hops in HOPS:

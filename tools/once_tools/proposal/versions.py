@@ -58,8 +58,8 @@ def with_versions(flow: Flow, around: Surroundings) -> list[Flow]:
     found = []
     for version, (start, end) in can.items():
         again = len(can) > 1 and version == 6
-        says = ["The same over IPv6" + (", between the interfaces that have it." if version in named else ".")] if again else list(
-            flow.says)
+        same = "The same over IPv6" + (", between the interfaces that have it." if version in named else ".")
+        says = [same] if again else list(flow.says)
         if shown - set(can):
             says.append(f"IPv{10 - version} is left out: no packet of it can come in at one of these interfaces and leave by "
                         "another that has an address of it.")
