@@ -1,7 +1,7 @@
 """What `once-import new` proposes for the files of each sample, and what `once` answers, as worked out by hand.
 
-The file `new.expected` of a folder has the cases: the files that are given, the roles and traffic that must be proposed, the
-exit status, the beginnings of the answers, and the places that a refutation must name. Where the user has to edit the
+The file `new.expected` of a folder has the cases: the files that are given, the roles and traffic that must be proposed, what
+comments must say, the exit status, the beginnings of the answers, and the places that a refutation must name. Where the user has to edit the
 proposal, `after` has the edit and the answer after it."""
 from __future__ import annotations
 
@@ -97,8 +97,8 @@ def edited(text: str, after: dict[str, Any]) -> str:
 
 @each(ALL)
 def test_proposal(case: Case, tmp_path: Path) -> None:
-    found = tomllib.loads(proposed(case, tmp_path))
-    wanted = case.wanted
+    text, wanted = proposed(case, tmp_path), case.wanted
+    found = tomllib.loads(text)
     assert {one["name"]: one["kind"] for one in found["devices"]} == wanted["devices"]
     assert (collector_of(found), found["report"]["key"]) == (wanted["collector"], wanted["key"])
     assert found.get("roles", {}) == wanted["roles"]
@@ -106,6 +106,8 @@ def test_proposal(case: Case, tmp_path: Path) -> None:
     for name, ends in wanted.get("ends", {}).items():
         one = next(one for one in found["traffic"] if one["name"] == name)
         assert sorted(one["from"]) == sorted(one["to"]) == sorted(ends)
+    comments = " ".join(line[line.index("#"):].lstrip("# ") for line in text.splitlines() if "#" in line)
+    assert [says for says in wanted.get("says", []) if says not in comments] == []
 
 
 @each(ALL)

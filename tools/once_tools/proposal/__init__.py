@@ -84,7 +84,7 @@ def traffic_lines(proposed: Proposed, around: Surroundings) -> list[str]:
     lines = comment(TRAFFIC if proposed.flows else "No interface was found by which packets pass, so no traffic is proposed: add "
                     "[[traffic]] with a name, and the interfaces as from and to.")
     for text, place in partial_meters(around):
-        lines += comment(f"A filter takes a part of the packets at {text} ({where(place)}): write source, destination or the "
+        lines += comment(f"A filter ({where(place)}) takes a part of the packets at {text}: write source, destination or the "
                          "like for the packets that must be counted there, and add exempt traffic for the rest.")
     for text in proposed.unsaid:
         lines += comment(text)

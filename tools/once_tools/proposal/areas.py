@@ -195,13 +195,12 @@ def surroundings(project: Project) -> Surroundings:
 
 
 def partial_meters(around: Surroundings) -> list[tuple[str, Place]]:
-    """Returns the interfaces whose meter takes a part of the packets alone, by a filter, each with its line."""
+    """Returns the interfaces whose meter takes a part of the packets alone, by a filter, each with the filter's line."""
     found: dict[str, Place] = {}
     for device in around.devices.values():
         for point in device.points:
-            takes_all = {str(one.match.get("ipVersion", "")) for one in point.selections if set(one.match) <= {"ipVersion"}}
-            partly = {str(one.match.get("ipVersion", "")) for one in point.selections} - takes_all
-            for number, name in enumerate(point.interfaces if partly else ()):
-                place = point.interface_places[number] if number < len(point.interface_places) else point.place
-                found.setdefault(f"{device.name}:{name}", place)
+            whole = {one.match.get("ipVersion", "") for one in point.selections if set(one.match) <= {"ipVersion"}}
+            parts = [one.place for one in point.selections if one.match.get("ipVersion", "") not in whole]
+            for name in point.interfaces if parts else ():
+                found.setdefault(f"{device.name}:{name}", parts[0])
     return list(found.items())
