@@ -14,6 +14,7 @@ from once_tools.paths.setup import CAPTURING, tables_of, topology_of
 from once_tools.paths.topology import Node, Topology
 from once_tools.project import Project
 from once_tools.proposal.bridges import bridges_of
+from once_tools.proposal.dynamic import add_dynamic
 
 LOOPBACK = re.compile(r"(loopback|lo\d*(\.\d+)?$|dum(my)?\d|null\d|system$|local$)", re.I)
 MANAGEMENT_PORT = re.compile(r"(mgmt|management)", re.I)
@@ -88,6 +89,7 @@ def edges_of(name: str, around: Surroundings) -> list[Edge]:
     """Returns the interfaces of a device by which packets come into the network or leave it."""
     interfaces, found = around.topology.interfaces.get(name, {}), []
     members = {member for one in interfaces.values() for member in one.members}
+    parents = {one.parent for one in interfaces.values()}
     kind = around.devices[name].kind if name in around.devices else ""
     has_addresses = around.has_addresses(name)
     for one in interfaces.values():
@@ -100,8 +102,8 @@ def edges_of(name: str, around: Surroundings) -> list[Edge]:
             around.left_out.append((f"{name}:{one.name}", "for management"))
         elif one.addresses or one.has or not has_addresses or around.is_metered(node, True):
             found.append(Edge(node, one))
-        elif around.is_metered(node):
-            around.left_out.append((f"{name}:{one.name}", "has no address, and is not metered for the report"))
+        elif one.name not in parents:
+            around.left_out.append((f"{name}:{one.name}", "no address is known, and nothing meters it for the report"))
     return found
 
 
@@ -184,6 +186,7 @@ def surroundings(project: Project) -> Surroundings:
     versions = {one.name: versions_of(one) for one in devices}
     metered = {one for device in devices for one in crossings_of(device, None)}
     topology = topology_of(devices, project)
+    add_dynamic(project, devices, topology)
     tables = tables_of(project, topology)
     report = replace(project.report, key=("sourceIPv4Address",))
     network = merge(replace(project, report=report, findings=list[Finding]()), devices, collectors)
