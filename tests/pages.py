@@ -21,11 +21,10 @@ document = json.load(open("network.json"))
 del document["devices"][0]["config"]["ietf-ipfix-psamp:ipfix"]["observationPoint"][1]
 json.dump(document, open("network.json", "w"))
 END""",
-    "- What must not be counted. Customers are billed": """python3 - <<'END'
+    "To say so, add the line `exempt = true`": """python3 - <<'END'
 text = open("network.toml").read()
-text = text.replace('"edge-2:GigabitEthernet0/0/0"]', '"edge-2:GigabitEthernet0/0/0", "gw-3:eth0"]')
-text = text.replace('"edge-2:TenGigabitEthernet0/1/0"]', '"edge-2:TenGigabitEthernet0/1/0", "gw-3:eth1"]')
-text = text.replace('name = "down"', 'name = "down"\\nexempt = true')
+for name in ("down", "out at gw-3 eth0", "out at gw-3 eth0 over IPv6"):
+    text = text.replace('name = "%s"\\n' % name, 'name = "%s"\\nexempt = true\\n' % name)
 open("network.toml", "w").write(text)
 END""",
 }

@@ -40,8 +40,10 @@ def chosen_reader(kind: str, sources: list[Source], place: Place) -> Reader:
     found = detected(sources)
     if not found:
         names = ", ".join(source.name for source in sources)
-        raise Unusable(place, f"the kind of {names} is not clear from the text", "write kind = \"..\" (see `once-import "
-                                                                                   "kinds`)")
+        near = [kind for score, kind in scores("\n".join(source.text for source in sources)) if score][:4]
+        raise Unusable(place, f"the kind of {names} is not clear from the text",
+                       f"write kind = \"..\", perhaps with one of {', '.join(near)} (see `once-import kinds`)" if near else
+                       "write kind = \"..\" (see `once-import kinds`)")
     return READERS[found]
 
 
@@ -71,7 +73,7 @@ def load_device(project: Project, entry: DeviceEntry) -> Device:
         return Device(entry.name, entry.kind or "host", [])
     sources = project.sources(entry.config, entry.place)
     kind = entry.meter or ("" if entry.kind in PLAIN else entry.kind)
-    return read_by(chosen_reader(kind, sources, entry.place), entry.name, sources, entry.options)
+    return read_by(chosen_reader(kind, sources, entry.kind_place), entry.name, sources, entry.options)
 
 
 def listener_of(entry: CollectorEntry, findings: list[Finding]) -> Listener:

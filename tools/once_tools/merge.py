@@ -10,7 +10,7 @@ from once_tools.model import Aggregation, Destination, Device, Exporter, Finding
 from once_tools.names import make_unique
 from once_tools.network import Network, leading_exporters
 from once_tools.old_versions import check_versions
-from once_tools.project import CollectorEntry, Project
+from once_tools.project import CollectorEntry, Project, Report
 from once_tools.toml_table import nearest
 
 MOST_LINKS, MOST_PROCESSES, MOST_ENTRIES = 1024, 256, 256
@@ -74,15 +74,24 @@ def forward(entry: CollectorEntry, collectors: dict[str, Device], network: Netwo
             listener.forwards += names
 
 
+def no_collector(report: Report, names: list[str]) -> Finding:
+    """Returns the finding that the project has no collector of the report's name; `?` is the name that nobody has filled in."""
+    place = report.collector_place if report.collector_place.line else report.place
+    added = 'add [[collectors]] with a name and listen = ["ADDRESS:PORT"], and write its name here'
+    if report.collector == "?":
+        return Finding(Grade.WRONG, place, "the collector whose totals are asked for is not named",
+                       f"write one of {', '.join(names)}" if names else added)
+    return Finding(Grade.WRONG, place, f"there is no collector '{report.collector}'",
+                   nearest(report.collector, names) if names else added)
+
+
 def report_listener(project: Project, network: Network, collectors: dict[str, Device]) -> None:
     """Sets whose totals are asked for."""
     report = project.report
     device = collectors.get(report.collector) or network.device(report.collector)
     if device is None:
         if report.collector:
-            network.findings.append(Finding(Grade.WRONG, report.place, f"there is no collector '{report.collector}'",
-                                            nearest(report.collector, collectors) if collectors else
-                                            "add it under [[collectors]]"))
+            network.findings.append(no_collector(report, list(collectors)))
         return
     names = [one.name for one in device.listeners]
     if report.process and report.process not in names or not names:

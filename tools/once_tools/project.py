@@ -24,11 +24,12 @@ class Report:
     place: Place
     process: str = ""
     plugin: str = ""
+    collector_place: Place = Place("")  # the line of `collector`
 
 
 @dataclass(frozen=True)
 class DeviceEntry:
-    """A device with its files, as the project names them. `options` go to the reader."""
+    """A device with its files, as the project names them. `options` go to the reader; `kind_place` is the line of `kind`."""
 
     name: str
     place: Place
@@ -40,6 +41,7 @@ class DeviceEntry:
     aliases: tuple[str, ...] = ()
     meter: str = ""
     options: Mapping[str, str] = field(default_factory=dict)
+    kind_place: Place = Place("")
 
 
 @dataclass(frozen=True)
@@ -71,12 +73,14 @@ class AddressEntry:
 
 @dataclass(frozen=True)
 class LinksEntry:
-    """Where links between devices are read from: CSV tables, LLDP and CDP outputs, shared small subnets."""
+    """Where links between devices are read from: CSV tables, pairs of `DEVICE:INTERFACE`, LLDP and CDP outputs, shared small
+    subnets."""
 
     table: tuple[str, ...] = ()
     lldp: tuple[str, ...] = ()
     subnets: bool = True
     place: Place = Place("")
+    pairs: tuple[tuple[str, ...], ...] = ()
 
 
 @dataclass(frozen=True)
@@ -200,14 +204,26 @@ def _axes(table: Table) -> dict[str, str]:
     return found
 
 
-def _paths(table: Table) -> tuple[tuple[str, ...], ...]:
-    value = table.value("paths")
+def _lists(table: Table, key: str, example: str) -> tuple[tuple[str, ...], ...]:
+    value = table.value(key)
     if value is None:
         return ()
-    if isinstance(value, list) and all(isinstance(path, list) for path in value):
-        return tuple(tuple(str(crossing) for crossing in path) for path in value)
-    table.wrong("paths", "'paths' must be a list of lists", 'write paths = [["edge-1:eth0:ingress"]]')
+    if isinstance(value, list) and all(isinstance(each, list) for each in value):
+        return tuple(tuple(str(one) for one in each) for each in value)
+    table.wrong(key, f"'{key}' must be a list of lists", f"write {key} = {example}")
     return ()
+
+
+def _paths(table: Table) -> tuple[tuple[str, ...], ...]:
+    return _lists(table, "paths", '[["edge-1:eth0:ingress"]]')
+
+
+def _pairs(table: Table) -> tuple[tuple[str, ...], ...]:
+    found = _lists(table, "pairs", '[["edge-1:eth1", "core-1:eth0"]]')
+    for one in found:
+        if len(one) != 2 or not all(":" in each for each in one):
+            table.wrong("pairs", f"'{', '.join(one)}' is no pair of interfaces", 'write ["edge-1:eth1", "core-1:eth0"]')
+    return tuple(one for one in found if len(one) == 2 and all(":" in each for each in one))
 
 
 def _traffic(table: Table) -> Traffic:
@@ -234,7 +250,8 @@ def _device(table: Table) -> DeviceEntry:
             options[key] = table.text(key)
     return DeviceEntry(
         table.text("name", True), table.place(), table.text("kind"), table.texts("config"), table.texts("addresses"),
-        table.texts("routes"), table.texts("lldp"), table.texts("aliases"), options.get("meter", ""), options)
+        table.texts("routes"), table.texts("lldp"), table.texts("aliases"), options.get("meter", ""), options,
+        table.place("kind") if "kind" in table.raw else table.place())
 
 
 def _directions(table: Table) -> tuple[Direction, ...]:
@@ -273,7 +290,7 @@ def _accepts(table: Table) -> list[Accept]:
 
 def _report(table: Table) -> Report:
     return Report(table.text("collector", True), table.texts("key"), table.place(), table.text("process"),
-                  table.text("plugin"))
+                  table.text("plugin"), table.place("collector") if "collector" in table.raw else table.place())
 
 
 def _addresses(table: Table) -> list[AddressEntry]:
@@ -285,7 +302,7 @@ def _roles(table: Table) -> list[Role]:
 
 
 def _links(table: Table) -> LinksEntry:
-    return LinksEntry(table.texts("table"), table.texts("lldp"), table.flag("subnets", True), table.place())
+    return LinksEntry(table.texts("table"), table.texts("lldp"), table.flag("subnets", True), table.place(), _pairs(table))
 
 
 def _path_options(table: Table) -> PathOptions:

@@ -26,7 +26,12 @@ def test_kinds_roles_and_collectors(tmp_path: Path) -> None:
         "customers": ["edge-1:GigabitEthernet0/0/0", "edge-1:GigabitEthernet0/0/1", "mx-1:xe-0/0/0.0", "mx-1:xe-0/0/1.0"],
         "core": ["edge-1:TenGigabitEthernet0/1/0", "mx-1:xe-0/0/2.0"]}
     assert [one["listen"] for one in found["collectors"]] == [["192.0.2.10:4739"], ["192.0.2.20:2055"]]
-    assert [one["name"] for one in found["traffic"]] == ["up", "down", "between customers"]
+    # IPv6 passes between two interfaces of edge-1 alone: mx-1 has it at one interface.
+    assert [(one["name"], one["version"]) for one in found["traffic"]] == [
+        ("up", 4), ("up over IPv6", 6), ("down", 4), ("down over IPv6", 6), ("between customers", 4)]
+    assert [(one["from"], one["to"]) for one in found["traffic"] if one["version"] == 6] == [
+        (["edge-1:GigabitEthernet0/0/0"], ["edge-1:TenGigabitEthernet0/1/0"]),
+        (["edge-1:TenGigabitEthernet0/1/0"], ["edge-1:GigabitEthernet0/0/0"])]
 
 
 def test_collectors_with_configurations_are_collectors(tmp_path: Path) -> None:
@@ -51,5 +56,6 @@ def test_other_files_are_named(tmp_path: Path) -> None:
 def test_a_bundle_is_in_a_role_and_its_members_are_not(tmp_path: Path) -> None:
     (tmp_path / "r.cfg").write_text("hostname r\nversion 17.9\ninterface Port-channel1\n description core\n ip address 172.31.0.1 "
                                     "255.255.255.254\ninterface TenGigabitEthernet0/0/0\n description core member\n no ip "
-                                    "address\n channel-group 1 mode active\n")
-    assert proposed(tmp_path)["roles"]["core"] == ["r:Port-channel1"]
+                                    "address\n channel-group 1 mode active\ninterface GigabitEthernet0/1\n ip address 10.1.0.1 "
+                                    "255.255.0.0\n")
+    assert proposed(tmp_path)["roles"] == {"core": ["r:Port-channel1"], "customers": ["r:GigabitEthernet0/1"]}

@@ -1,4 +1,4 @@
-"""Links between devices: from a table, from LLDP and CDP, and from small subnets that two devices share."""
+"""Links between devices: from a table, the project itself, LLDP and CDP, and small subnets that two devices share."""
 from __future__ import annotations
 
 import csv
@@ -44,6 +44,14 @@ def add_table(source: Source, topology: Topology) -> None:
         cells = dict(zip(header, (cell.strip() for cell in row)))
         ends = [_end(topology, cells[device], cells[device + "_interface"], place) for device in "ab"]
         if ends[0] and ends[1]:
+            topology.add_peers(ends[0], ends[1])
+
+
+def add_pairs(pairs: tuple[tuple[str, ...], ...], place: Place, topology: Topology) -> None:
+    """Adds the links that a project names itself, as pairs of `DEVICE:INTERFACE`."""
+    for pair in pairs:
+        ends = [lifted(topology, node, place) for text in pair for node in topology.matching(text, place)[:1]]
+        if len(ends) == 2 and ends[0] and ends[1]:
             topology.add_peers(ends[0], ends[1])
 
 

@@ -57,6 +57,7 @@ def _add_links(topology: Topology, project: Project) -> None:
             links.add_table(source, topology)
     except Unusable as error:
         topology.findings.append(error.finding)
+    links.add_pairs(project.links.pairs, project.links.place, topology)
     _join_pairs(topology)
     join_tunnels(topology)
     said: dict[Node, tuple[Node, Place]] = {}
