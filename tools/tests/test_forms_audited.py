@@ -17,14 +17,14 @@ PROJECT = REPORT + '[[devices]]\nname = "r"\nkind = "{kind}"\nconfig = "r.cfg"\n
 # A form, traffic with its ways in and out, and the first line of the answer.
 CASES = [
     # Each packet that comes in at the customer's interface is sampled there alone.
-    ("nokia-sros", "nokia-sros/pe-1.md", "10.8.0.0/16", "203.0.113.0/24", "customer-g", "to-core-1", "once-certificate 1"),
+    ("nokia-sros", "nokia-sros/pe-1.curly", "10.8.0.0/16", "203.0.113.0/24", "customer-g", "to-core-1", "once-certificate 1"),
     ("nokia-sros", "nokia-sros/pe-1.flat", "10.8.0.0/16", "203.0.113.0/24", "customer-g", "to-core-1", "once-certificate 1"),
     ("vyos", "vyos/gw-1.boot", "10.9.0.0/16", "203.0.113.0/24", "eth0", "eth1", "once-certificate 1"),
     ("huawei", "huawei-vrp/ne-2.cfg", "10.7.0.0/16", "203.0.113.0/24", "GigabitEthernet0/1/0", "GigabitEthernet0/1/1",
      "once-certificate 1"),
     # The filter samples customers' packets, but those to 10.9.0.0/16.
     ("nokia-sros", "nokia-sros/pe-2.cfg", "10.0.0.0/8", "203.0.113.0/24", "a", "b", "once-certificate 1"),
-    ("nokia-sros", "nokia-sros/pe-2.md", "192.168.0.0/16", "203.0.113.0/24", "a", "b", "once-certificate 1"),
+    ("nokia-sros", "nokia-sros/pe-2.curly", "192.168.0.0/16", "203.0.113.0/24", "a", "b", "once-certificate 1"),
     ("nokia-sros", "nokia-sros/pe-2.cfg", "10.0.0.0/8", "10.0.0.0/8", "a", "b", "once-refutation 2"),
     ("nokia-sros", "nokia-sros/pe-2.cfg", "172.16.0.0/16", "203.0.113.0/24", "a", "b", "once-refutation 2")]
 

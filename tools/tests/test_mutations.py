@@ -26,7 +26,7 @@ FILES = {"pmacctd": "pmacct/pmacctd.conf", "softflowd": "pmacct/softflowd.servic
          "mikrotik": "mikrotik/gw-6.rsc", "nokia-sros": "nokia-sros/pe-1.cfg", "huawei": "huawei-vrp/ne-1.cfg",
          # After a space, another form of a kind's text.
          "vyos boot": "vyos/gw-1.boot", "huawei aggregation": "huawei-vrp/ne-2.cfg",
-         "nokia-sros filters": "nokia-sros/pe-2.cfg", "nokia-sros md": "nokia-sros/pe-1.md",
+         "nokia-sros filters": "nokia-sros/pe-2.cfg", "nokia-sros md": "nokia-sros/pe-1.curly",
          "nokia-sros flat": "nokia-sros/pe-1.flat"}
 OTHERS = {"nfacctd": ["pmacct/tee_receivers.lst"]}
 # Lines whose change may go unheard: comments, and what does not bear on which packets are counted in which record.

@@ -12,7 +12,7 @@ from once_tools.model import Device, Grade
 from once_tools.report import line_of
 from once_tools.source import Source
 
-CLASSIC, MD, FLAT = ((SAMPLES / "nokia-sros" / name).read_text() for name in ("pe-1.cfg", "pe-1.md", "pe-1.flat"))
+CLASSIC, MD, FLAT = ((SAMPLES / "nokia-sros" / name).read_text() for name in ("pe-1.cfg", "pe-1.curly", "pe-1.flat"))
 FORMS = {"classic": CLASSIC, "md": MD, "flat": FLAT}
 WAY = "/configure cflowd rate 1\n/configure cflowd collector 192.0.2.10:4739 version 10\n/configure cflowd collector " \
       "192.0.2.10:4739 no shutdown\n/configure cflowd no shutdown\n"
@@ -65,7 +65,7 @@ def test_rates_of_profiles() -> None:
     assert "one packet out of 50 is sampled" in "".join(lines(read_text("nokia-sros", text)))
 
 
-FILTER, MD_FILTER = ((SAMPLES / "nokia-sros" / name).read_text() for name in ("pe-2.cfg", "pe-2.md"))
+FILTER, MD_FILTER = ((SAMPLES / "nokia-sros" / name).read_text() for name in ("pe-2.cfg", "pe-2.curly"))
 
 
 def times(device: Device, source: str, destination: str, **others: str) -> int:
