@@ -6,7 +6,11 @@ from dataclasses import dataclass
 from typing import Iterable
 
 from once_tools.model import Device, Finding, Grade, Topic
+from once_tools.readers import junos, vyos
 from once_tools.source import Source
+
+# Kinds whose statements are looked at as `set` lines, in whichever form the text has them.
+STATEMENTS = {"junos": junos.statements_of, "vyos": vyos.statements_of}
 
 
 @dataclass(frozen=True)
@@ -53,7 +57,7 @@ PATTERNS = [
              "make all MTUs on metered paths equal, or meter before this interface"),
 ]
 
-# A rule of VyOS that is disabled, or statements of Junos that are not in force.
+# A rule of VyOS that is disabled, or statements of Junos that are deactivated, where the text is taken line by line.
 OFF = re.compile(r"(set nat \S+ rule \S+) disable\s*|deactivate (.+?)\s*")
 
 
@@ -63,22 +67,27 @@ def not_in_force(lines: Iterable[str]) -> tuple[str, ...]:
     return tuple((one[1] or f"set {one[2]}") + " " for one in found if one)
 
 
+def lines_of(device: Device, source: Source) -> list[tuple[int, str]]:
+    """Returns the lines of a configuration that are in force, with their numbers."""
+    found = STATEMENTS.get(device.kind)
+    lines = [(one.place.line, "set " + " ".join(one.words)) for one in found(source) if not one.inactive] if found else \
+        list(enumerate(source.lines(), 1))
+    off = not_in_force(line for _, line in lines)
+    return [(number, line) for number, line in lines if not line.startswith(off)]
+
+
 def premises(device: Device, sources: Iterable[Source], read: set[Topic] = set()) -> list[Finding]:
     """Returns a finding for each kind of statement, at its first line, unless the reader has reported that line. `read` are
     the topics that are reported in full elsewhere."""
     reported = {(one.place.file, one.place.line) for one in device.findings}
     topics = read | {one.topic for one in device.findings if one.topic in (Topic.NAT, Topic.MPLS)}
     found: dict[int, Finding] = {}
-    more: dict[int, int] = {}
     for source in sources:
-        off = not_in_force(source.lines())
-        for number, line in enumerate(source.lines(), 1):
+        for number, line in lines_of(device, source):
             for at, pattern in enumerate(PATTERNS):
-                if not pattern.expression.search(line) or pattern.topic in topics or line.startswith(off):
+                if at in found or pattern.topic in topics or (source.name, number) in reported:
                     continue
-                if at in found:
-                    more[at] = more.get(at, 0) + 1
-                elif (source.name, number) not in reported:
+                if pattern.expression.search(line):
                     found[at] = Finding(pattern.grade, source.place(number), pattern.says, pattern.todo, pattern.topic,
                                         None, device.name)
     return list(found.values())

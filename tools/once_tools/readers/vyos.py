@@ -5,7 +5,7 @@ import re
 from dataclasses import dataclass, field
 from typing import Mapping
 
-from once_tools.model import Cache, Destination, Device, Direction, Exporter, Interface, Place, Point, Topic, Unusable
+from once_tools.model import Cache, Destination, Device, Direction, Exporter, Grade, Interface, Place, Point, Topic, Unusable
 from once_tools.readers import filters
 from once_tools.readers.closing import bundles_of, close_subinterfaces
 from once_tools.readers.log import Log, sampling
@@ -64,6 +64,11 @@ class Accounting:
     source: str = ""
 
 
+def statements_of(source: Source) -> list[Statement]:
+    """Returns the statements of a text of `set` lines or of sections in braces."""
+    return braced_lines(source) if BRACED.search(source.text) else set_lines(source)
+
+
 class _Reading:
     """Reads one router."""
 
@@ -82,17 +87,14 @@ class _Reading:
 
     def statements(self, source: Source) -> list[Statement]:
         """Returns the statements of `set` lines, or of sections in braces. A `set` line that is deactivated is none."""
-        if not BRACED.search(source.text):
-            self.report_edits(source)
-            found = set_lines(source)
-            for one in found:
-                if one.inactive and FLOW_WORDS & set(one.words):
-                    self.log.note(one.place, "this is deactivated: not in force, and left out")
-            return [one for one in found if not one.inactive]
-        found = braced_lines(source)
-        if not any(one.words[0] in SECTIONS for one in found):
-            return []
-        return found
+        found = statements_of(source)
+        if BRACED.search(source.text):
+            return found if any(one.words[0] in SECTIONS for one in found) else []
+        self.report_edits(source)
+        for one in found:
+            if one.inactive and FLOW_WORDS & set(one.words):
+                self.log.note(one.place, "this is deactivated: not in force, and left out")
+        return [one for one in found if not one.inactive]
 
     def report_edits(self, source: Source) -> None:
         """Reports commands that change a configuration, which no output of `show configuration commands` has."""
@@ -309,16 +311,16 @@ class _Reading:
         exporters = list(self.accounting.servers)
         for rule in self.rules.values():
             if rule.is_disabled:
-                self.log.note(rule.place, f"{rule.kind} rule {rule.number} is disabled")
+                self.note_nat(rule, "is disabled")
                 continue
             if rule.excludes:
-                self.log.note(rule.place, f"{rule.kind} rule {rule.number} excludes packets from translation")
+                self.note_nat(rule, "excludes packets from translation")
                 continue
             who = f"packets of {rule.source}" if rule.source else "packets that it translates"
             where = rule.interface or "it"
             if rule.kind.endswith(" source") and self.is_beyond_meters(rule.interface):
-                self.log.note(rule.place, f"{rule.kind} rule {rule.number}: packets have other addresses beyond {where} alone, "
-                              "which is not metered: records have the addresses before the translation", exporters=exporters)
+                self.note_nat(rule, f"gives packets other addresses beyond {where} alone, which is not metered: records have the "
+                              "addresses before the translation")
                 continue
             if rule.kind.endswith(" source"):
                 source = f"the source {rule.translation}" if rule.translation else "another source"
@@ -332,6 +334,10 @@ class _Reading:
                         "report by address counts them under the one that the meter sees")
             self.log.lost(rule.place, says, "report by addresses that are not translated, or accept this", Topic.NAT,
                           None, exporters)
+
+    def note_nat(self, rule: Rule, says: str) -> None:
+        self.log.add(Grade.NOTE, rule.place, f"{rule.kind} rule {rule.number} {says}", topic=Topic.NAT,
+                     exporters=self.accounting.servers)
 
     def is_beyond_meters(self, interface: str) -> bool:
         """Returns whether packets with translated sources, and those that come back to them, cross no metered interface in a
