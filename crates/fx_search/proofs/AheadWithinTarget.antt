@@ -1,9 +1,9 @@
 -- What is ahead lies within its target, which is one of those to be shown.
-use Rattle.std.proofs.Common.{◌≡◌, ℕ, zero, suc, ◌+◌, ◌-◌, ◌≤◌, Bool, List, [], ◌∷◌, ◌++◌, map, refl, arith, Some, slice_get, slice_index, slice_set}
+use Rattle.std.proofs.Common.{◌≡◌, ℕ, zero, suc, ◌+◌, Bool, List, [], ◌∷◌, ◌++◌, map, refl, arith, Some, slice_get}
 use Rattle.std.specs.List.{AllByRecursion}
 use Rattle.fx_elements.specs.Axes.{axis_index}
 use Rattle.fx_elements.specs.declared.axis.Axis.{Axis}
-use Rattle.fx_boxes.specs.Boxes.{Bounds, IsInside, IsStrictlyInside, below_part, above_part}
+use Rattle.fx_boxes.specs.Boxes.{Bounds, IsStrictlyInside}
 use Rattle.fx_tables.specs.declared.traffic.Crossing.{Crossing}
 use Rattle.fx_tables.specs.Classes.{Class}
 use Rattle.fx_tables.specs.Network.{Net}

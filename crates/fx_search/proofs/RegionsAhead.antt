@@ -1,16 +1,21 @@
 -- The regions of a target that are ahead, as a stack.
-use Rattle.std.proofs.Common.{◌≡◌, ℕ, ◌≤◌, List, [], ◌∷◌, ◌++◌, map, refl, reverse, sym, ap, subst, ◌∙◌, append_assoc}
+use Rattle.std.proofs.Common.{◌≡◌, ℕ, ◌+◌, ◌<◌, ◌≤◌, true, false, drop, get_or, length, Option, Some, None, List, [], ◌∷◌, ◌++◌, map, refl, reverse, sym, ap, subst, ◌∙◌, append_assoc}
 use Rattle.std.proofs.lemmas.List.{reverse-append}
 use Rattle.fx_boxes.specs.Boxes.{Bounds, IsStrictlyInside}
 use Rattle.fx_elements.specs.Axes.{axis_index}
 use Rattle.fx_elements.specs.declared.axis.Axis.{Axis}
 use Rattle.fx_leaf.specs.PathSelections.{AreNarrowed, IsNarrowed, PathSelection}
-use Rattle.fx_leaf.proofs.NarrowedRegions.{above_lies, below_lies, front_narrowed, last_narrowed, part_narrowed, split_narrowed, still_narrowed}
+use Rattle.fx_leaf.proofs.NarrowedRegions.{above_lies, below_lies, last_narrowed, part_narrowed, split_narrowed, still_narrowed}
+use Rattle.std.specs.Option.{is_some}
+use Rattle.fx_cert.specs.declared.item.Item.{Item}
+use Rattle.fx_cert.specs.declared.item.Version.{Version}
+use Rattle.fx_tables.specs.Network.{Net}
+use Rattle.fx_leaf.proofs.JoinedVerdicts.{drop_here}
 use Rattle.fx_leaf.proofs.Trees.{map_append'}
 use Rattle.fx_traffic.specs.Targets.{Target}
 use Rattle.fx_search.specs.declared.growing.Waiting.{Waiting}
 use Rattle.fx_search.specs.Fronts.{RegionAhead, lower, root, upper}
-use Rattle.fx_search.specs.Growing.{AllOf, AreAhead, front}
+use Rattle.fx_search.specs.Growing.{AllOf, AreAhead, IsGrowing, IsGrown, front}
 
 pub front_append : (ws vs : List Waiting) → front (ws ++ vs) ≡ front vs ++ front ws
 front_append ws vs = ap reverse (map_append' (λ (w : Waiting). w.ahead) ws vs) ∙ reverse-append (map (λ (w : Waiting). w.ahead) ws) (map (λ (w : Waiting). w.ahead) vs)
@@ -62,3 +67,21 @@ module _ (xs ys : List PathSelection) (t : Target) (ws : List Waiting) (here : W
   -- after a leaf for the last
   pub leaf_ahead : AreAhead ys t ws
   leaf_ahead = record { all = (all_front t ws here h.all).0; narrowed = still_narrowed (λ (w : Waiting). w.ahead.region) (λ (w : Waiting). w.active) xs ys ws here keeps h.narrowed }
+
+-- ---- targets one after another
+
+-- a whole target comes next, and the targets behind it later
+pub opened : (net : Net) (all : List Target) (version : Version) (most : ℕ) (items now : List Item) (lines n : ℕ) (ts : List Target) (k : ℕ) (t : Target) (stack : List Waiting) (active : ℕ) → k < length ts → t ≡ get_or ts k t → stack ≡ record { ahead = root t; active = active } ∷ [] → now ≡ items → n ≡ lines
+    → IsGrowing net all version most items lines (map root (drop k ts)) → IsGrowing net all version most now n (front stack ++ map root (drop (k + 1) ts))
+opened net all version most items now lines n ts k t stack active lt is one same_items same_lines g =
+    let here : drop k ts ≡ t ∷ drop (k + 1) ts = drop_here ts k t lt ∙ ap (λ (x : Target). x ∷ drop (k + 1) ts) (sym is) in
+    let ahead : front stack ++ map root (drop (k + 1) ts) ≡ map root (drop k ts) = ap (λ (ws : List Waiting). front ws ++ map root (drop (k + 1) ts)) one ∙ sym (ap (map root) here) in
+    rw (same_items, same_lines, ahead) g
+
+pub none_of : {A : Type 0} (o : Option A) → is_some o ≡ false → o ≡ None
+none_of None h = refl
+none_of (Some x) h = absurd cc
+
+pub some_grown : (net : Net) (all : List Target) (version : Version) (most : ℕ) (items : List Item) (lines : ℕ) (later : List RegionAhead) (o : Option RegionAhead) → is_some o ≡ true → IsGrown net all version most items lines later o → IsGrown net all version most items lines [] o
+some_grown net all version most items lines later None h g = absurd cc
+some_grown net all version most items lines later (Some a) h g = g

@@ -138,8 +138,8 @@ fn grow<'a, W: Watch>(
         (front growth.old.ahead.items ++ later)
         → IfErr result (IsGivenUp tables.now.net targets most) }
     ensures room { HasProcessRoom tables.now scratch.new }
-    ensures none { IfOk result (λ o. o ≡ None → growth.new.ahead.items ≡ []) }
-    ensures few { growth.new.lines ≤ most }
+    ensures none { IfOk result (λ o. o ≡ None
+        → (growth.new.ahead.items ≡ []) × (growth.new.lines ≤ most)) }
 {
     'regions: loop {
         let Some(next) = growth.ahead.pop() else {
@@ -284,7 +284,15 @@ pub fn search<W: Watch>(
     let version = version_for(classes.as_slice());
     let mut growth = Growth::new(alloc, version)?;
     let lent = targets.as_slice();
-    match grow_all(&mut scratch, &mut bounds, &tables, most, &mut growth, lent, watch)? {
+    match grow_all(
+        &mut scratch,
+        &mut bounds,
+        &tables,
+        most,
+        &mut growth,
+        lent,
+        watch,
+    )? {
         Some(here) => refute(alloc, &tables, classes, &here),
         None => certificate(growth),
     }
