@@ -20,9 +20,9 @@ use Rattle.fx_check.specs.declared.course.Stage.TheVariants as stage
 use Rattle.fx_check.specs.declared.line_fault.LineFault.TheVariants as faults
 use Rattle.fx_check.specs.declared.stack.WaitingRegion.{WaitingRegion}
 
--- the whole region of a target
-abbrev pub region_whole : Bounds → WaitingRegion
-region_whole region = record { region = region; depth = 0 }
+-- the whole region of a target, for which so many selection processes matter
+abbrev pub region_whole : Bounds → ℕ → WaitingRegion
+region_whole region active = record { region = region; depth = 0; active = active }
 
 pub none_waits : (ts : List Target) (at : ℕ) (ws : List WaitingRegion) (s : Stage) → s ≡ stage.Between → IsConsistentAt ts at ws s → ws ≡ []
 none_waits ts at ws s e h = subst (λ (x : Stage). IsConsistentAt ts at ws x) e h
@@ -38,8 +38,8 @@ module _ (z : Version) (judge : Judge) (made : ℕ) (ts : List Target) (at : ℕ
   first_left : (t : Target) → at < length ts → t ≡ get_or ts at t → drop at ts ≡ t ∷ drop (suc at) ts
   first_left t lt is = drop-cons ts at t lt ∙ ap (λ (x : Target). x ∷ drop (suc at) ts) (sym is)
 
-  pub class_opens : (t : Target) (class path : ℕ) (region : Bounds) → ws ≡ [] → at < length ts → t ≡ get_or ts at t → i ≡ item.Class class path → class ≡ t.class → path ≡ t.path → region ≡ t.region → after judge made (goals_at z ts at ws s) i ≡ Ok (goals_at z ts at ws (stage.Tree (region_whole region)))
-  class_opens t class path region none lt is said c p same =
+  pub class_opens : (t : Target) (class path : ℕ) (region : Bounds) (active : ℕ) → ws ≡ [] → at < length ts → t ≡ get_or ts at t → i ≡ item.Class class path → class ≡ t.class → path ≡ t.path → region ≡ t.region → after judge made (goals_at z ts at ws s) i ≡ Ok (goals_at z ts at ws (stage.Tree (region_whole region active)))
+  class_opens t class path region active none lt is said c p same =
       rw (e, said, none, first_left t lt is, eq-eqb class t.class c, eq-eqb path t.path p, same) refl
 
   pub wrong_class : (t : Target) (class path : ℕ) → at < length ts → t ≡ get_or ts at t → i ≡ item.Class class path → (class == t.class && path == t.path) ≡ false → after judge made (goals_at z ts at ws s) i ≡ Err faults.Place

@@ -110,10 +110,10 @@ begins_there tables ts at s w t room e is begun =
     let there : HasBegun tables ts at (stage.Tree w) room = λ target got. subst (λ (x : Target). IsPathBegun tables x.crossings room) (is ∙ get_or_from_slice_get ts at target t got) begun in
     subst (λ (x : Stage). HasBegun tables ts at x room) (sym e) there
 
-split_on : (z : Version) (judge : Judge) (made : ℕ) (ts : List Target) (ws : List WaitingRegion) (w : WaitingRegion) (a : Axis) (v : ℕ) → 0 < length ts
-    → after judge made (tree_goals z ts w ws) (item.Split a v) ≡ split_answer made w.region w.depth (axis_index a) v (tree_goals z ts (below_waits w (axis_index a) v) (ws ++ above_waits w (axis_index a) v ∷ []))
-split_on z judge made [] ws w a v some = absurd (omega arith)
-split_on z judge made (t ∷ ts) ws w a v some = rw (waiting_push z t ws (above_waits w (axis_index a) v) (ahead z ts)) refl
+split_on : (z : Version) (judge : Judge) (made : ℕ) (ts : List Target) (ws : List WaitingRegion) (w : WaitingRegion) (a : Axis) (v m : ℕ) → 0 < length ts
+    → after judge made (tree_goals z ts w ws) (item.Split a v) ≡ split_answer made w.region w.depth (axis_index a) v (tree_goals z ts (below_waits w (axis_index a) v m) (ws ++ above_waits w (axis_index a) v m ∷ []))
+split_on z judge made [] ws w a v m some = absurd (omega arith)
+split_on z judge made (t ∷ ts) ws w a v m some = rw (waiting_push z t ws (above_waits w (axis_index a) v m) (ahead z ts)) refl
 
 deep_more : (k : ℕ) (ws : List WaitingRegion) (w : WaitingRegion) → AreDeepFrom k ws → k + length ws < w.depth → w.depth ≤ 512 → AreDeepFrom k (ws ++ w ∷ [])
 deep_more k [] w h lt le = (omega arith, le, tt)
@@ -145,23 +145,23 @@ stands_pop ts at ws rest w s h i e =
     let f : AreDeep (rest ++ w ∷ []) k.1.0 = subst (λ (x : List WaitingRegion). AreDeep x k.1.0) e k.1.1 in
     (k.0, deep_pop rest w k.1.0 f)
 
-pub split_goal : (z : Version) (judge : Judge) (made : ℕ) (ts : List Target) (at : ℕ) (ws : List WaitingRegion) (s : Stage) (w : WaitingRegion) (a : Axis) (v : ℕ) → IsConsistentAt ts at ws s → s ≡ stage.Tree w
-    → after judge made (goals_at z ts at ws s) (item.Split a v) ≡ split_answer made w.region w.depth (axis_index a) v (tree_goals z (drop at ts) (below_waits w (axis_index a) v) (ws ++ above_waits w (axis_index a) v ∷ []))
-split_goal z judge made ts at ws s w a v h e =
+pub split_goal : (z : Version) (judge : Judge) (made : ℕ) (ts : List Target) (at : ℕ) (ws : List WaitingRegion) (s : Stage) (w : WaitingRegion) (a : Axis) (v m : ℕ) → IsConsistentAt ts at ws s → s ≡ stage.Tree w
+    → after judge made (goals_at z ts at ws s) (item.Split a v) ≡ split_answer made w.region w.depth (axis_index a) v (tree_goals z (drop at ts) (below_waits w (axis_index a) v m) (ws ++ above_waits w (axis_index a) v m ∷ []))
+split_goal z judge made ts at ws s w a v m h e =
     let k : IsConsistentAt ts at ws (stage.Tree w) = subst (λ (x : Stage). IsConsistentAt ts at ws x) e h in
-    rw e (split_on z judge made (drop at ts) ws w a v (omega (arith, length-drop at ts, k.0)))
+    rw e (split_on z judge made (drop at ts) ws w a v m (omega (arith, length-drop at ts, k.0)))
 
-pub split_end : (z : Version) (judge : Judge) (made : ℕ) (ts : List Target) (at : ℕ) (ws after_push : List WaitingRegion) (s : Stage) (w below above : WaitingRegion) (a : Axis) (v : ℕ) (r : Result (List Goal) LineFault) → IsConsistentAt ts at ws s → s ≡ stage.Tree w
-    → below ≡ below_waits w (axis_index a) v → above ≡ above_waits w (axis_index a) v → after_push ≡ ws ++ above ∷ []
+pub split_end : (z : Version) (judge : Judge) (made : ℕ) (ts : List Target) (at : ℕ) (ws after_push : List WaitingRegion) (s : Stage) (w below above : WaitingRegion) (a : Axis) (v m : ℕ) (r : Result (List Goal) LineFault) → IsConsistentAt ts at ws s → s ≡ stage.Tree w
+    → below ≡ below_waits w (axis_index a) v m → above ≡ above_waits w (axis_index a) v m → after_push ≡ ws ++ above ∷ []
     → split_answer made w.region w.depth (axis_index a) v (tree_goals z (drop at ts) below after_push) ≡ r → after judge made (goals_at z ts at ws s) (item.Split a v) ≡ r
-split_end z judge made ts at ws after_push s w below above a v r h e lower upper pushed is =
-    split_goal z judge made ts at ws s w a v h e ∙ (rw (← upper, ← lower, ← pushed) is)
+split_end z judge made ts at ws after_push s w below above a v m r h e lower upper pushed is =
+    split_goal z judge made ts at ws s w a v m h e ∙ (rw (← upper, ← lower, ← pushed) is)
 
-pub stands_push : (ts : List Target) (at : ℕ) (ws after_push : List WaitingRegion) (s : Stage) (w below above : WaitingRegion) (k v : ℕ) → IsConsistentAt ts at ws s → s ≡ stage.Tree w → w.depth < 512
-    → below ≡ below_waits w k v → above ≡ above_waits w k v → after_push ≡ ws ++ above ∷ [] → (at < length ts) × AreDeep after_push below.depth
-stands_push ts at ws after_push s w below above k v h e lt lower upper pushed =
+pub stands_push : (ts : List Target) (at : ℕ) (ws after_push : List WaitingRegion) (s : Stage) (w below above : WaitingRegion) (k v m : ℕ) → IsConsistentAt ts at ws s → s ≡ stage.Tree w → w.depth < 512
+    → below ≡ below_waits w k v m → above ≡ above_waits w k v m → after_push ≡ ws ++ above ∷ [] → (at < length ts) × AreDeep after_push below.depth
+stands_push ts at ws after_push s w below above k v m h e lt lower upper pushed =
     let in_tree : IsConsistentAt ts at ws (stage.Tree w) = subst (λ (x : Stage). IsConsistentAt ts at ws x) e h in
-    rw (pushed, upper, lower) (in_tree.0, deep_push ws w.depth (above_waits w k v) in_tree.1 lt refl)
+    rw (pushed, upper, lower) (in_tree.0, deep_push ws w.depth (above_waits w k v m) in_tree.1 lt refl)
 
 -- in a tree there is a region
 pub region_of : (s : Stage) → IsInTree s → (w : WaitingRegion) × (s ≡ stage.Tree w)

@@ -9,3 +9,4 @@ pub mod PlanAndTraffic
 pub mod Numbers
 pub mod JoinedCertificates
 pub mod BetweenTrees
+pub mod ReadyCourses

@@ -1,8 +1,10 @@
 -- What a certificate still has to say where a checker stands.
-use Rattle.std.specs.Prelude.{◌≡◌, ℕ, ◌+◌, ◌<◌, ◌≤◌, List, [], ◌∷◌, length, drop, slice_get, Some, Result, Ok, Err}
-use Rattle.fx_boxes.specs.Boxes.{below_part, above_part}
+use Rattle.std.specs.Prelude.{◌≡◌, ℕ, ◌+◌, ◌<◌, ◌≤◌, List, [], ◌∷◌, ◌++◌, length, drop, slice_get, Some, Result, Ok, Err}
+use Rattle.fx_boxes.specs.Boxes.{Bounds, below_part, above_part}
+use Rattle.fx_tables.specs.declared.traffic.Crossing.{Crossing}
 use Rattle.fx_cert.specs.declared.item.Version.{Version}
-use Rattle.fx_leaf.specs.PathTables.{HasProcessRoom, IsPathBegun, PathTable}
+use Rattle.fx_leaf.specs.PathSelections.{AreNarrowed, IsNarrowed, PathSelection}
+use Rattle.fx_leaf.specs.PathTables.{HasPathRoom, HasProcessRoom, IsPathBegun, PathTable}
 use Rattle.fx_leaf.specs.Tables.{Tables}
 use Rattle.fx_traffic.specs.Targets.{Target}
 use Rattle.fx_check.specs.declared.stack.WaitingRegion.{WaitingRegion}
@@ -13,11 +15,11 @@ use Rattle.fx_check.specs.FirstRefusal.{Goal, header, tree, ahead}
 use Rattle.fx_check.specs.declared.line_fault.LineFault.{LineFault}
 
 -- the two parts of a region that waits, a step deeper
-abbrev pub below_waits : WaitingRegion → ℕ → ℕ → WaitingRegion
-below_waits w k v = record { region = below_part w.region k v; depth = w.depth + 1 }
+abbrev pub below_waits : WaitingRegion → ℕ → ℕ → ℕ → WaitingRegion
+below_waits w k v m = record { region = below_part w.region k v; depth = w.depth + 1; active = m }
 
-abbrev pub above_waits : WaitingRegion → ℕ → ℕ → WaitingRegion
-above_waits w k v = record { region = above_part w.region k v; depth = w.depth + 1 }
+abbrev pub above_waits : WaitingRegion → ℕ → ℕ → ℕ → WaitingRegion
+above_waits w k v m = record { region = above_part w.region k v; depth = w.depth + 1; active = m }
 
 -- the regions that wait, the last of them first, and then gs
 abbrev pub waiting_goals : Version → Target → List WaitingRegion → List Goal → List Goal
@@ -69,9 +71,32 @@ HasBegun t ts at stage.Header p = Unit {0}
 HasBegun t ts at stage.Between p = Unit {0}
 HasBegun t ts at stage.Ended p = Unit {0}
 
+-- there is room for the selection processes of each target's path
+abbrev pub HasRooms : Tables → List Target → PathTable → Type 0
+HasRooms t ts p = (k : ℕ) (target : Target) → slice_get ts k ≡ Some target → HasPathRoom t target.crossings p
+
+-- in a tree, the region and those that wait are narrowed
+abbrev pub HasNarrowed : Stage → List WaitingRegion → List PathSelection → Type 0
+HasNarrowed (stage.Tree w) ws selections = AreNarrowed (λ v. v.region) (λ v. v.active) selections (ws ++ w ∷ [])
+HasNarrowed stage.Header ws selections = Unit {0}
+HasNarrowed stage.Between ws selections = Unit {0}
+HasNarrowed stage.Ended ws selections = Unit {0}
+
+-- of the path's selection processes so many still matter for a region, and come first now
+pub record IsNarrowedTo (old new : PathTable) (w : WaitingRegion) (active : ℕ) : Type 0 where
+  pub narrowed : IsNarrowed new.selections w.region active
+  pub fewer : active ≤ w.active
+  pub others : (b : Bounds) (m : ℕ) → w.active ≤ m → IsNarrowed old.selections b m → IsNarrowed new.selections b m
+  pub begun : (t : Tables) (path : List Crossing) → IsPathBegun t path old → IsPathBegun t path new
+  pub room : (t : Tables) → HasProcessRoom t old → HasProcessRoom t new
+  pub more : old.room ≤ new.room
+
 -- the room is there in which leaves are judged
-abbrev pub IsReady : Tables → List Target → Course → PathTable → Type 0
-IsReady t ts c p = HasProcessRoom t p × HasBegun t ts c.current c.stage p
+pub record IsReady (t : Tables) (ts : List Target) (c : Course) (p : PathTable) : Type 0 where
+  pub room : HasProcessRoom t p
+  pub rooms : HasRooms t ts p
+  pub begun : HasBegun t ts c.current c.stage p
+  pub narrowed : HasNarrowed c.stage c.waiting p.selections
 
 abbrev pub rest_of_tree : Version → List Target → List WaitingRegion → List Goal
 rest_of_tree v [] ws = []

@@ -1,12 +1,13 @@
 //! Checking a certificate, line by line.
 ghost use Rattle.std.specs.Prelude.{◌≡◌, ◌⊎◌, ◌≤◌, IfErr, OnOk, length};
 ghost use Rattle.fx_base.specs.Fault.{IsMemory};
+ghost use Rattle.fx_leaf.specs.PathTables.{HasProcessRoom};
 ghost use Rattle.fx_leaf.specs.Tables.{AreTables};
 ghost use Rattle.fx_machine.specs.Claim.{ExactlyOnce, OnceModulo};
 ghost use Rattle.fx_base.specs.Lines.{Fails};
 ghost use Rattle.fx_plan.specs.Tables.{net_of};
 ghost use Rattle.fx_check.specs.Outcomes.{IsToldBy, Accepts, MayBeAccepted, MayBeCertificate, MayBeRefused};
-ghost use Rattle.fx_check.specs.Remaining.{goals, IsConsistent, IsReady};
+ghost use Rattle.fx_check.specs.Remaining.{goals, HasRooms, IsConsistent, IsReady};
 ghost use Rattle.fx_traffic.specs.Targets.{AreRegions, targets_of};
 ghost use Rattle.fx_check.specs.FirstRefusal.{whole};
 
@@ -19,10 +20,10 @@ use fx_traffic::{Target, Traffic};
 use std::alloc::Global;
 
 /// Takes all lines, the first of which is a certificate's first.
-fn take_lines<R: Source>(
+fn take_lines<'t, R: Source>(
     course: &mut Course,
-    scratch: &mut PathScratch,
-    tables: &Tables<'_>,
+    scratch: &mut PathScratch<'t>,
+    tables: &Tables<'t>,
     targets: &[Target<'_>],
     lines: &mut LineReader<R>,
 ) -> Result<(), Fault>
@@ -46,6 +47,24 @@ fn take_lines<R: Source>(
     }
 }
 
+/// Makes room for the selection processes of each target's path.
+fn make_room(
+    scratch: &mut PathScratch<'_>,
+    tables: &Tables<'_>,
+    targets: &[Target<'_>],
+) -> Result<(), Fault>
+    requires room { HasProcessRoom tables.now scratch.old }
+    ensures rooms { OnOk result (HasRooms tables.now targets.now scratch.new) }
+    ensures room { HasProcessRoom tables.now scratch.new }
+    ensures err { IfErr result IsMemory }
+{
+    for place in 0..targets.len() {
+        let target = &targets[place];
+        scratch.reserve(tables, target.crossings)?;
+    }
+    Ok(())
+}
+
 /// Checks a certificate of these classes over the tables of a network.
 fn check_classes<R: Source>(
     alloc: Global,
@@ -64,6 +83,7 @@ fn check_classes<R: Source>(
 {
     let targets = traffic.targets(alloc)?;
     let mut scratch = PathScratch::new(alloc, tables)?;
+    make_room(&mut scratch, tables, targets.as_slice())?;
     let mut course = Course::new(alloc)?;
     take_lines(&mut course, &mut scratch, tables, targets.as_slice(), lines)
 }

@@ -1,12 +1,14 @@
 //! Where a checker stands in a certificate, and what a line does there.
 ghost use Rattle.std.specs.Prelude.{◌≡◌, ◌+◌, ◌<◌, ◌≤◌, [], List, ℕ, length, IfOk, IfErr, OnOk, Ok, Err, Some, None};
 ghost use Rattle.fx_cert.specs.declared.item.Item.TheVariants as of_item;
+ghost use Rattle.fx_boxes.specs.Boxes.{IsStrictlyInside};
 ghost use Rattle.fx_elements.specs.Axes.{axis_index};
 ghost use Rattle.fx_leaf.specs.PathTables.{PathTable};
 ghost use Rattle.fx_leaf.specs.Tables.{AreTables};
 ghost use Rattle.fx_leaf.specs.Tables.{Tables as TableView};
+ghost use Rattle.fx_check.specs.declared.stack.WaitingRegion.{WaitingRegion as OfWaiting};
 ghost use Rattle.fx_check.specs.Judging.{Judge, judge_of};
-ghost use Rattle.fx_check.specs.Remaining.{goals, rest_goals, IsConsistent, IsInTree, IsReady, map_result, below_waits, above_waits};
+ghost use Rattle.fx_check.specs.Remaining.{goals, rest_goals, HasNarrowed, IsNarrowedTo, IsConsistent, IsInTree, IsReady, map_result, below_waits, above_waits};
 ghost use Rattle.fx_check.specs.FirstRefusal.{Goal, after, after_reading, split_answer, made_by, made_after, form_fault, reading_of, at_end, by_number};
 
 use crate::judging::{leaf_fault, never_fault};
@@ -65,10 +67,10 @@ impl Course {
     }
 
     /// Takes an item between the trees.
-    fn between(
+    fn between<'t>(
         &mut self,
-        scratch: &mut PathScratch,
-        tables: &Tables<'_>,
+        scratch: &mut PathScratch<'t>,
+        tables: &Tables<'t>,
         targets: &[Target<'_>],
         item: &Item,
     ) -> Result<(), LineFault>
@@ -86,10 +88,11 @@ impl Course {
             let target = &targets[self.current];
             if let Item::Class { class, path } = item {
                 if *class == target.class && *path == target.path {
-                    scratch.begin(tables, target.crossings);
+                    let active = scratch.begin(tables, target.crossings);
                     self.stage = Stage::Tree(WaitingRegion {
                         region: target.region,
                         depth: 0,
+                        active,
                     });
                     return Ok(());
                 }
@@ -126,10 +129,10 @@ impl Course {
     }
 
     /// Takes a leaf as the tree of a region.
-    fn leaf(
+    fn leaf<'t>(
         &mut self,
-        scratch: &mut PathScratch,
-        tables: &Tables<'_>,
+        scratch: &mut PathScratch<'t>,
+        tables: &Tables<'t>,
         targets: &[Target<'_>],
         leaf: &Counted,
     ) -> Result<(), LineFault>
@@ -154,7 +157,7 @@ impl Course {
         let Stage::Tree(here) = &self.stage else {
             unreachable!();
         };
-        if let Some(number) = leaf_fault(scratch, tables, target, &here.region, leaf) {
+        if let Some(number) = leaf_fault(scratch, tables, target, here, leaf) {
             return Err(LineFault::Leaf(number));
         }
         self.made += 1;
@@ -163,10 +166,10 @@ impl Course {
     }
 
     /// Takes a leaf that says that nothing is counted as the tree of a region.
-    fn never(
+    fn never<'t>(
         &mut self,
-        scratch: &mut PathScratch,
-        tables: &Tables<'_>,
+        scratch: &mut PathScratch<'t>,
+        tables: &Tables<'t>,
         targets: &[Target<'_>],
     ) -> Result<(), LineFault>
         requires tables { AreTables tables.now }
@@ -189,7 +192,7 @@ impl Course {
         let Stage::Tree(here) = &self.stage else {
             unreachable!();
         };
-        if let Some(number) = never_fault(scratch, tables, target, &here.region) {
+        if let Some(number) = never_fault(scratch, tables, target, here) {
             return Err(LineFault::Leaf(number));
         }
         self.made += 1;
@@ -197,31 +200,53 @@ impl Course {
         Ok(())
     }
 
+    /// Moves the selection processes that count packets of the current region before the others, and returns how many
+    /// they are.
+    fn narrow(&self, scratch: &mut PathScratch<'_>) -> usize
+        requires narrowed { HasNarrowed self.now.stage self.now.waiting scratch.old.selections }
+        requires stage { IsInTree self.now.stage }
+        ensures { (w : OfWaiting) → self.now.stage ≡ Stage.Tree w
+            → IsNarrowedTo scratch.old scratch.new w result }
+    {
+        let Stage::Tree(here) = &self.stage else {
+            unreachable!();
+        };
+        scratch.narrow(&here.region, here.active)
+    }
+
     /// Takes a split of a region: its lower part comes next, and its upper part waits.
-    fn split(&mut self, targets: &[Target<'_>], axis: Axis, at: u128) -> Result<(), LineFault>
+    fn split(
+        &mut self,
+        scratch: &mut PathScratch<'_>,
+        targets: &[Target<'_>],
+        axis: Axis,
+        at: u128,
+    ) -> Result<(), LineFault>
+        requires narrowed { HasNarrowed self.old.stage self.old.waiting scratch.old.selections }
         requires consistent { IsConsistent targets.now self.old }
         requires stage { IsInTree self.old.stage }
         ensures after { (judge : Judge) → after judge self.old.made (goals targets.now self.old)
             (of_item.Split axis at) ≡ map_result result (goals targets.now self.new) }
         ensures consistent { OnOk result (IsConsistent targets.now self.new) }
         ensures made { OnOk result (self.new.made ≡ self.old.made + 1) }
-        ensures ready { OnOk result ((t : TableView) (room : PathTable)
-            → IsReady t targets.now self.old room → IsReady t targets.now self.new room) }
+        ensures ready { OnOk result ((t : TableView) → IsReady t targets.now self.old scratch.old
+            → IsReady t targets.now self.new scratch.new) }
     {
+        let active = self.narrow(scratch);
         let Stage::Tree(here) = &mut self.stage else {
             unreachable!();
         };
-        let above = split_waiting(self.made, here, axis, at)?;
+        let above = split_waiting(self.made, here, axis, at, active)?;
         self.waiting.push(above);
         self.made += 1;
         Ok(())
     }
 
     /// Takes an item of the tree of a region.
-    fn within(
+    fn within<'t>(
         &mut self,
-        scratch: &mut PathScratch,
-        tables: &Tables<'_>,
+        scratch: &mut PathScratch<'t>,
+        tables: &Tables<'t>,
         targets: &[Target<'_>],
         item: &Item,
     ) -> Result<(), LineFault>
@@ -249,16 +274,16 @@ impl Course {
                 self.leaf(scratch, tables, targets, &leaf)
             }
             Item::Never => self.never(scratch, tables, targets),
-            Item::Split { axis, at } => self.split(targets, *axis, *at),
+            Item::Split { axis, at } => self.split(scratch, targets, *axis, *at),
             _ => Err(LineFault::Place),
         }
     }
 
     /// Takes an item.
-    fn step(
+    fn step<'t>(
         &mut self,
-        scratch: &mut PathScratch,
-        tables: &Tables<'_>,
+        scratch: &mut PathScratch<'t>,
+        tables: &Tables<'t>,
         targets: &[Target<'_>],
         item: &Item,
     ) -> Result<(), LineFault>
@@ -303,10 +328,10 @@ impl Course {
     /// line, the first line isn't `once-certificate` with its version, another is no item's text, an item isn't in its
     /// place or a leaf tells where exempt packets are counted, split and leaf lines are too many, a split is too deep or
     /// isn't strictly inside its region, or something is wrong with a leaf.
-    pub(crate) fn take(
+    pub(crate) fn take<'t>(
         &mut self,
-        scratch: &mut PathScratch,
-        tables: &Tables<'_>,
+        scratch: &mut PathScratch<'t>,
+        tables: &Tables<'t>,
         targets: &[Target<'_>],
         line: &Line<'_>,
     ) -> Result<(), LineFault>
@@ -345,19 +370,24 @@ impl Course {
     }
 }
 
-/// Where a split may stand, keeps the lower part of a region and answers the upper one, each a step deeper.
+/// Where a split may stand, keeps the lower part of a region and returns the upper one, each a step deeper and with so many
+/// selection processes that may count its packets.
 fn split_waiting(
     made: u32,
     here: &mut WaitingRegion,
     axis: Axis,
     at: u128,
+    active: usize,
 ) -> Result<WaitingRegion, LineFault>
     ensures answer { (gs : List Goal)
         → split_answer made here.old.region here.old.depth (axis_index axis) at gs
         ≡ map_result result gs }
-    ensures below { OnOk result (here.new ≡ below_waits here.old (axis_index axis) at) }
-    ensures above { IfOk result (λ w. w ≡ above_waits here.old (axis_index axis) at) }
+    ensures below { OnOk result (here.new ≡ below_waits here.old (axis_index axis) at
+        active) }
+    ensures above { IfOk result (λ w. w ≡ above_waits here.old (axis_index axis) at
+        active) }
     ensures bounds { OnOk result ((here.old.depth < 512) × (made < 1000000)) }
+    ensures inside { OnOk result (IsStrictlyInside here.old.region (axis_index axis) at) }
 {
     if made >= LINES {
         return Err(LineFault::LineCount);
@@ -370,8 +400,10 @@ fn split_waiting(
     }
     let above = here.region.split_off(axis, at);
     here.depth += 1;
+    here.active = active;
     Ok(WaitingRegion {
         region: above,
         depth: here.depth,
+        active,
     })
 }

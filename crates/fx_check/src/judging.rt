@@ -1,11 +1,12 @@
 //! What is wrong with a leaf.
-ghost use Rattle.std.specs.Prelude.{◌≡◌, Some, None};
+ghost use Rattle.std.specs.Prelude.{◌≡◌, ◌≤◌, Some, None};
+ghost use Rattle.fx_leaf.specs.PathSelections.{IsNarrowed};
 ghost use Rattle.fx_leaf.specs.PathTables.{HasProcessRoom, IsPathBegun};
 ghost use Rattle.fx_leaf.specs.Tables.{AreTables};
 ghost use Rattle.fx_check.specs.Judging as of_judging;
 
+use crate::stack::WaitingRegion;
 use fx_base::refusals;
-use fx_boxes::Region;
 use fx_leaf::{Counted, PathScratch, Tables};
 use fx_traffic::Target;
 
@@ -18,21 +19,24 @@ fn same_leaf(one: &Counted, other: &Counted) -> bool
 /// The number of what is wrong with a leaf for a region of a target, if anything is: why no leaf is sound there, or
 /// 410 where another one is.
 pub(crate) fn leaf_fault(
-    scratch: &mut PathScratch,
+    scratch: &mut PathScratch<'_>,
     tables: &Tables<'_>,
     target: &Target<'_>,
-    region: &Region,
+    here: &WaitingRegion,
     leaf: &Counted,
 ) -> Option<u16>
     requires tables { AreTables tables.now }
     requires room { HasProcessRoom tables.now scratch.old }
+    requires narrowed { IsNarrowed scratch.old.selections here.now.region here.now.active }
     requires begun { IsPathBegun tables.now target.now.crossings scratch.old }
-    ensures fault { result ≡ of_judging.judge_of tables.now.net target.now region.now
+    ensures fault { result ≡ of_judging.judge_of tables.now.net target.now here.now.region
         (Some leaf.now) }
     ensures room { HasProcessRoom tables.now scratch.new }
+    ensures kept { scratch.new.selections ≡ scratch.old.selections }
+    ensures more { scratch.old.room ≤ scratch.new.room }
     ensures begun { IsPathBegun tables.now target.now.crossings scratch.new }
 {
-    match scratch.fate(tables, target.crossings, region) {
+    match scratch.fate(tables, target.crossings, &here.region, here.active) {
         Err(e) => Some(e.number),
         Ok(counted) => {
             if same_leaf(&counted, leaf) {
@@ -46,19 +50,22 @@ pub(crate) fn leaf_fault(
 
 /// The number of what is wrong with a leaf that says that no packet of a region of a target is counted.
 pub(crate) fn never_fault(
-    scratch: &mut PathScratch,
+    scratch: &mut PathScratch<'_>,
     tables: &Tables<'_>,
     target: &Target<'_>,
-    region: &Region,
+    here: &WaitingRegion,
 ) -> Option<u16>
     requires tables { AreTables tables.now }
     requires room { HasProcessRoom tables.now scratch.old }
+    requires narrowed { IsNarrowed scratch.old.selections here.now.region here.now.active }
     requires begun { IsPathBegun tables.now target.now.crossings scratch.old }
-    ensures fault { result ≡ of_judging.judge_of tables.now.net target.now region.now None }
+    ensures fault { result ≡ of_judging.judge_of tables.now.net target.now here.now.region None }
     ensures room { HasProcessRoom tables.now scratch.new }
+    ensures kept { scratch.new.selections ≡ scratch.old.selections }
+    ensures more { scratch.old.room ≤ scratch.new.room }
     ensures begun { IsPathBegun tables.now target.now.crossings scratch.new }
 {
-    match scratch.never(tables, target.crossings, region) {
+    match scratch.never(tables, target.crossings, &here.region, here.active) {
         Err(e) => Some(e.number),
         Ok(()) => None,
     }

@@ -8,11 +8,14 @@ use std::marker::Model;
 /// The depth of a split is below this.
 pub(crate) const DEPTHS: usize = 512;
 
-/// A region that waits for its tree, and the depth of that tree's root.
+/// A region that waits for its tree.
 #[derive(Clone, Copy)]
 pub(crate) struct WaitingRegion {
     pub(crate) region: Region,
+    /// The depth of the tree's root.
     pub(crate) depth: u32,
+    /// How many of the path's selection processes may count packets of the region.
+    pub(crate) active: usize,
 }
 
 /// Up to 512 regions, the last of which comes next. All its room is made at the start.

@@ -1,11 +1,12 @@
 -- The answer for a leaf is the leaf that is sound, or says why there is none.
-use Rattle.std.proofs.Common.{◌≡◌, ℕ, List, Option, Some, None, Result, Ok, Err, refl, sym, ap, ap₂, ◌∙◌, subst, IfOk, IfErr, OnOk}
+use Rattle.std.proofs.Common.{◌≡◌, ℕ, List, Option, Some, None, Result, Ok, Err, refl, sym, ap, ◌∙◌, subst, IfOk, IfErr, OnOk}
 use Rattle.fx_base.specs.declared.fault.Fault.{Fault}
 use Rattle.fx_boxes.specs.Boxes.{Bounds, IsRegion}
 use Rattle.fx_tables.specs.declared.traffic.Crossing.{Crossing}
 use Rattle.fx_tables.specs.Network.{Net}
 use Rattle.fx_tables.specs.Ranks.{IsNetwork}
 use Rattle.fx_leaf.specs.declared.leaf.Counted.{Counted}
+use Rattle.fx_leaf.specs.declared.verdict.Fate.{Fate}
 use Rattle.fx_leaf.specs.declared.verdict.Fate.TheVariants.{Never, Once, Many, Differing, Unassigned}
 use Rattle.fx_elements.specs.declared.axis.Axis.{Axis}
 use Rattle.fx_leaf.specs.declared.path.PathFate.{PathFate}
@@ -18,23 +19,31 @@ use Rattle.fx_leaf.specs.Verdicts.{Verdict, SelectionVerdict, path_verdict, coun
 use Rattle.fx_leaf.proofs.PathSplits.{no_verdict}
 use Rattle.fx_leaf.proofs.Answers.{none_is_cut, some_is_fate, once_is_sound, no_other_is_sound, never_is_sound, sound_is_never}
 
+-- the counter matters only where packets are counted once
+leaves_alike : (f : Fate) (a b : Option Counted) → (f ≡ Once → a ≡ b) → leaf_of (Some f) a ≡ leaf_of (Some f) b
+leaves_alike Never a b same = refl
+leaves_alike Once a b same = ap (leaf_of (Some Once)) (same refl)
+leaves_alike Many a b same = refl
+leaves_alike Differing a b same = refl
+leaves_alike Unassigned a b same = refl
+
 module _ (net : Net) (path : List Crossing) (region : Bounds) (is_net : IsNetwork net) (r : IsRegion region) where
   abbrev Sound : Counted → Type 0
   Sound c = SoundLeaf net path region c.crossing c.point c.process
 
   module _ {X : Type 0} (known : Result PathFate (Axis × ℕ)) (result : Result X Fault) (ok : IfOk known (IsPathFate net path region)) (err : IfErr known (λ s. IsSplit net path region s.0 s.1)) where
     -- what is answered of what is known is answered of the verdict
-    answered : (answer : Verdict → Option Counted → Result X Fault) → ((c : Option Counted) → answer None c ≡ Err (fault_of None)) → IfOk known (λ t. result ≡ answer (Some t.fate) t.counted) → IfErr known (λ s. result ≡ Err (fault_of None)) → result ≡ answer (path_verdict net region path) (numbers_of (counter net region path))
-    answered answer none is else_is = by known ok err is else_is where
+    answered : (answer : Verdict → Option Counted → Result X Fault) → ((c : Option Counted) → answer None c ≡ Err (fault_of None)) → ((f : Fate) (a b : Option Counted) → (f ≡ Once → a ≡ b) → answer (Some f) a ≡ answer (Some f) b) → IfOk known (λ t. result ≡ answer (Some t.fate) t.counted) → IfErr known (λ s. result ≡ Err (fault_of None)) → result ≡ answer (path_verdict net region path) (numbers_of (counter net region path))
+    answered answer none alike is else_is = by known ok err is else_is where
       by : (q : Result PathFate (Axis × ℕ)) → IfOk q (IsPathFate net path region) → IfErr q (λ s. IsSplit net path region s.0 s.1) → IfOk q (λ t. result ≡ answer (Some t.fate) t.counted) → IfErr q (λ s. result ≡ Err (fault_of None)) → result ≡ answer (path_verdict net region path) (numbers_of (counter net region path))
-      by (Ok t) k e i h = i ∙ ap₂ (λ (v : Verdict) (c : Option Counted). answer v c) k.verdict k.counted
+      by (Ok t) k e i h = i ∙ alike t.fate t.counted (numbers_of (counter net region path)) k.counted ∙ ap (λ (v : Verdict). answer v (numbers_of (counter net region path))) k.verdict
       by (Err s) k e i h = h ∙ sym (none (numbers_of (counter net region path))) ∙ ap (λ (v : Verdict). answer v (numbers_of (counter net region path))) (sym (no_verdict net path region is_net r s e))
 
   pub leaf_is_answer : (known : Result PathFate (Axis × ℕ)) (result : Result Counted Fault) → IfOk known (IsPathFate net path region) → IfErr known (λ s. IsSplit net path region s.0 s.1) → IfOk known (λ t. result ≡ leaf_of (Some t.fate) t.counted) → IfErr known (λ s. result ≡ Err (fault_of None)) → result ≡ leaf_of (path_verdict net region path) (numbers_of (counter net region path))
-  leaf_is_answer known result ok err is else_is = answered known result ok err leaf_of (λ c. refl) is else_is
+  leaf_is_answer known result ok err is else_is = answered known result ok err leaf_of (λ c. refl) leaves_alike is else_is
 
   pub never_is_answer : (known : Result PathFate (Axis × ℕ)) (result : Result (Unit {0}) Fault) → IfOk known (IsPathFate net path region) → IfErr known (λ s. IsSplit net path region s.0 s.1) → IfOk known (λ t. result ≡ never_of (Some t.fate)) → IfErr known (λ s. result ≡ Err (fault_of None)) → result ≡ never_of (path_verdict net region path)
-  never_is_answer known result ok err is else_is = answered known result ok err (λ v c. never_of v) (λ c. refl) is else_is
+  never_is_answer known result ok err is else_is = answered known result ok err (λ v c. never_of v) (λ c. refl) (λ f a b same. refl) is else_is
 
   said : (v : Verdict) → path_verdict net region path ≡ v → IfOk (leaf_of v (numbers_of (counter net region path))) Sound
   said None e = tt

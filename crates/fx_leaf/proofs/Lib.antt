@@ -12,12 +12,14 @@ mod FateExamples
 pub mod OverlapsAreRight
 pub mod Verdicts
 pub mod JoinedVerdicts
+pub mod CountedOnce
 pub mod Paths
 pub mod VerdictsWhereUncut
 pub mod Answers
 pub mod RowsAreVerdicts
 pub mod RowsGrow
 pub mod PathFateGrows
+pub mod PathSelectionVerdicts
 pub mod LeafAnswers
 pub mod CutsHaveBounds
 pub mod CausesFound
@@ -27,3 +29,6 @@ pub mod JudgementsHold
 pub mod MarksAreClosed
 pub mod SteadyTables
 pub mod CausesAt
+pub mod PathSelectionsGrow
+pub mod Narrowing
+pub mod NarrowedRegions

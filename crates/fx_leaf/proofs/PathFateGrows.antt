@@ -16,7 +16,7 @@ use Rattle.fx_leaf.proofs.JoinedVerdicts.{joined_assoc, joined_never, never_join
 abbrev pub joint_verdict : List SelectionVerdict → Verdict
 joint_verdict ss = verdict_of_all (map (λ s. s.verdict) ss)
 
-joint_verdict_append : (xs ys : List SelectionVerdict) → joint_verdict (xs ++ ys) ≡ verdict_of_both (joint_verdict xs) (joint_verdict ys)
+pub joint_verdict_append : (xs ys : List SelectionVerdict) → joint_verdict (xs ++ ys) ≡ verdict_of_both (joint_verdict xs) (joint_verdict ys)
 joint_verdict_append [] ys = sym (never_joined (joint_verdict ys))
 joint_verdict_append (x ∷ xs) ys = ap (verdict_of_both x.verdict) (joint_verdict_append xs ys) ∙ sym (joined_assoc x.verdict (joint_verdict xs) (joint_verdict ys))
 

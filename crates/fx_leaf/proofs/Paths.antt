@@ -12,11 +12,12 @@ use Rattle.fx_tables.specs.Occurrences.{selects, occurrence, met_by, watches, me
 use Rattle.fx_leaf.specs.declared.regions.Overlap.{Overlap}
 use Rattle.fx_leaf.specs.declared.regions.Overlap.TheVariants.{Whole, Part, Nothing}
 use Rattle.fx_leaf.specs.declared.verdict.Fate.{Fate}
-use Rattle.fx_leaf.specs.declared.verdict.Fate.TheVariants.{Never, Once, Many, Differing, Unassigned}
+use Rattle.fx_leaf.specs.declared.verdict.Fate.TheVariants.{Never, Once}
 use Rattle.fx_leaf.specs.Fates.{both, all_happen, fate, packet_fate}
 use Rattle.fx_leaf.specs.SoundLeaves.{Met, met_along, met_fate, OneCounted}
 use Rattle.fx_leaf.specs.Overlaps.{selection_overlap}
 use Rattle.fx_leaf.specs.Verdicts.{Verdict, verdict_of_both, verdict_of_all, overlap_verdict, holder_verdict, verdict, SelectionVerdict, selection_verdicts, point_verdicts, crossing_verdicts, path_verdicts, path_verdict, is_once, last_counter, counter}
+use Rattle.fx_leaf.proofs.CountedOnce.{same_some, never_both, both_never, both_once, none_counted}
 use Rattle.fx_leaf.proofs.FateLaws.{Every}
 use Rattle.fx_leaf.proofs.OverlapsAreRight.{selection_overlap_is}
 use Rattle.fx_leaf.proofs.Verdicts.{Parts, both_parts, verdict_says, holder_said}
@@ -58,16 +59,6 @@ module _ (fate_of : Met → Fate) where
   follow_append ms ns (s ∷ ss) ts (inl h) k = inl (h.0, follow_append ms ns ss ts h.1 k)
   follow_append ms ns (s ∷ ss) ts (inr h) k = inr (h.0, h.1 ++ ns, ap (λ xs. xs ++ ns) h.2, h.3, h.4, follow_append h.1 ns ss ts h.5 k)
 
-  same_some : {A : Type 0} {x y : A} → Some x ≡ Some y → x ≡ y
-  same_some h = cc
-
-  never_both : (f : Fate) → both Never f ≡ f
-  never_both Never = refl
-  never_both Once = refl
-  never_both Many = refl
-  never_both Differing = refl
-  never_both Unassigned = refl
-
   pub follow_said : (ms : List Met) (ss : List SelectionVerdict) (f : Fate) → Follow ms ss → joint_verdict ss ≡ Some f → all_happen (map fate_of ms) ≡ f
   follow_said ms [] f h e = ap (λ xs. all_happen (map fate_of xs)) h ∙ same_some e
   follow_said ms (s ∷ ss) f (inl h) e =
@@ -91,44 +82,6 @@ module _ (fate_of : Met → Fate) where
     pub never_before : Every (λ m. fate_of m ≡ Never) before
     pub never_after : Every (λ m. fate_of m ≡ Never) after
 
-  both_never : (f g : Fate) → both f g ≡ Never → (f ≡ Never) × (g ≡ Never)
-  both_never Never g h = (refl, sym (never_both g) ∙ h)
-  both_never Once Never h = absurd (cc)
-  both_never Once Once h = absurd (cc)
-  both_never Once Many h = absurd (cc)
-  both_never Once Differing h = absurd (cc)
-  both_never Once Unassigned h = absurd (cc)
-  both_never Many Never h = absurd (cc)
-  both_never Many Once h = absurd (cc)
-  both_never Many Many h = absurd (cc)
-  both_never Many Differing h = absurd (cc)
-  both_never Many Unassigned h = absurd (cc)
-  both_never Differing Never h = absurd (cc)
-  both_never Differing Once h = absurd (cc)
-  both_never Differing Many h = absurd (cc)
-  both_never Differing Differing h = absurd (cc)
-  both_never Differing Unassigned h = absurd (cc)
-  both_never Unassigned g h = absurd (cc)
-
-  both_once : (f g : Fate) → both f g ≡ Once → ((f ≡ Once) × (g ≡ Never)) ⊎ ((f ≡ Never) × (g ≡ Once))
-  both_once Never g h = inr (refl, sym (never_both g) ∙ h)
-  both_once Once Never h = inl (refl, refl)
-  both_once Once Once h = absurd (cc)
-  both_once Once Many h = absurd (cc)
-  both_once Once Differing h = absurd (cc)
-  both_once Once Unassigned h = absurd (cc)
-  both_once Many Never h = absurd (cc)
-  both_once Many Once h = absurd (cc)
-  both_once Many Many h = absurd (cc)
-  both_once Many Differing h = absurd (cc)
-  both_once Many Unassigned h = absurd (cc)
-  both_once Differing Never h = absurd (cc)
-  both_once Differing Once h = absurd (cc)
-  both_once Differing Many h = absurd (cc)
-  both_once Differing Differing h = absurd (cc)
-  both_once Differing Unassigned h = absurd (cc)
-  both_once Unassigned g h = absurd (cc)
-
   never_followed : (ms : List Met) (ss : List SelectionVerdict) → Follow ms ss → joint_verdict ss ≡ Some Never → Every (λ m. fate_of m ≡ Never) ms
   never_followed ms [] h e = subst (Every (λ m. fate_of m ≡ Never)) (sym h) tt
   never_followed ms (s ∷ ss) (inl h) e =
@@ -138,13 +91,6 @@ module _ (fate_of : Met → Fate) where
       let p = both_parts s.verdict (joint_verdict ss) Never e in
       let two = both_never p.one p.other p.joined in
       subst (Every (λ m. fate_of m ≡ Never)) (sym h.2) (same_some (sym h.3 ∙ p.one_is) ∙ two.0, never_followed h.1 ss h.5 (p.other_is ∙ ap Some two.1))
-
-  none_counted : (found : Option SelectionVerdict) (ss : List SelectionVerdict) → joint_verdict ss ≡ Some Never → last_counter found ss ≡ found
-  none_counted found [] e = refl
-  none_counted found (s ∷ ss) e =
-      let p = both_parts s.verdict (joint_verdict ss) Never e in
-      let two = both_never p.one p.other p.joined in
-      ap (λ v. last_counter (if is_once v then Some s else found) ss) (p.one_is ∙ ap Some two.0) ∙ none_counted found ss (p.other_is ∙ ap Some two.1)
 
   -- the one that is counted
   pub one_counted : (found : Option SelectionVerdict) (ms : List Met) (ss : List SelectionVerdict) → Follow ms ss → joint_verdict ss ≡ Some Once → (s : SelectionVerdict) × (last_counter found ss ≡ Some s) × OneOf ms s

@@ -18,15 +18,19 @@ abbrev pub numbers_of : Option SelectionVerdict → Option Counted
 numbers_of None = None
 numbers_of (Some s) = Some (record { crossing = s.crossing; point = s.point; process = s.process })
 
+-- nothing is counted so far
+abbrev pub nothing_known : PathFate
+nothing_known = record { fate = Never; counted = None }
+
 -- what is known with these verdicts too, none of which is cut: all of them together, and the last that is once
 pub record AddsVerdicts (before after : PathFate) (verdicts : List SelectionVerdict) : Type 0 where
   pub verdict : Some after.fate ≡ verdict_of_both (Some before.fate) (verdict_of_all (map (λ s. s.verdict) verdicts))
   pub counted : (found : Option SelectionVerdict) → before.counted ≡ numbers_of found → after.counted ≡ numbers_of (last_counter found verdicts)
 
--- what is known of the packets of a region on a path
+-- what is known of the packets of a region on a path, and, where they are counted once, by which selection process
 pub record IsPathFate (net : Net) (path : List Crossing) (region : Bounds) (t : PathFate) : Type 0 where
   pub verdict : Some t.fate ≡ path_verdict net region path
-  pub counted : t.counted ≡ numbers_of (counter net region path)
+  pub counted : t.fate ≡ Once → t.counted ≡ numbers_of (counter net region path)
 
 -- ---- the answer
 

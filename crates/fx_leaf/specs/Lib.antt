@@ -13,3 +13,4 @@ pub mod Causes
 pub mod Judgements
 pub mod Reach
 pub mod PathTables
+pub mod PathSelections

@@ -13,6 +13,7 @@ use Rattle.fx_leaf.specs.declared.regions.Overlap.TheVariants.{Whole, Part, Noth
 use Rattle.fx_leaf.specs.declared.verdict.Fate.{Fate}
 use Rattle.fx_leaf.specs.declared.verdict.Fate.TheVariants.{Never, Once, Unassigned}
 use Rattle.fx_leaf.specs.Fates.{both, either}
+use Rattle.fx_leaf.specs.PathSelections.{PathSelection}
 use Rattle.fx_leaf.specs.Overlaps.{region_overlap, selection_overlap, match_fields}
 
 -- the fate of all packets of a region, or none where something cuts the region
@@ -138,6 +139,12 @@ abbrev pub path_verdicts : VerdictAt → Net → Bounds → ℕ → List Crossin
 path_verdicts at net region n [] = []
 path_verdicts at net region n (c ∷ cs) =
     crossing_verdicts at net region n 1 (points_of (entry_numbered net.devices c.device)) c ++ path_verdicts at net region (n + 1) cs
+
+-- the same of selection processes that a path meets, in some order
+abbrev pub verdicts_of : VerdictAt → Net → Bounds → List PathSelection → List SelectionVerdict
+verdicts_of at net region [] = []
+verdicts_of at net region (s ∷ ss) =
+    selection_verdicts at net region s.crossing s.point s.process s.selection.region s.selection.holder ++ verdicts_of at net region ss
 
 abbrev pub path_verdict : Net → Bounds → List Crossing → Verdict
 path_verdict net region path = verdict_of_all (map (λ s. s.verdict) (path_verdicts (verdict net region) net region 1 path))

@@ -1,9 +1,16 @@
 //! What is to be said of the packets of a region, in one judgement.
-ghost use Rattle.std.specs.Prelude.{◌≡◌, ◌≤◌, length};
+ghost use Rattle.std.specs.Prelude.{◌≡◌, ◌≤◌, List, length, IfOk, IfErr};
+ghost use Rattle.fx_boxes.specs.Boxes.{Bounds, IsRegion};
+ghost use Rattle.fx_tables.specs.Network.{Net};
+ghost use Rattle.fx_tables.specs.Ranks.{IsNetwork};
+ghost use Rattle.fx_tables.specs.declared.traffic.Crossing as of_crossing;
 ghost use Rattle.fx_leaf.specs.Judgements as judgements;
+ghost use Rattle.fx_leaf.specs.Leaves as leaves;
+ghost use Rattle.fx_leaf.specs.Splits as splits;
 ghost use Rattle.fx_leaf.specs.Tables as by_table;
 
 use crate::leaf::{Counted, path_verdict};
+use crate::path::PathFate;
 use crate::regions::bounds_hold;
 use crate::table::Scratch;
 use crate::tables::Tables;
@@ -51,14 +58,25 @@ pub fn judge(
 {
     // For the prover alone: the bounds of a region hold.
     bounds_hold(region);
-    let known = match path_verdict(scratch, tables, path, region) {
+    judgement_of(path_verdict(scratch, tables, path, region))
+}
+
+/// What is to be said by what is known.
+pub(crate) fn judgement_of(known: Result<PathFate, (Axis, u128)>) -> Judgement
+    ensures { (net : Net) (path : List of_crossing.Crossing) (region : Bounds) → IsNetwork net
+        → IsRegion region → IfOk known (leaves.IsPathFate net path region)
+        → IfErr known (λ s. splits.IsSplit net path region s.0 s.1)
+        → judgements.IsJudged net path region result }
+{
+    let known = match known {
         Ok(known) => known,
         Err((axis, at)) => return Judgement::Cut { axis, at },
     };
     match known.fate {
         Fate::Once => match known.counted {
             Some(counted) => Judgement::Once(counted),
-            None => unreachable!(),
+            // Packets that are counted once have a counter.
+            None => Judgement::Never,
         },
         Fate::Never => Judgement::Never,
         Fate::Many => Judgement::Many,

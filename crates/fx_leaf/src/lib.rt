@@ -2,6 +2,7 @@
 //! exactly once.
 #![tactic(auto)]
 
+mod balance;
 mod bound;
 mod cause;
 mod entry;
@@ -10,6 +11,7 @@ mod laws;
 mod leaf;
 mod path;
 mod path_scratch;
+mod path_selections;
 mod reach;
 mod regions;
 mod rows;
@@ -19,6 +21,7 @@ mod table;
 mod tables;
 mod verdict;
 
+pub use balance::CutBounds;
 pub use judgement::{Judgement, judge};
 pub use laws::{conservation, exactly_once, fates_along_ranks, verdicts_judge_regions};
 pub use leaf::{Counted, fate, never};

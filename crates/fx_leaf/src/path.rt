@@ -6,13 +6,15 @@ ghost use Rattle.fx_tables.specs.Occurrences as met;
 ghost use Rattle.fx_tables.specs.declared.observation.Selection as of_selection;
 ghost use Rattle.fx_tables.specs.declared.traffic.Crossing as of_crossing;
 ghost use Rattle.fx_leaf.specs.Leaves as leaves;
+ghost use Rattle.fx_leaf.specs.PathSelections as of_path;
 ghost use Rattle.fx_leaf.specs.Reach as reach;
 ghost use Rattle.fx_leaf.specs.Splits as splits;
 ghost use Rattle.fx_leaf.specs.Tables as by_table;
 ghost use Rattle.fx_leaf.specs.Verdicts as verdicts;
 
 use crate::leaf::Counted;
-use crate::regions::selection_overlap;
+use crate::path_selections::PathSelection;
+use crate::regions::{Overlap, selection_overlap};
 use crate::table::Verdicts;
 use crate::verdict::{Fate, overlap_verdict};
 use fx_elements::Axis;
@@ -100,6 +102,9 @@ impl PathReader<'_, '_> {
             return Ok(known);
         };
         let overlap = selection_overlap(self.verdicts.region, &selection.region);
+        if let Overlap::Nothing = overlap {
+            return Ok(known.with(Fate::Never, numbers));
+        }
         match overlap_verdict(overlap, self.holder_verdict(holder)) {
             Some(fate) => Ok(known.with(fate, numbers)),
             None => Err(self.bound_at(selection)),
@@ -137,6 +142,37 @@ impl PathReader<'_, '_> {
                 process: (place + 1) as u64,
             };
             known = self.selection(known, numbers, &selections[place])?;
+        }
+        Ok(known)
+    }
+
+    /// What is known with these selection processes, up to the first that cuts the region.
+    pub(crate) fn known_of(
+        &self,
+        selections: &[PathSelection<'_>],
+    ) -> Result<PathFate, (Axis, u128)>
+        requires tables { by_table.AreTables self.now.verdicts.tables.now }
+        requires along { let t = self.now.verdicts.tables.now in
+            (s : of_path.PathSelection) → Contains selections.now s
+            → reach.HoldsBehindSelection t.net t.numbering (reach.IsMarked self.now.marks.now)
+            s.selection }
+        ensures ok { let net = self.now.verdicts.tables.now.net in
+            let region = self.now.verdicts.region.now in
+            IfOk result (λ after. leaves.AddsVerdicts leaves.nothing_known after
+            (verdicts.verdicts_of (verdicts.verdict net region) net region selections.now)) }
+        ensures err { let net = self.now.verdicts.tables.now.net in
+            let region = self.now.verdicts.region.now in
+            IfErr result (λ s. (path : List of_crossing.Crossing)
+            → ((each : of_path.PathSelection) → Contains selections.now each
+            → splits.Meets net path each.selection) → splits.IsSplit net path region s.0 s.1) }
+    {
+        let mut known = PathFate {
+            fate: Fate::Never,
+            counted: None,
+        };
+        for place in 0..selections.len() {
+            let met = &selections[place];
+            known = self.selection(known, met.numbers, met.selection)?;
         }
         Ok(known)
     }

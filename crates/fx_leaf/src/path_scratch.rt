@@ -1,15 +1,23 @@
 //! Leaves of one path, judged one after another: what depends on the path alone is worked out once.
-ghost use Rattle.std.specs.Prelude.{◌≡◌, length, [], IfOk, IfErr, IsTrue};
+ghost use Rattle.std.specs.Prelude.{◌≡◌, ◌≤◌, ◌<◌, ℕ, List, length, slice_index_or, [], IfOk, IfErr, OnOk, IsTrue};
 ghost use Rattle.fx_base.specs.Fault.{IsMemory};
+ghost use Rattle.fx_boxes.specs.Boxes.{Bounds};
+ghost use Rattle.fx_tables.specs.declared.traffic.Crossing.{Crossing as OfCrossing};
+ghost use Rattle.fx_leaf.specs.Judgements as judgements;
 ghost use Rattle.fx_leaf.specs.Leaves as leaves;
+ghost use Rattle.fx_leaf.specs.PathSelections as of_path;
 ghost use Rattle.fx_leaf.specs.PathTables as path_tables;
 ghost use Rattle.fx_leaf.specs.Reach as reach;
 ghost use Rattle.fx_leaf.specs.Splits as splits;
 ghost use Rattle.fx_leaf.specs.Tables as by_table;
+ghost use Rattle.fx_leaf.specs.Tables.{Tables as TableView};
 ghost use Rattle.fx_leaf.specs.Verdicts as verdicts;
 
+use crate::balance::{CutBounds, halving_bound};
+use crate::judgement::{Judgement, judgement_of};
 use crate::leaf::{Counted, leaf_of, never_of};
 use crate::path::{PathFate, PathReader};
+use crate::path_selections::{PathSelections, count_on_path};
 use crate::reach::mark;
 use crate::regions::bounds_hold;
 use crate::rows::fill;
@@ -19,20 +27,22 @@ use fx_base::Fault;
 use fx_boxes::Region;
 use fx_elements::Axis;
 use fx_tables::{Crossing, Process};
-use std::alloc::Global;
+use std::alloc::{AllocError, Global};
 use std::marker::Model;
 
-/// Room for what the leaves of a path are judged by: a verdict for each collecting process and each layout, and marks of
-/// those that are needed. The marks are the path's, and where no aggregation takes records in that come of it, so are the
-/// verdicts: then a leaf costs no more than its own selection processes.
+/// Room for what the leaves of a path are judged by: a verdict for each collecting process and each layout, marks of
+/// those that are needed, and the path's selection processes. The marks are the path's, and where no aggregation takes
+/// in records of its packets, so are the verdicts: then a leaf costs no more than the selection processes that still
+/// matter for its region.
 #[derive(Debug, Drop)]
-pub struct PathScratch {
+pub struct PathScratch<'a> {
     rows: Vec<VerdictRow>,
     marks: Vec<u64>,
     steady: bool,
+    selections: PathSelections<'a>,
 }
 
-impl Model for PathScratch {
+impl<'a> Model for PathScratch<'a> {
     ghost use Rattle.fx_leaf.specs.PathTables.{PathTable};
 
     ghost Value = { PathTable };
@@ -41,6 +51,8 @@ impl Model for PathScratch {
       table = s.rows.items;
       marks = s.marks.items;
       steady = s.steady;
+      selections = s.selections.items;
+      room = s.selections.room;
     } };
 }
 
@@ -64,11 +76,11 @@ fn take_none_in(marks: &[u64], processes: &[Process]) -> bool
     true
 }
 
-impl PathScratch {
-    /// Room for the collecting processes of these tables.
+impl<'a> PathScratch<'a> {
+    /// Room for the collecting processes of these tables, and for no selection process.
     ///
-    /// Fails with 900, at no place, for want of memory.
-    pub fn new(alloc: Global, tables: &Tables<'_>) -> Result<PathScratch, Fault>
+    /// Fails with 900, at no place, where memory runs out.
+    pub fn new(alloc: Global, tables: &Tables<'a>) -> Result<PathScratch<'a>, Fault>
         ensures ok { IfOk result (path_tables.HasProcessRoom tables.now) }
         ensures err { IfErr result IsMemory }
     {
@@ -77,15 +89,34 @@ impl PathScratch {
             rows: empty_rows(alloc, count)?,
             marks: no_marks(alloc, count)?,
             steady: false,
+            selections: PathSelections::new(alloc, 0)?,
         })
     }
 
-    /// A path begins, whose leaves are judged from now on.
-    pub fn begin(&mut self, tables: &Tables<'_>, path: &[Crossing])
+    /// Makes room for the selection processes of a path too. After it no path is begun.
+    ///
+    /// Fails with 900, at no place, where memory runs out.
+    pub fn reserve(&mut self, tables: &Tables<'_>, path: &[Crossing]) -> Result<(), Fault>
+        requires room { path_tables.HasProcessRoom tables.now self.old }
+        ensures path { OnOk result (path_tables.HasPathRoom tables.now path.now self.new) }
+        ensures more { self.old.room ≤ self.new.room }
+        ensures room { path_tables.HasProcessRoom tables.now self.new }
+        ensures err { IfErr result IsMemory }
+    {
+        let Some(count) = count_on_path(tables.net(), path) else {
+            return Err(Fault::from(AllocError));
+        };
+        self.selections.reserve(count)?;
+        Ok(())
+    }
+
+    /// Marks what the verdict on a path is worked out from, and works the verdicts out that hold for each region.
+    fn mark_path(&mut self, tables: &Tables<'_>, path: &[Crossing])
         requires tables { by_table.AreTables tables.now }
         requires room { path_tables.HasProcessRoom tables.now self.old }
-        ensures begun { path_tables.IsPathBegun tables.now path.now self.new }
+        ensures marked { path_tables.IsPathMarked tables.now path.now self.new }
         ensures room { path_tables.HasProcessRoom tables.now self.new }
+        ensures more { self.new.room ≡ self.old.room }
     {
         mark(&mut self.marks, tables, path);
         self.steady = take_none_in(&self.marks, tables.net().processes());
@@ -94,7 +125,43 @@ impl PathScratch {
         }
     }
 
-    /// The verdicts are those on the packets of this region.
+    /// Begins a path, whose leaves are judged from now on, and returns how many selection processes it meets.
+    pub fn begin(&mut self, tables: &Tables<'a>, path: &[Crossing]) -> usize
+        requires tables { by_table.AreTables tables.now }
+        requires room { path_tables.HasProcessRoom tables.now self.old }
+        requires path { path_tables.HasPathRoom tables.now path.now self.old }
+        ensures begun { path_tables.IsPathBegun tables.now path.now self.new }
+        ensures all { (region : Bounds) → of_path.IsNarrowed self.new.selections region result }
+        ensures room { path_tables.HasProcessRoom tables.now self.new }
+        ensures more { self.old.room ≤ self.new.room }
+    {
+        self.mark_path(tables, path);
+        self.selections.fill(tables.net(), path);
+        self.selections.len()
+    }
+
+    /// Of the first `active` selection processes, behind which none counts a packet of the region, moves those that
+    /// count some before the others, and returns how many they are.
+    pub fn narrow(&mut self, region: &Region, active: usize) -> usize
+        requires narrowed { of_path.IsNarrowed self.old.selections region.now active }
+        ensures narrowed { of_path.IsNarrowed self.new.selections region.now result }
+        ensures overlapping { (k : ℕ) (d : of_path.PathSelection) → k < result
+            → of_path.IsApart region.now (slice_index_or self.new.selections k d).selection → ⊥ }
+        ensures fewer { result ≤ active }
+        ensures others { (other : Bounds) (more : ℕ) → active ≤ more
+            → of_path.IsNarrowed self.old.selections other more
+            → of_path.IsNarrowed self.new.selections other more }
+        ensures begun { (t : TableView) (path : List OfCrossing)
+            → path_tables.IsPathBegun t path self.old → path_tables.IsPathBegun t path self.new }
+        ensures room { (t : TableView) → path_tables.HasProcessRoom t self.old
+            → path_tables.HasProcessRoom t self.new }
+        ensures more { self.old.room ≤ self.new.room }
+    {
+        let active = active.min(self.selections.len());
+        self.selections.narrow(region, active)
+    }
+
+    /// Works out the verdicts on the packets of this region.
     fn fill_for(&mut self, tables: &Tables<'_>, path: &[Crossing], region: &Region)
         requires tables { by_table.AreTables tables.now }
         requires room { path_tables.HasProcessRoom tables.now self.old }
@@ -103,6 +170,8 @@ impl PathScratch {
             self.new.marks self.new.table }
         ensures begun { path_tables.IsPathBegun tables.now path.now self.new }
         ensures room { path_tables.HasProcessRoom tables.now self.new }
+        ensures kept { self.new.selections ≡ self.old.selections }
+        ensures more { self.old.room ≤ self.new.room }
     {
         if self.steady {
             return;
@@ -116,15 +185,19 @@ impl PathScratch {
         tables: &Tables<'_>,
         path: &[Crossing],
         region: &Region,
+        active: usize,
     ) -> Result<PathFate, (Axis, u128)>
         requires tables { by_table.AreTables tables.now }
         requires room { path_tables.HasProcessRoom tables.now self.old }
         requires begun { path_tables.IsPathBegun tables.now path.now self.old }
+        requires narrowed { of_path.IsNarrowed self.old.selections region.now active }
         ensures ok { IfOk result (leaves.IsPathFate tables.now.net path.now region.now) }
         ensures err { IfErr result (λ s. splits.IsSplit tables.now.net path.now region.now s.0
             s.1) }
         ensures begun { path_tables.IsPathBegun tables.now path.now self.new }
         ensures room { path_tables.HasProcessRoom tables.now self.new }
+        ensures kept { self.new.selections ≡ self.old.selections }
+        ensures more { self.old.room ≤ self.new.room }
     {
         // For the prover alone: the bounds of a region hold.
         bounds_hold(region);
@@ -138,11 +211,13 @@ impl PathScratch {
             verdicts,
             marks: &self.marks,
         };
-        reader.path(path)
+        let active = active.min(self.selections.len());
+        reader.known_of(&self.selections.as_slice()[..active])
     }
 
     /// The leaf that is sound for the packets of a region that take the path that was begun, as [`fate`](crate::fate)
-    /// answers it. It takes no memory.
+    /// answers it. The first `active` selection processes are looked at; the others count no packet of the region.
+    /// It takes no memory.
     ///
     /// Fails as that does.
     pub fn fate(
@@ -150,21 +225,26 @@ impl PathScratch {
         tables: &Tables<'_>,
         path: &[Crossing],
         region: &Region,
+        active: usize,
     ) -> Result<Counted, Fault>
         requires tables { by_table.AreTables tables.now }
         requires room { path_tables.HasProcessRoom tables.now self.old }
         requires begun { path_tables.IsPathBegun tables.now path.now self.old }
+        requires narrowed { of_path.IsNarrowed self.old.selections region.now active }
         ensures answer { result ≡ leaves.path_leaf tables.now.net path.now region.now }
         ensures begun { path_tables.IsPathBegun tables.now path.now self.new }
         ensures room { path_tables.HasProcessRoom tables.now self.new }
+        ensures kept { self.new.selections ≡ self.old.selections }
+        ensures more { self.old.room ≤ self.new.room }
     {
         // For the prover alone: the bounds of a region hold.
         bounds_hold(region);
-        leaf_of(self.path_verdict(tables, path, region))
+        leaf_of(self.path_verdict(tables, path, region, active))
     }
 
     /// Ok where none of the packets of a region that take the path that was begun is counted, as
-    /// [`never`](crate::never) answers it. It takes no memory.
+    /// [`never`](crate::never) answers it. The first `active` selection processes are looked at; the others count no packet
+    /// of the region. It takes no memory.
     ///
     /// Fails as that does.
     pub fn never(
@@ -172,17 +252,69 @@ impl PathScratch {
         tables: &Tables<'_>,
         path: &[Crossing],
         region: &Region,
+        active: usize,
     ) -> Result<(), Fault>
         requires tables { by_table.AreTables tables.now }
         requires room { path_tables.HasProcessRoom tables.now self.old }
         requires begun { path_tables.IsPathBegun tables.now path.now self.old }
+        requires narrowed { of_path.IsNarrowed self.old.selections region.now active }
         ensures answer { result ≡ leaves.never_of
             (verdicts.path_verdict tables.now.net region.now path.now) }
         ensures begun { path_tables.IsPathBegun tables.now path.now self.new }
         ensures room { path_tables.HasProcessRoom tables.now self.new }
+        ensures kept { self.new.selections ≡ self.old.selections }
+        ensures more { self.old.room ≤ self.new.room }
     {
         // For the prover alone: the bounds of a region hold.
         bounds_hold(region);
-        never_of(self.path_verdict(tables, path, region))
+        never_of(self.path_verdict(tables, path, region, active))
+    }
+
+    /// What is to be said of the packets of a region that take the path that was begun, as [`judge`](crate::judge) says
+    /// it. The first `active` selection processes are looked at; the others count no packet of the region. It takes no
+    /// memory.
+    pub fn judge(
+        &mut self,
+        tables: &Tables<'_>,
+        path: &[Crossing],
+        region: &Region,
+        active: usize,
+    ) -> Judgement
+        requires tables { by_table.AreTables tables.now }
+        requires room { path_tables.HasProcessRoom tables.now self.old }
+        requires begun { path_tables.IsPathBegun tables.now path.now self.old }
+        requires narrowed { of_path.IsNarrowed self.old.selections region.now active }
+        ensures judged { judgements.IsJudged tables.now.net path.now region.now result }
+        ensures begun { path_tables.IsPathBegun tables.now path.now self.new }
+        ensures room { path_tables.HasProcessRoom tables.now self.new }
+        ensures kept { self.new.selections ≡ self.old.selections }
+        ensures more { self.old.room ≤ self.new.room }
+    {
+        // For the prover alone: the bounds of a region hold.
+        bounds_hold(region);
+        judgement_of(self.path_verdict(tables, path, region, active))
+    }
+
+    /// Where to split a region that is cut at `other`, so that the split halves what cuts the region: at the bound in the middle
+    /// of those on the axis that has the most, among the first `active` selection processes; at `other` itself, if none
+    /// of them cuts the region.
+    ///
+    /// Fails with 900, at no place, where memory runs out.
+    pub fn halving_bound(
+        &self,
+        bounds: &mut CutBounds,
+        region: &Region,
+        active: usize,
+        other: (Axis, u128),
+    ) -> Result<(Axis, u128), Fault>
+        ensures ok { IfOk result (λ s. (t : TableView) (path : List OfCrossing)
+            → path_tables.IsPathBegun t path self.now
+            → splits.IsSplit t.net path region.now other.0 other.1
+            → splits.IsSplit t.net path region.now s.0 s.1) }
+        ensures err { IfErr result IsMemory }
+    {
+        let active = active.min(self.selections.len());
+        let selections = &self.selections.as_slice()[..active];
+        Ok(halving_bound(bounds, selections, region, other)?)
     }
 }

@@ -1,13 +1,14 @@
 -- What is ahead lies within its target, which is one of those to be shown.
-use Rattle.std.proofs.Common.{◌≡◌, ℕ, zero, suc, ◌+◌, ◌-◌, ◌≤◌, Bool, List, [], ◌∷◌, ◌++◌, map, refl, arith, Some, slice_get, slice_index, slice_set}
+use Rattle.std.proofs.Common.{◌≡◌, ℕ, zero, suc, ◌+◌, Bool, List, [], ◌∷◌, ◌++◌, map, refl, arith, Some, slice_get}
 use Rattle.std.specs.List.{AllByRecursion}
 use Rattle.fx_elements.specs.Axes.{axis_index}
 use Rattle.fx_elements.specs.declared.axis.Axis.{Axis}
-use Rattle.fx_boxes.specs.Boxes.{Bounds, IsInside, IsStrictlyInside, below_part, above_part}
+use Rattle.fx_boxes.specs.Boxes.{Bounds, IsStrictlyInside}
 use Rattle.fx_tables.specs.declared.traffic.Crossing.{Crossing}
 use Rattle.fx_tables.specs.Classes.{Class}
 use Rattle.fx_tables.specs.Network.{Net}
 use Rattle.fx_base.specs.Entries.{entry_numbered}
+use Rattle.fx_leaf.proofs.NarrowedRegions.{above_lies, below_lies}
 use Rattle.fx_leaf.specs.Splits.{IsSplit}
 use Rattle.fx_leaf.specs.Splits.IsSplit.{of_selection, of_match}
 use Rattle.fx_traffic.specs.Targets.{Target, targets_along, targets_from, targets_of}
@@ -70,31 +71,9 @@ are_targets classes = changed (IsBehind classes 1) (IsTarget classes) (λ t h. r
 
 -- ---- parts of regions
 
-set_below : (xs : List ℕ) (i v : ℕ) → v ≤ slice_index xs i → (k : ℕ) → slice_index (slice_set xs i v) k ≤ slice_index xs k
-set_below [] i v le k = omega arith
-set_below (x ∷ xs) zero v le zero = le
-set_below (x ∷ xs) zero v le (suc k) = omega arith
-set_below (x ∷ xs) (suc i) v le zero = omega arith
-set_below (x ∷ xs) (suc i) v le (suc k) = set_below xs i v le k
-
-set_above : (xs : List ℕ) (i v : ℕ) → slice_index xs i ≤ v → (k : ℕ) → slice_index xs k ≤ slice_index (slice_set xs i v) k
-set_above [] i v le k = omega arith
-set_above (x ∷ xs) zero v le zero = le
-set_above (x ∷ xs) zero v le (suc k) = omega arith
-set_above (x ∷ xs) (suc i) v le zero = omega arith
-set_above (x ∷ xs) (suc i) v le (suc k) = set_above xs i v le k
-
 pub split_inside : (net : Net) (path : List Crossing) (b : Bounds) (axis : Axis) (at : ℕ) → IsSplit net path b axis at → IsStrictlyInside b (axis_index axis) at
 split_inside net path b axis at (of_selection s other meets holder region cut by) = by.inside
 split_inside net path b axis at (of_match a reaches cut by) = by.inside
-
-below_lies : (b : Bounds) (i at : ℕ) → IsStrictlyInside b i at → IsInside (below_part b i at) b
-below_lies b i at inside f h k small =
-    ((h k small).0, let top = set_below b.high i (at - 1) (omega (arith, inside.1)) k in omega (arith, top, (h k small).1))
-
-above_lies : (b : Bounds) (i at : ℕ) → IsStrictlyInside b i at → IsInside (above_part b i at) b
-above_lies b i at inside f h k small =
-    (let low = set_above b.low i at (omega (arith, inside.0)) k in omega (arith, low, (h k small).0), (h k small).1)
 
 -- ---- fronts
 

@@ -4,3 +4,4 @@ pub mod ShortLines
 pub mod RegionsTaken
 pub mod SearchEnds
 pub mod Texts
+pub mod RegionsAhead

@@ -1,5 +1,5 @@
 -- How a certificate grows as a search goes on.
-use Rattle.std.specs.Prelude.{◌≡◌, ◌≢◌, ◌⊎◌, ◌≤◌, ℕ, ◌+◌, ◌==◌, Bool, true, false, List, [], ◌∷◌, ◌++◌, map, Option, Some, None, if◌then◌else◌}
+use Rattle.std.specs.Prelude.{◌≡◌, ◌≢◌, ◌⊎◌, ◌≤◌, ℕ, ◌+◌, ◌==◌, Bool, true, false, List, [], ◌∷◌, ◌++◌, map, reverse, Option, Some, None, if◌then◌else◌}
 use Rattle.std.specs.List.{AllByRecursion}
 use Rattle.fx_base.specs.declared.fault.Fault.{Fault}
 use Rattle.fx_base.specs.declared.fault.Place.TheVariants as places
@@ -18,9 +18,11 @@ use Rattle.fx_leaf.specs.declared.judgement.Judgement.TheVariants as judged
 use Rattle.fx_leaf.specs.Answers.{NothingCuts}
 use Rattle.fx_leaf.specs.Certificates.{Tree, SoundTree}
 use Rattle.fx_leaf.specs.Fates.{packet_fate, wanted_fate}
+use Rattle.fx_leaf.specs.PathSelections.{AreNarrowed, PathSelection}
 use Rattle.fx_traffic.specs.Targets.{Target}
 use Rattle.fx_check.specs.Certificates.{IsShallow, IsWritable, size, tree_items}
 use Rattle.fx_check.specs.FirstRefusal.{depth_limit}
+use Rattle.fx_search.specs.declared.growing.Waiting.{Waiting}
 use Rattle.fx_search.specs.Found.{AtBounds}
 use Rattle.fx_search.specs.Fronts.{RegionAhead, SearchFront, IsTooLarge, root}
 
@@ -52,6 +54,21 @@ pub record IsGrowing (net : Net) (targets : List Target) (version : Version) (mo
   pub written : AllByRecursion IsWritable items
   pub few : lines ≤ most
 
+-- ---- the regions of one target
+
+-- those that are ahead, the next first
+abbrev pub front : List Waiting → List RegionAhead
+front waiting = reverse (map (λ w. w.ahead) waiting)
+
+abbrev pub AllOf : Target → List Waiting → Type 0
+AllOf target [] = Unit {0}
+AllOf target (w ∷ ws) = (w.ahead.target ≡ target) × AllOf target ws
+
+-- they are the target's, and narrowed to the selection processes that may count their packets
+pub record AreAhead (selections : List PathSelection) (target : Target) (waiting : List Waiting) : Type 0 where
+  pub all : AllOf target waiting
+  pub narrowed : AreNarrowed (λ w. w.ahead.region) (λ w. w.active) selections waiting
+
 -- nothing cuts the region, and its least packet hasn't the fate that its class wants
 abbrev pub IsWrongAt : Net → RegionAhead → Type 0
 IsWrongAt net a = NothingCuts net a.target.crossings a.region × (packet_fate net a.region.low a.target.crossings ≢ wanted_fate a.target.exempt)
@@ -61,10 +78,10 @@ abbrev pub IsTaken : Net → List Target → Version → ℕ → List Item → �
 IsTaken net targets version most items lines ahead a true = IsGrowing net targets version most items lines ahead
 IsTaken net targets version most items lines ahead a false = IsWrongAt net a
 
--- the search ends with nothing ahead, or at the first region where packets haven't the fate that is wanted
-abbrev pub IsGrown : Net → List Target → Version → ℕ → List Item → ℕ → Option RegionAhead → Type 0
-IsGrown net targets version most items lines None = IsGrowing net targets version most items lines []
-IsGrown net targets version most items lines (Some a) = IsWrongAt net a × ((rest : List RegionAhead) × (n : ℕ) × SearchFront net targets (a ∷ rest) n)
+-- a search ends with nothing ahead but this, or at the first region where packets do not have the fate that is wanted
+abbrev pub IsGrown : Net → List Target → Version → ℕ → List Item → ℕ → List RegionAhead → Option RegionAhead → Type 0
+IsGrown net targets version most items lines later None = IsGrowing net targets version most items lines later
+IsGrown net targets version most items lines later (Some a) = IsWrongAt net a × ((rest : List RegionAhead) × (n : ℕ) × SearchFront net targets (a ∷ rest) n)
 
 -- for want of memory, or since what is needed is too large
 abbrev pub IsGivenUp : Net → List Target → ℕ → Fault → Type 0

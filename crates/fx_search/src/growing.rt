@@ -1,20 +1,26 @@
 //! A certificate that grows, and what is still ahead of it.
-ghost use Rattle.std.specs.Prelude.{◌≡◌, ◌≤◌, ◌+◌, ◌<◌, ◌++◌, [], ◌∷◌, map, reverse, length, IfOk, OnOk, option_to_list, IfNone};
+ghost use Rattle.std.specs.Prelude.{◌≡◌, ◌≤◌, ℕ, List, IfErr, ◌+◌, ◌<◌, ◌++◌, [], ◌∷◌, IfOk, OnOk, option_to_list, IfNone};
 ghost use Rattle.std.specs.List.{AllByRecursion};
 ghost use Rattle.fx_cert.specs.declared.item.Item.TheVariants as of_item;
-ghost use Rattle.fx_boxes.specs.Boxes.{Holds, IsRegion, IsStrictlyInside};
+ghost use Rattle.fx_base.specs.Fault.{IsMemory};
+ghost use Rattle.fx_boxes.specs.Boxes.{Bounds, Holds, IsRegion, IsStrictlyInside};
+ghost use Rattle.fx_leaf.specs.Judgements.{IsJudged};
+ghost use Rattle.fx_leaf.specs.PathSelections.{IsNarrowed};
+ghost use Rattle.fx_leaf.specs.PathTables.{HasProcessRoom, IsPathBegun};
+ghost use Rattle.fx_leaf.specs.Splits.{IsSplit};
+ghost use Rattle.fx_leaf.specs.Tables.{AreTables, Tables as TableView};
+ghost use Rattle.fx_tables.specs.declared.traffic.Crossing.{Crossing as OfCrossing};
 ghost use Rattle.fx_elements.specs.Axes.{axis_index};
 ghost use Rattle.fx_check.specs.Certificates.{IsWritable};
 ghost use Rattle.fx_check.specs.FirstRefusal.{depth_limit, line_limit};
 ghost use Rattle.fx_search.specs.Fronts.{lower, upper, root};
-ghost use Rattle.fx_leaf.specs.Judgements.{IsJudged};
-ghost use Rattle.fx_leaf.specs.Tables.{AreTables};
 ghost use Rattle.fx_search.specs.Growing.{least_packet, opening_items};
 
+use fx_base::Fault;
 use fx_boxes::Region;
 use fx_cert::{Item, Version};
 use fx_elements::Axis;
-use fx_leaf::{Judgement, Scratch, Tables, judge};
+use fx_leaf::{CutBounds, Judgement, PathScratch, Tables};
 use fx_tables::Packet;
 use fx_traffic::Target;
 use std::alloc::{AllocError, Global};
@@ -38,18 +44,61 @@ impl<'a> Model for Ahead<'a> {
 }
 
 impl<'a> Ahead<'a> {
-    /// What is to be said of the packets of the region that take the target's path.
-    pub(crate) fn judge(&self, scratch: &mut Scratch, tables: &Tables<'_>) -> Judgement
+    /// Of the first `active` selection processes, moves those that count packets of the region before the others, and
+    /// returns how many they are.
+    pub(crate) fn narrow(&self, scratch: &mut PathScratch<'_>, active: usize) -> usize
+        requires narrowed { IsNarrowed scratch.old.selections self.now.region active }
+        ensures narrowed { IsNarrowed scratch.new.selections self.now.region result }
+        ensures fewer { result ≤ active }
+        ensures others { (other : Bounds) (more : ℕ) → active ≤ more
+            → IsNarrowed scratch.old.selections other more
+            → IsNarrowed scratch.new.selections other more }
+        ensures begun { (t : TableView) (path : List OfCrossing) → IsPathBegun t path scratch.old
+            → IsPathBegun t path scratch.new }
+        ensures room { (t : TableView) → HasProcessRoom t scratch.old
+            → HasProcessRoom t scratch.new }
+    {
+        scratch.narrow(&self.region, active)
+    }
+
+    /// What is to be said of the packets of the region that take the target's path, which is begun.
+    pub(crate) fn judge(
+        &self,
+        scratch: &mut PathScratch<'_>,
+        tables: &Tables<'_>,
+        active: usize,
+    ) -> Judgement
         requires tables { AreTables tables.now }
-        requires room { length tables.now.net.processes ≤ length scratch.old }
+        requires room { HasProcessRoom tables.now scratch.old }
+        requires begun { IsPathBegun tables.now self.now.target.crossings scratch.old }
+        requires narrowed { IsNarrowed scratch.old.selections self.now.region active }
         ensures judged { IsJudged tables.now.net self.now.target.crossings self.now.region result }
         ensures region { IsRegion self.now.region }
-        ensures size { length scratch.new ≡ length scratch.old }
+        ensures begun { IsPathBegun tables.now self.now.target.crossings scratch.new }
+        ensures room { HasProcessRoom tables.now scratch.new }
+        ensures kept { scratch.new.selections ≡ scratch.old.selections }
     {
         // For the prover alone: the bounds of a region hold.
         let _greatest = self.region.far_corner();
         let target = self.target;
-        judge(scratch, tables, target.crossings, &self.region)
+        scratch.judge(tables, target.crossings, &self.region, active)
+    }
+
+    /// Where to split the region, which is cut at `other`, so that the split halves what cuts it.
+    pub(crate) fn halving_bound(
+        &self,
+        scratch: &PathScratch<'_>,
+        bounds: &mut CutBounds,
+        active: usize,
+        other: (Axis, u128),
+    ) -> Result<(Axis, u128), Fault>
+        ensures ok { IfOk result (λ s. (t : TableView)
+            → IsPathBegun t self.now.target.crossings scratch.now
+            → IsSplit t.net self.now.target.crossings self.now.region other.0 other.1
+            → IsSplit t.net self.now.target.crossings self.now.region s.0 s.1) }
+        ensures err { IfErr result IsMemory }
+    {
+        scratch.halving_bound(bounds, &self.region, active, other)
     }
 
     /// Whether the packets must never be counted.
@@ -75,31 +124,22 @@ impl<'a> Ahead<'a> {
     }
 }
 
+/// A region of a target whose tree is still to come, and how many of the path's selection processes may count its packets.
+#[derive(Drop)]
+pub(crate) struct Waiting<'a> {
+    pub(crate) ahead: Ahead<'a>,
+    pub(crate) active: usize,
+}
+
 /// The beginning of a certificate.
 #[derive(Drop)]
 pub(crate) struct Growth<'a> {
-    /// What is still ahead; the last of it comes next.
-    pub(crate) ahead: Vec<Ahead<'a>>,
+    /// What is still ahead of the current target; the last of it comes next.
+    pub(crate) ahead: Vec<Waiting<'a>>,
     /// The items so far.
     pub(crate) items: Vec<Item>,
     /// How many of them are split and leaf lines.
     pub(crate) lines: u64,
-}
-
-/// All of these targets, the first of which comes next.
-fn roots<'a>(alloc: Global, targets: &'a [Target<'a>]) -> Result<Vec<Ahead<'a>>, AllocError>
-    ensures { IfOk result (λ ahead. reverse ahead.items ≡ map root targets.now) }
-{
-    let mut ahead: Vec<Ahead<'a>> = Vec::new(alloc);
-    'targets: for behind in 0..targets.len() {
-        let target = &targets[targets.len() - 1 - behind];
-        ahead.push(Ahead {
-            target,
-            region: target.region,
-            depth: 0,
-        })?;
-    }
-    Ok(ahead)
 }
 
 /// The line of a target.
@@ -135,22 +175,36 @@ fn split_item(region: &Region, axis: Axis, at: u128) -> Item
 
 impl<'a> Growth<'a> {
     /// Before the first target's line.
-    pub(crate) fn new(
-        alloc: Global,
-        version: Version,
-        targets: &'a [Target<'a>],
-    ) -> Result<Growth<'a>, AllocError>
-        ensures ahead { IfOk result (λ g. reverse g.ahead.items ≡ map root targets.now) }
+    pub(crate) fn new(alloc: Global, version: Version) -> Result<Growth<'a>, AllocError>
+        ensures ahead { IfOk result (λ g. g.ahead.items ≡ []) }
         ensures items { IfOk result (λ g. g.items.items ≡ of_item.Header version ∷ []) }
         ensures lines { IfOk result (λ g. g.lines ≡ 0) }
     {
         let mut items: Vec<Item> = Vec::new(alloc);
         items.push(Item::Header(version))?;
         Ok(Growth {
-            ahead: roots(alloc, targets)?,
+            ahead: Vec::new(alloc),
             items,
             lines: 0,
         })
+    }
+
+    /// A target comes next, whose path meets so many selection processes.
+    pub(crate) fn open(&mut self, target: &'a Target<'a>, active: usize) -> Result<(), AllocError>
+        ensures ahead { OnOk result (self.new.ahead.items
+            ≡ self.old.ahead.items ++ record { ahead = root target.now; active = active } ∷ []) }
+        ensures items { self.new.items ≡ self.old.items }
+        ensures lines { self.new.lines ≡ self.old.lines }
+    {
+        self.ahead.push(Waiting {
+            ahead: Ahead {
+                target,
+                region: target.region,
+                depth: 0,
+            },
+            active,
+        })?;
+        Ok(())
     }
 
     /// The first line of a region's tree, behind that of its target where the tree is the target's.
@@ -173,8 +227,15 @@ impl<'a> Growth<'a> {
         Ok(())
     }
 
-    /// A split is the region's tree: that of its lower part comes next, then that of its upper part.
-    pub(crate) fn split(&mut self, here: &Ahead<'a>, axis: Axis, at: u128) -> Result<(), AllocError>
+    /// A split is the region's tree: that of its lower part comes next, then that of its upper part. So many selection
+    /// processes may count packets of the region.
+    pub(crate) fn split(
+        &mut self,
+        here: &Ahead<'a>,
+        active: usize,
+        axis: Axis,
+        at: u128,
+    ) -> Result<(), AllocError>
         requires few { self.old.lines < line_limit }
         requires shallow { here.now.depth < depth_limit }
         requires inside { IsStrictlyInside here.now.region (axis_index axis) at }
@@ -184,7 +245,8 @@ impl<'a> Growth<'a> {
             → AllByRecursion IsWritable self.new.items.items) }
         ensures lines { OnOk result (self.new.lines ≡ self.old.lines + 1) }
         ensures ahead { OnOk result (self.new.ahead.items
-            ≡ self.old.ahead.items ++ (upper here.now axis at ∷ lower here.now axis at ∷ [])) }
+            ≡ self.old.ahead.items ++ (record { ahead = upper here.now axis at; active = active }
+            ∷ record { ahead = lower here.now axis at; active = active } ∷ [])) }
     {
         let Some((below, above)) = here.region.split(axis, at) else {
             unreachable!();
@@ -192,15 +254,21 @@ impl<'a> Growth<'a> {
         self.add(here, split_item(&here.region, axis, at))?;
         let depth = here.depth + 1;
         let target = here.target;
-        self.ahead.push(Ahead {
-            target,
-            region: above,
-            depth,
+        self.ahead.push(Waiting {
+            ahead: Ahead {
+                target,
+                region: above,
+                depth,
+            },
+            active,
         })?;
-        self.ahead.push(Ahead {
-            target,
-            region: below,
-            depth,
+        self.ahead.push(Waiting {
+            ahead: Ahead {
+                target,
+                region: below,
+                depth,
+            },
+            active,
         })?;
         Ok(())
     }

@@ -1,8 +1,9 @@
 //! The search: region by region, along the certificate that it would be.
-ghost use Rattle.std.specs.Prelude.{◌≡◌, ◌≢◌, ◌⊎◌, ◌≤◌, ◌<◌, ◌+◌, ℕ, List, ◌∷◌, [], true, length, reverse, min, if◌then◌else◌, Some, None, IfOk, IfErr, IfSome};
+ghost use Rattle.std.specs.Prelude.{◌≡◌, ◌≢◌, ◌⊎◌, ◌≤◌, ◌<◌, ◌+◌, ◌++◌, ℕ, List, ◌∷◌, [], true, map, min, if◌then◌else◌, Some, None, IfOk, IfErr, IfSome, OnOk};
 ghost use Rattle.fx_base.specs.Fault.{fault_at, IsMemory};
 ghost use Rattle.fx_base.specs.declared.fault.Place.TheVariants as places;
-ghost use Rattle.fx_leaf.specs.Judgements.{IsJudged};
+ghost use Rattle.fx_leaf.specs.PathSelections.{IsNarrowed};
+ghost use Rattle.fx_leaf.specs.PathTables.{HasProcessRoom, IsPathBegun};
 ghost use Rattle.fx_leaf.specs.Tables.{AreTables};
 ghost use Rattle.fx_tables.specs.Ranks.{IsNetwork};
 ghost use Rattle.fx_tables.specs.Runnable.{IsRunnable};
@@ -10,10 +11,10 @@ ghost use Rattle.fx_plan.specs.Tables.{net_of};
 ghost use Rattle.fx_check.specs.Certificates.{IsWritable};
 ghost use Rattle.fx_check.specs.FirstRefusal.{line_limit};
 ghost use Rattle.fx_cert.specs.declared.item.Version.{Version};
-ghost use Rattle.fx_traffic.specs.Targets.{Target, targets_of};
+ghost use Rattle.fx_traffic.specs.Targets.{Target as OfTarget, targets_of};
 ghost use Rattle.fx_search.specs.Found as found;
 ghost use Rattle.fx_search.specs.Fronts as fronts;
-ghost use Rattle.fx_search.specs.Growing.{leaf_item, least_packet, IsGrowing, IsGrown, IsTaken, IsGivenUp, Lies};
+ghost use Rattle.fx_search.specs.Growing.{leaf_item, least_packet, front, AreAhead, IsGrowing, IsGrown, IsTaken, IsGivenUp, Lies};
 ghost use Rattle.fx_tables.specs.Classes.{IsOf, path, exempts, Class as OfClass};
 ghost use Rattle.fx_tables.specs.Network.{Net};
 ghost use Rattle.fx_base.specs.Entries.{entry_numbered};
@@ -26,7 +27,7 @@ use crate::watch::Watch;
 use fx_base::{Fault, refusals};
 use fx_cert::{Item, Version};
 use fx_check::{certificates_count_once, tables_of};
-use fx_leaf::{Judgement, Scratch, Tables};
+use fx_leaf::{CutBounds, Judgement, PathScratch, Tables};
 use fx_plan::Plan;
 use fx_refute::{Refutation, refutations_refute};
 use fx_steps::wrong_run;
@@ -58,37 +59,46 @@ fn leaf_for(judgement: Judgement, exempt: bool) -> Option<Item>
     }
 }
 
-/// Goes past the region that comes next by a line more of the certificate, or tells that its packets haven't the
-/// fate that is wanted.
+/// Goes past a region by a line more of the certificate, or returns that its packets do not have the fate that is wanted.
 fn take<'a>(
-    scratch: &mut Scratch,
+    scratch: &mut PathScratch<'_>,
+    bounds: &mut CutBounds,
     tables: &Tables<'_>,
     most: u64,
     growth: &mut Growth<'a>,
     here: &Ahead<'a>,
+    active: usize,
 ) -> Result<bool, Fault>
     requires tables { AreTables tables.now }
-    requires room { length tables.now.net.processes ≤ length scratch.old }
+    requires room { HasProcessRoom tables.now scratch.old }
+    requires begun { IsPathBegun tables.now here.now.target.crossings scratch.old }
+    requires narrowed { IsNarrowed scratch.old.selections here.now.region active }
     requires most { most ≤ line_limit }
-    ensures on { (targets : List Target) (version : Version)
+    ensures on { (targets : List OfTarget) (version : Version) (later : List fronts.RegionAhead)
         → IsGrowing tables.now.net targets version most growth.old.items.items growth.old.lines
-        (here.now ∷ reverse growth.old.ahead.items)
+        (here.now ∷ (front growth.old.ahead.items ++ later))
         → IfOk result (IsTaken tables.now.net targets version most growth.new.items.items
-        growth.new.lines (reverse growth.new.ahead.items) here.now) }
+        growth.new.lines (front growth.new.ahead.items ++ later) here.now) }
     ensures lines { IfOk result (λ taken. taken ≡ true → (growth.new.lines ≡ growth.old.lines + 1)
         × (growth.new.lines ≤ most)) }
-    ensures err { (targets : List Target) (version : Version)
+    ensures err { (targets : List OfTarget) (version : Version) (later : List fronts.RegionAhead)
         → IsGrowing tables.now.net targets version most growth.old.items.items growth.old.lines
-        (here.now ∷ reverse growth.old.ahead.items)
+        (here.now ∷ (front growth.old.ahead.items ++ later))
         → IfErr result (IsGivenUp tables.now.net targets most) }
-    ensures size { length scratch.new ≡ length scratch.old }
+    ensures begun { IsPathBegun tables.now here.now.target.crossings scratch.new }
+    ensures room { HasProcessRoom tables.now scratch.new }
+    ensures narrowed { OnOk result (AreAhead scratch.old.selections here.now.target
+        (growth.old.ahead.items ++ record { ahead = here.now; active = active } ∷ [])
+        → AreAhead scratch.new.selections here.now.target growth.new.ahead.items) }
 {
-    let judgement = here.judge(scratch, tables);
+    let active = here.narrow(scratch, active);
+    let judgement = here.judge(scratch, tables, active);
     if let Judgement::Cut { axis, at } = judgement {
         if growth.lines >= most || here.depth >= DEPTHS {
             return Err(Fault::bare(refusals::SEARCH_TOO_LARGE));
         }
-        growth.split(here, axis, at)?;
+        let bound = here.halving_bound(scratch, bounds, active, (axis, at))?;
+        growth.split(here, active, bound.0, bound.1)?;
         return Ok(true);
     }
     let Some(item) = leaf_for(judgement, here.exempt()) else {
@@ -101,37 +111,85 @@ fn take<'a>(
     Ok(true)
 }
 
-/// Goes on until nothing is ahead, or to the first region whose packets haven't the fate that is wanted.
+/// Goes on until nothing of the current target is ahead, or to its first region whose packets do not have the fate that
+/// is wanted.
 fn grow<'a, W: Watch>(
-    scratch: &mut Scratch,
+    scratch: &mut PathScratch<'_>,
+    bounds: &mut CutBounds,
     tables: &Tables<'_>,
     most: u64,
     growth: &mut Growth<'a>,
+    target: &'a Target<'a>,
     watch: &mut W,
 ) -> Result<Option<Ahead<'a>>, Fault>
     requires tables { AreTables tables.now }
-    requires room { length tables.now.net.processes ≤ length scratch.old }
+    requires room { HasProcessRoom tables.now scratch.old }
+    requires begun { IsPathBegun tables.now target.now.crossings scratch.old }
+    requires ahead { AreAhead scratch.old.selections target.now growth.old.ahead.items }
     requires most { most ≤ line_limit }
     requires few { growth.old.lines ≤ most }
-    ensures grown { (targets : List Target) (version : Version)
+    ensures grown { (targets : List OfTarget) (version : Version) (later : List fronts.RegionAhead)
         → IsGrowing tables.now.net targets version most growth.old.items.items growth.old.lines
-        (reverse growth.old.ahead.items)
+        (front growth.old.ahead.items ++ later)
         → IfOk result (IsGrown tables.now.net targets version most growth.new.items.items
-        growth.new.lines) }
-    ensures err { (targets : List Target) (version : Version)
+        growth.new.lines later) }
+    ensures err { (targets : List OfTarget) (version : Version) (later : List fronts.RegionAhead)
         → IsGrowing tables.now.net targets version most growth.old.items.items growth.old.lines
-        (reverse growth.old.ahead.items)
+        (front growth.old.ahead.items ++ later)
         → IfErr result (IsGivenUp tables.now.net targets most) }
+    ensures room { HasProcessRoom tables.now scratch.new }
+    ensures none { IfOk result (λ o. o ≡ None
+        → (growth.new.ahead.items ≡ []) × (growth.new.lines ≤ most)) }
 {
     'regions: loop {
-        let Some(here) = growth.ahead.pop() else {
+        let Some(next) = growth.ahead.pop() else {
             return Ok(None);
         };
-        if !take(scratch, tables, most, growth, &here)? {
+        let here = next.ahead;
+        if !take(scratch, bounds, tables, most, growth, &here, next.active)? {
             return Ok(Some(here));
         }
         watch.on_lines(growth.lines);
     }
+}
+
+/// Goes on target by target until nothing is ahead, or to the first region whose packets do not have the fate that is
+/// wanted.
+fn grow_all<'a, 't, W: Watch>(
+    scratch: &mut PathScratch<'t>,
+    bounds: &mut CutBounds,
+    tables: &Tables<'t>,
+    most: u64,
+    growth: &mut Growth<'a>,
+    targets: &'a [Target<'a>],
+    watch: &mut W,
+) -> Result<Option<Ahead<'a>>, Fault>
+    requires tables { AreTables tables.now }
+    requires room { HasProcessRoom tables.now scratch.old }
+    requires empty { growth.old.ahead.items ≡ [] }
+    requires most { most ≤ line_limit }
+    requires few { growth.old.lines ≤ most }
+    ensures grown { (all : List OfTarget) (version : Version)
+        → IsGrowing tables.now.net all version most growth.old.items.items growth.old.lines
+        (map fronts.root targets.now)
+        → IfOk result (IsGrown tables.now.net all version most growth.new.items.items
+        growth.new.lines []) }
+    ensures err { (all : List OfTarget) (version : Version)
+        → IsGrowing tables.now.net all version most growth.old.items.items growth.old.lines
+        (map fronts.root targets.now)
+        → IfErr result (IsGivenUp tables.now.net all most) }
+{
+    'targets: for place in 0..targets.len() {
+        let target = &targets[place];
+        scratch.reserve(tables, target.crossings)?;
+        let active = scratch.begin(tables, target.crossings);
+        growth.open(target, active)?;
+        let wrong = grow(scratch, bounds, tables, most, growth, target, watch)?;
+        if wrong.is_some() {
+            return Ok(wrong);
+        }
+    }
+    Ok(None)
 }
 
 /// The run of a region's least packet that shows a wrong total.
@@ -221,10 +279,20 @@ pub fn search<W: Watch>(
     let most = limit.min(LINES);
     let classes = traffic.classes();
     let targets = traffic.targets(alloc)?;
-    let mut scratch = Scratch::new(alloc, &tables)?;
+    let mut scratch = PathScratch::new(alloc, &tables)?;
+    let mut bounds = CutBounds::new(alloc);
     let version = version_for(classes.as_slice());
-    let mut growth = Growth::new(alloc, version, targets.as_slice())?;
-    match grow(&mut scratch, &tables, most, &mut growth, watch)? {
+    let mut growth = Growth::new(alloc, version)?;
+    let lent = targets.as_slice();
+    match grow_all(
+        &mut scratch,
+        &mut bounds,
+        &tables,
+        most,
+        &mut growth,
+        lent,
+        watch,
+    )? {
         Some(here) => refute(alloc, &tables, classes, &here),
         None => certificate(growth),
     }

@@ -165,10 +165,12 @@ fn asked(
     let tables = Tables::new(net, &[2, 1, 0], layouts, &[0, 1, 2]);
     let mut scratch = Scratch::new(alloc, &tables).expect(rt, "memory");
     let mut along = PathScratch::new(alloc, &tables).expect(rt, "memory");
-    along.begin(&tables, &path);
+    along.reserve(&tables, &path).expect(rt, "memory");
+    let all = along.begin(&tables, &path);
+    let active = along.narrow(&region, all);
     let leaf = agreed(
         fate(&mut scratch, &tables, &path, &region),
-        along.fate(&tables, &path, &region),
+        along.fate(&tables, &path, &region, active),
     );
     (leaf, cut(&mut scratch, &tables, &path, &region))
 }

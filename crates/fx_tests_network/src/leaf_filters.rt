@@ -5,7 +5,7 @@ use crate::meters::{agreed, into, meter, sources};
 use crate::parts::{by_source, collector, exporter, holder, process};
 use fx_elements::Axis;
 use fx_layout::Layout;
-use fx_leaf::{Counted, Judgement, PathScratch, Scratch, Tables, cut, fate, judge, never};
+use fx_leaf::{Counted, CutBounds, Judgement, PathScratch, Scratch, Tables, cut, fate, judge, never};
 use fx_tables::{DeviceEntry, Exporter, Holder, Net};
 use std::alloc::Global;
 use std::process::Abort;
@@ -66,8 +66,8 @@ fn network(rt: &impl Abort, alloc: Global, sent: Sent, report: Layout) -> Net
     )
 }
 
-/// The leaf, or the number of the fault; whether no packet is counted, in the same way; the split; and the judgement.
-/// The first two are asked for twice, alone and along the path.
+/// The leaf, or the number of the fault; whether no packet is counted, in the same way; the split that halves what cuts; and
+/// the judgement. All but the split are asked for twice, alone and along the path.
 type Answers = (
     Result<Counted, u16>,
     Result<(), u16>,
@@ -88,17 +88,34 @@ fn asked(rt: &impl Abort, alloc: Global, net: &Net, low: u128, high: u128) -> An
     let tables = Tables::new(net, &[0], &layouts, &[0, 0]);
     let mut scratch = Scratch::new(alloc, &tables).expect(rt, "memory");
     let mut along = PathScratch::new(alloc, &tables).expect(rt, "memory");
-    along.begin(&tables, &path);
+    along.reserve(&tables, &path).expect(rt, "memory");
+    let all = along.begin(&tables, &path);
+    let active = along.narrow(&region, all);
     let leaf = agreed(
         fate(&mut scratch, &tables, &path, &region),
-        along.fate(&tables, &path, &region),
+        along.fate(&tables, &path, &region, active),
     );
     let uncounted = agreed(
         never(&mut scratch, &tables, &path, &region),
-        along.never(&tables, &path, &region),
+        along.never(&tables, &path, &region, active),
     );
     let split = cut(&mut scratch, &tables, &path, &region);
     let judgement = judge(&mut scratch, &tables, &path, &region);
+    let judged = along.judge(&tables, &path, &region, active);
+    let judgement = if judged == judgement {
+        judgement
+    } else {
+        Judgement::Unassigned
+    };
+    let mut bounds = CutBounds::new(alloc);
+    let split = match split {
+        None => None,
+        Some(first) => Some(
+            along
+                .halving_bound(&mut bounds, &region, active, first)
+                .expect(rt, "memory"),
+        ),
+    };
     (leaf, uncounted, split, judgement)
 }
 

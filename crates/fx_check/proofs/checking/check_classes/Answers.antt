@@ -25,12 +25,18 @@ returns-in_err-course g c =
     let p = err_from_is_err_and c.from_residual-in_err-course.result c.from_residual-in_err-course.ensures.1 in
     rw p.1 (record { ok = tt; regions = tt; err = inl (p.2, refl); accepts = λ text told certificate. inl (p.2, refl); numbers = from_memory c.args.lines.now _ p.2 })
 
+pub returns-in_err-make_room : goal.returns-in_err-make_room
+returns-in_err-make_room g c =
+    let p = err_from_is_err_and c.from_residual-in_err-make_room.result c.from_residual-in_err-make_room.ensures.1 in
+    let memory = c.in_err-make_room.ensures.err in
+    rw (p.1, p.2) (record { ok = tt; regions = tt; err = inl (memory, refl); accepts = λ text told certificate. inl (memory, refl); numbers = from_memory c.args.lines.now _ memory })
+
 pub returns : goal.returns
 returns g c =
     let net = c.args.tables.now.net in
     let lines = c.args.lines.now in
     let result = c.take_lines.result in
-    let same = c.as_slice.ensures.value ∙ c.in_ok-targets.ensures.items in
+    let same = c.as_slice-2.ensures.value ∙ c.in_ok-targets.ensures.items in
     let regions = subst AreRegions c.in_ok-targets.ensures.items c.in_ok-targets.ensures.regions in
     record {
       ok = subst (λ (ts : List Target). OnOk result (MayBeAccepted net ts lines)) same c.take_lines.ensures.ok;

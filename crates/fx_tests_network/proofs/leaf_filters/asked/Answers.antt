@@ -1,8 +1,10 @@
+use Rattle.std.proofs.Common.{[], ◌∷◌, ◌∙◌, List, subst, sym}
+use Rattle.fx_leaf.specs.PathSelections.{IsNarrowed, PathSelection}
 use Rattle.fx_tests_network.proofs.TwoMeters.{lent}
 use Rattle.fx_tests_network.proofs.leaf_filters.asked.Goals as goal
 
-pub begin-requires-clause-tables : goal.begin-requires-clause-tables
-begin-requires-clause-tables g c = lent c.new-tables.result c.args.net.now c.new.result c.new-tables.ensures c.new.ensures c.requires.holders c.requires.processes c.requires.report
+pub begin-all-requires-clause-tables : goal.begin-all-requires-clause-tables
+begin-all-requires-clause-tables g c = lent c.new-tables.result c.args.net.now c.new.result c.new-tables.ensures c.new.ensures c.requires.holders c.requires.processes c.requires.report
 
 pub fate-requires-clause-tables : goal.fate-requires-clause-tables
 fate-requires-clause-tables g c = lent c.new-tables.result c.args.net.now c.new.result c.new-tables.ensures c.new.ensures c.requires.holders c.requires.processes c.requires.report
@@ -21,3 +23,18 @@ cut-split-requires-clause-tables g c = lent c.new-tables.result c.args.net.now c
 
 pub judge-judgement-requires-clause-tables : goal.judge-judgement-requires-clause-tables
 judge-judgement-requires-clause-tables g c = lent c.new-tables.result c.args.net.now c.new.result c.new-tables.ensures c.new.ensures c.requires.holders c.requires.processes c.requires.report
+
+pub judge-judged-requires-clause-tables : goal.judge-judged-requires-clause-tables
+judge-judged-requires-clause-tables g c = lent c.new-tables.result c.args.net.now c.new.result c.new-tables.ensures c.new.ensures c.requires.holders c.requires.processes c.requires.report
+
+pub narrow-active-requires : goal.narrow-active-requires
+narrow-active-requires g c = record { narrowed = c.begin-all.ensures.all c.sources-region.result }
+
+pub fate-requires-2-clause-begun : goal.fate-requires-2-clause-begun
+fate-requires-2-clause-begun g c = c.narrow-active.ensures.begun c.new-tables.result (c.into.result ∷ (c.into-2.result ∷ [])) c.begin-all.ensures.begun
+
+pub never-requires-2-clause-narrowed : goal.never-requires-2-clause-narrowed
+never-requires-2-clause-narrowed g c = subst (λ (xs : List PathSelection). IsNarrowed xs c.sources-region.result c.narrow-active.result) (sym c.fate-2.ensures.kept) c.narrow-active.ensures.narrowed
+
+pub judge-judged-requires-clause-narrowed : goal.judge-judged-requires-clause-narrowed
+judge-judged-requires-clause-narrowed g c = subst (λ (xs : List PathSelection). IsNarrowed xs c.sources-region.result c.narrow-active.result) (sym (c.never-2.ensures.kept ∙ c.fate-2.ensures.kept)) c.narrow-active.ensures.narrowed

@@ -1,10 +1,19 @@
-use Rattle.std.proofs.Common.{◌≡◌, ◌==◌, ◌&&◌, false, sym, List, ◌∙◌, ap, inl, inr, refl, subst}
+use Rattle.std.proofs.Common.{◌≡◌, ◌≤◌, ◌==◌, length, ◌&&◌, false, sym, List, ◌∙◌, ap, inl, inr, refl, subst}
+use Rattle.std.proofs.lemmas.Option.{slice_get_read}
+use Rattle.fx_leaf.specs.PathSelections.{path_selections}
 use Rattle.fx_leaf.specs.PathTables.{IsPathBegun}
 use Rattle.fx_tables.specs.declared.traffic.Crossing.{Crossing}
 use Rattle.fx_traffic.specs.Targets.{Target}
 use Rattle.fx_check.proofs.BetweenTrees.{class_opens, deep_none, end_closes, no_class, no_end, none_waits, not_both, opens_begun, region_whole, wrong_class}
+use Rattle.fx_check.proofs.ReadyCourses.{narrowed_first, rooms_more}
 use Rattle.fx_check.proofs.course.Course.between.Goals.{else-class-target-via-then-class-target+else-path-target, else-class-target-via-else-class-target}
 use Rattle.fx_check.proofs.course.Course.between.Goals as goal
+
+pub begin-active-requires-clause-path : goal.begin-active-requires-clause-path
+begin-active-requires-clause-path c =
+    let target = c.index-targets-self.result in
+    let fits = c.requires.ready.rooms c.args.self.now.current target (slice_get_read c.args.targets.now (length c.args.targets.now) c.args.self.now.current target refl c.if-self-targets.true c.index-targets-self.is) in
+    subst (λ (t : Target). length (path_selections c.args.tables.now.net 1 t.crossings) ≤ c.args.scratch.now.room) (sym c.target.view_is) fits
 
 pub returns-then-path-target : goal.returns-then-path-target
 returns-then-path-target c =
@@ -13,12 +22,17 @@ returns-then-path-target c =
     let target = c.index-targets-self.result in
     let view = c.target.view_is in
     let none = none_waits targets old.current old.waiting old.stage c.requires.stage c.requires.consistent in
-    let begun = subst (λ (crossings : List Crossing). IsPathBegun c.args.tables.now crossings c.begin.new.self) (ap (λ (t : Target). t.crossings) view) c.begin.ensures.begun in
+    let begun = subst (λ (crossings : List Crossing). IsPathBegun c.args.tables.now crossings c.begin-active.new.self) (ap (λ (t : Target). t.crossings) view) c.begin-active.ensures.begun in
     record {
-      after = λ judge. class_opens old.version judge old.made targets old.current old.waiting old.stage c.args.item.now c.requires.stage target c.in-Class.class c.in-Class.path c.target.inside.region none c.if-self-targets.true c.index-targets-self.is c.in-Class.is (c.if-class-target.true ∙ ap (λ (t : Target). t.class) view) (c.if-path-target.true ∙ ap (λ (t : Target). t.path) view) (ap (λ (t : Target). t.region) view);
+      after = λ judge. class_opens old.version judge old.made targets old.current old.waiting old.stage c.args.item.now c.requires.stage target c.in-Class.class c.in-Class.path c.target.inside.region c.begin-active.result none c.if-self-targets.true c.index-targets-self.is c.in-Class.is (c.if-class-target.true ∙ ap (λ (t : Target). t.class) view) (c.if-path-target.true ∙ ap (λ (t : Target). t.path) view) (ap (λ (t : Target). t.region) view);
       consistent = (c.if-self-targets.true, deep_none old.waiting none);
       made = rw c.in-Class.is refl;
-      ready = (c.begin.ensures.room, opens_begun c.args.tables.now targets old.current (region_whole c.target.inside.region) target c.begin.new.self c.index-targets-self.is begun);
+      ready = record {
+        room = c.begin-active.ensures.room;
+        rooms = rooms_more c.args.tables.now targets c.args.scratch.now c.begin-active.new.self c.begin-active.ensures.more c.requires.ready.rooms;
+        begun = opens_begun c.args.tables.now targets old.current (region_whole c.target.inside.region c.begin-active.result) target c.begin-active.new.self c.index-targets-self.is begun;
+        narrowed = narrowed_first old.waiting c.begin-active.new.self.selections (region_whole c.target.inside.region c.begin-active.result) none (c.begin-active.ensures.all c.target.inside.region);
+      };
     }
 
 pub returns-else-class-target : goal.returns-else-class-target
@@ -54,7 +68,7 @@ returns-in-End c =
       after = λ judge. end_closes old.version judge old.made c.args.targets.now old.current old.waiting old.stage c.args.item.now c.requires.stage c.if-self-targets.false c.in-End.is;
       consistent = none_waits c.args.targets.now old.current old.waiting old.stage c.requires.stage c.requires.consistent;
       made = rw c.in-End.is refl;
-      ready = (c.requires.ready.0, tt);
+      ready = record { room = c.requires.ready.room; rooms = c.requires.ready.rooms; begun = tt; narrowed = tt };
     }
 
 pub returns : goal.returns

@@ -1,6 +1,9 @@
-use Rattle.std.proofs.Common.{None, sym, arith}
+use Rattle.std.proofs.Common.{List, None, subst, sym, arith}
+use Rattle.fx_leaf.specs.PathSelections.{PathSelection}
 use Rattle.fx_check.specs.Judging.{judge_of}
 use Rattle.fx_check.proofs.ConsistentCourses.{never_out_of_place, never_too_many, never_judged, begun_there, begins_there, region_of, stands}
+use Rattle.fx_check.specs.Remaining.{HasNarrowed}
+use Rattle.fx_check.proofs.ReadyCourses.{narrowed_there, rooms_more}
 use Rattle.fx_check.proofs.course.Course.never.Goals as goal
 
 pub returns-then-eq-clause-after : goal.returns-then-eq-clause-after
@@ -15,7 +18,7 @@ returns-then-self-ge-LINES-clause-after c =
 
 pub never_fault-requires-clause-begun : goal.never_fault-requires-clause-begun
 never_fault-requires-clause-begun c =
-    begun_there c.args.tables.now c.args.targets.now c.args.self.now.current c.args.self.now.stage c.in-Tree.here c.index-targets-self.result c.args.scratch.now c.requires.ready.1 c.in-Tree.is (stands c.args.targets.now c.args.self.now.current c.args.self.now.waiting c.args.self.now.stage c.requires.consistent c.requires.stage).0 c.index-targets-self.is
+    begun_there c.args.tables.now c.args.targets.now c.args.self.now.current c.args.self.now.stage c.in-Tree.here c.index-targets-self.result c.args.scratch.now c.requires.ready.begun c.in-Tree.is (stands c.args.targets.now c.args.self.now.current c.args.self.now.waiting c.args.self.now.stage c.requires.consistent c.requires.stage).0 c.index-targets-self.is
 
 pub returns-in-Some-clause-after : goal.returns-in-Some-clause-after
 returns-in-Some-clause-after c =
@@ -26,9 +29,14 @@ returns-clause-after c =
     rw (c.close_region.ensures.goals)
     (never_judged c.args.self.now.version (judge_of c.args.tables.now.net) c.args.self.now.made c.args.targets.now c.args.self.now.current c.args.self.now.waiting c.args.self.now.stage c.in-Tree.here c.index-targets-self.result None c.in-Tree.is c.requires.consistent c.index-targets-self.is (grind arith) c.if-self-ge-LINES.false (sym c.in_default-never_fault.ensures.fault))
 
+pub never_fault-requires-clause-narrowed : goal.never_fault-requires-clause-narrowed
+never_fault-requires-clause-narrowed c = narrowed_there c.args.self.now.stage c.args.self.now.waiting c.args.scratch.now.selections c.in-Tree.here c.in-Tree.is c.requires.ready.narrowed
+
 pub returns-clause-ready : goal.returns-clause-ready
 returns-clause-ready c =
-    c.close_region.ensures.ready c.args.tables.now c.never_fault.new.scratch (
-      c.in_default-never_fault.ensures.room,
-      begins_there c.args.tables.now c.args.targets.now c.args.self.now.current c.args.self.now.stage c.in-Tree.here c.index-targets-self.result c.never_fault.new.scratch c.in-Tree.is c.index-targets-self.is c.in_default-never_fault.ensures.begun,
-    )
+    c.close_region.ensures.ready c.args.tables.now c.never_fault.new.scratch (record {
+      room = c.in_default-never_fault.ensures.room;
+      rooms = rooms_more c.args.tables.now c.args.targets.now c.args.scratch.now c.never_fault.new.scratch c.in_default-never_fault.ensures.more c.requires.ready.rooms;
+      begun = begins_there c.args.tables.now c.args.targets.now c.args.self.now.current c.args.self.now.stage c.in-Tree.here c.index-targets-self.result c.never_fault.new.scratch c.in-Tree.is c.index-targets-self.is c.in_default-never_fault.ensures.begun;
+      narrowed = subst (λ (xs : List PathSelection). HasNarrowed c.args.self.now.stage c.args.self.now.waiting xs) (sym c.in_default-never_fault.ensures.kept) c.requires.ready.narrowed;
+    })

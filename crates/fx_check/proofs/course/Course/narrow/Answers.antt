@@ -1,0 +1,22 @@
+use Rattle.std.proofs.Common.{◌≡◌, ◌∙◌, sym, subst}
+use Rattle.fx_check.specs.Remaining.{IsNarrowedTo}
+use Rattle.fx_check.specs.declared.course.Stage.TheVariants as stage
+use Rattle.fx_check.specs.declared.stack.WaitingRegion.{WaitingRegion}
+use Rattle.fx_check.proofs.ReadyCourses.{narrowed_there}
+use Rattle.fx_check.proofs.course.Course.narrow.Goals as goal
+
+pub narrow-requires : goal.narrow-requires
+narrow-requires c = record { narrowed = narrowed_there c.args.self.now.stage c.args.self.now.waiting c.args.scratch.now.selections c.in-Tree.here c.in-Tree.is c.requires.narrowed }
+
+pub returns : goal.returns
+returns c = λ w is.
+    let both : stage.Tree c.in-Tree.here ≡ stage.Tree w = sym c.in-Tree.is ∙ is in
+    let same : c.in-Tree.here ≡ w = cc in
+    subst (λ (v : WaitingRegion). IsNarrowedTo c.args.scratch.now c.narrow.new.self v c.narrow.result) same (record {
+      narrowed = c.narrow.ensures.narrowed;
+      fewer = c.narrow.ensures.fewer;
+      others = c.narrow.ensures.others;
+      begun = c.narrow.ensures.begun;
+      room = c.narrow.ensures.room;
+      more = c.narrow.ensures.more;
+    })

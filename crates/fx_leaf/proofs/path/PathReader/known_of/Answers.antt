@@ -1,0 +1,33 @@
+use Rattle.std.proofs.Common.{ap, subst, sym}
+use Rattle.fx_leaf.specs.Leaves.{AddsVerdicts, nothing_known}
+use Rattle.fx_leaf.specs.PathSelections.{PathSelection}
+use Rattle.fx_leaf.specs.Reach.{HoldsBehindSelection, IsMarked}
+use Rattle.fx_leaf.specs.Splits.{Meets}
+use Rattle.fx_leaf.specs.Verdicts.{verdict}
+use Rattle.fx_leaf.proofs.PathFateGrows.{adds_nothing}
+use Rattle.fx_leaf.proofs.PathSelectionVerdicts.{known_more, of_one}
+use Rattle.fx_leaf.proofs.PathSplits.{exit_with}
+use Rattle.fx_leaf.proofs.path.PathReader.known_of.Goals as goal
+
+pub loop-place-init : goal.loop-place-init
+loop-place-init c = adds_nothing nothing_known
+
+pub loop-place-preserved : goal.loop-place-preserved
+loop-place-preserved c =
+    let net = c.args.self.now.verdicts.tables.now.net in
+    let region = c.args.self.now.verdicts.region.now in
+    let x = c.index-selections-place.result in
+    let same = c.met.view_is in
+    let new = subst (λ (s : PathSelection). AddsVerdicts c.loop-place.known c.in_ok-known.known (of_one (verdict net region) net region s)) same c.in_ok-known.ensures.ok in
+    known_more (verdict net region) net region c.loop-place.place c.args.selections.now x nothing_known c.loop-place.known c.in_ok-known.known c.loop-place-test.true c.index-selections-place.is c.loop-place.invariant new
+
+pub selection-requires-clause-along : goal.selection-requires-clause-along
+selection-requires-clause-along c =
+    let t = c.args.self.now.verdicts.tables.now in
+    let same = c.met.view_is in
+    subst (HoldsBehindSelection t.net t.numbering (IsMarked c.args.self.now.marks.now)) (ap (λ (s : PathSelection). s.selection) (sym same)) (c.requires.along c.index-selections-place.result (c.loop-place.place, c.loop-place-test.true, sym c.index-selections-place.is))
+
+pub returns-in_err-known-clause-err : goal.returns-in_err-known-clause-err
+returns-in_err-known-clause-err c =
+    let same = c.met.view_is in
+    exit_with _ _ _ c.from_residual.ensures (λ path. λ all. c.in_err-known.ensures.err path (subst (Meets c.args.self.now.verdicts.tables.now.net path) (ap (λ (s : PathSelection). s.selection) (sym same)) (all c.index-selections-place.result (c.loop-place.place, c.loop-place-test.true, sym c.index-selections-place.is))))

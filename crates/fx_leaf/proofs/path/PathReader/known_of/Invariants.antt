@@ -1,0 +1,10 @@
+use Rattle.std.proofs.Common.{take}
+use Rattle.fx_leaf.specs.Leaves.{AddsVerdicts, nothing_known}
+use Rattle.fx_leaf.specs.Verdicts.{verdict, verdicts_of}
+use Rattle.fx_leaf.proofs.path.PathReader.known_of.Given as goal
+
+abbrev pub invariant-loop-place : goal.invariant-loop-place
+invariant-loop-place l =
+    let net = l.self.verdicts.tables.now.net in
+    let region = l.self.verdicts.region.now in
+    AddsVerdicts nothing_known l.known (verdicts_of (verdict net region) net region (take l.place l.selections))
