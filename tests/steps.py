@@ -54,6 +54,7 @@ STEPS = [
     script("drawings", PROGRAM, needs=("graphviz",)),
     Step("manual", ("packaging/manual.py", PROGRAM, "--compare")),
     script("long_certificates", PROGRAM),
+    script("filter_lists", PROGRAM),
     script("refused_growth", PROGRAM, needs=("gcc", "libc6-dev")),
     script("failed_devices", PROGRAM, needs=("gcc", "libc6-dev")),
     script("full_files", PROGRAM),
