@@ -5,7 +5,9 @@ use crate::meters::{agreed, into, meter, sources};
 use crate::parts::{by_source, collector, exporter, holder, process};
 use fx_elements::Axis;
 use fx_layout::Layout;
-use fx_leaf::{Counted, CutBounds, Judgement, PathScratch, Scratch, Tables, cut, fate, judge, never};
+use fx_leaf::{
+    Counted, CutBounds, Judgement, PathScratch, Scratch, Tables, cut, fate, judge, never,
+};
 use fx_tables::{DeviceEntry, Exporter, Holder, Net};
 use std::alloc::Global;
 use std::process::Abort;
