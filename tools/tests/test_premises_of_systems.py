@@ -2,11 +2,15 @@
 the text, in which a statement that is shut down or disabled does nothing."""
 from __future__ import annotations
 
+from pathlib import Path
+
 import pytest
 
-from once_tools.model import Device, Grade
+from expected import SAMPLES
+from once_tools.model import Device, Grade, Topic
 from once_tools.paths.premises import premises
 from once_tools.source import Source
+from projects import COLLECTOR, REPORT, made
 
 LOST, PREMISE = Grade.NOT_CARRIED_OVER, Grade.PREMISE
 SROS = "nokia-sros"
@@ -176,6 +180,13 @@ def test_what_does_nothing_in_sros(lines: str) -> None:
     assert found(SROS, lines + "\n") == []
 
 
+def test_policy_routing_of_sros_on_one_line() -> None:
+    """Older releases write the action and the next hop on one line."""
+    lines = ["/configure filter ip-filter 10 default-action forward",
+             "/configure filter ip-filter 10 entry 5 action forward next-hop 192.0.2.1"]
+    assert found(SROS, "\n".join(lines) + "\n") == [(2, LOST)]
+
+
 def test_shut_down_in_the_classic_form() -> None:
     """MPLS and the VPRN are shut down: what is in them is not in force."""
     text = CLASSIC.replace("            exit\n            no shutdown\n        exit\n        nat", "            exit\n"
@@ -210,6 +221,7 @@ def test_each_kind_of_routeros_disabled() -> None:
     *((f"/interface {kind} add name=t", PREMISE) for kind in ("ipip", "eoip", "wireguard")),
     *((f"/ip firewall nat add chain=dstnat action={action} to-addresses=10.0.0.9", LOST)
       for action in ("dst-nat", "src-nat", "netmap")),
+    ("/ip route vrf add import-route-targets=1:1 interfaces=ether3 routing-mark=customer", PREMISE),
     ("/routing rule add action=lookup src-address=10.0.0.0/8 table=isp2", LOST),
     ("/ip firewall filter add chain=forward action=reject", PREMISE),
     ("/ip firewall filter add chain=from-customers action=drop", PREMISE),
@@ -268,6 +280,10 @@ def test_interfaces_of_vrp_that_are_shut_down() -> None:
      [(6, PREMISE)]),
     # A policy that the text does not define may send packets elsewhere, and may deny some.
     ("interface A1\n traffic-policy P inbound\n", [(2, LOST), (2, PREMISE)]),
+    ("interface A1\n traffic-redirect inbound acl 3000 ip-nexthop 192.0.2.1\n", [(2, LOST)]),
+    ("policy-based-route\n rule name A\n  action pbr next-hop 192.0.2.1\n", [(3, LOST)]),
+    ("policy-based-route\n rule name A\n  action pbr next-hop 192.0.2.1\n  disable\n", []),
+    ("security-policy\n rule name A\n  action deny\n rule name B\n  action permit\n", [(3, PREMISE)]),
     ("nat-policy\n rule name A\n  action source-nat easy-ip\n", [(3, LOST)]),
     ("nat-policy\n rule name A\n  action source-nat easy-ip\n  disable\n", []),
     ("interface A1\n undo mpls\n mtu 1500\n", []),
@@ -277,3 +293,28 @@ def test_interfaces_of_vrp_that_are_shut_down() -> None:
     ("ip route-static vpn-instance V 10.0.0.0 255.0.0.0 192.0.2.1\n", [])])
 def test_statements_of_vrp(text: str, expected: list[tuple[int, Grade]]) -> None:
     assert found("huawei", text) == expected
+
+
+def told_of(folder: Path, kind: str, text: str, ends: tuple[str, str]) -> list[tuple[int, Grade, Topic, str]]:
+    """Returns what an import reports of a router whose packets go from one interface to another."""
+    project = f'{REPORT}[[devices]]\nname = "r"\nkind = "{kind}"\nconfig = "r.cfg"\n{COLLECTOR}' \
+        f'[[traffic]]\nname = "up"\nfrom = ["r:{ends[0]}"]\nto = ["r:{ends[1]}"]\n'
+    return [(one.place.line, one.grade, one.topic, one.says) for one in made(folder, project, r_cfg=text).report.findings]
+
+
+@pytest.mark.parametrize("action, lines", [("masquerade", [11]), ("accept", []), ("return", [])])
+def test_rules_under_nat_that_change_no_address_are_no_translation(tmp_path: Path, action: str, lines: list[int]) -> None:
+    text = (SAMPLES / "mikrotik" / "gw-6.rsc").read_text() + f"/ip firewall nat add chain=srcnat action={action}\n"
+    told = told_of(tmp_path, "mikrotik", text, ("ether2", "ether1"))
+    assert [line for line, grade, topic, _ in told if topic is Topic.NAT and grade is LOST] == lines
+
+
+@pytest.mark.parametrize("kind, sample, more, ends, line", [
+    ("mikrotik", "mikrotik/gw-6.rsc", "/ip firewall mangle add action=mark-routing chain=prerouting new-routing-mark=b\n",
+     ("ether2", "ether1"), 11),
+    ("nokia-sros", "nokia-sros/pe-1.flat", '/configure filter ip-filter "1" entry 1 action forward next-hop nh-ip address '
+     "192.0.2.1\n", ("customer-g", "to-core-1"), 18)])
+def test_an_import_reports_policy_routing_on_a_path(tmp_path: Path, kind: str, sample: str, more: str, ends: tuple[str, str],
+                                                    line: int) -> None:
+    told = told_of(tmp_path, kind, (SAMPLES / sample).read_text() + more, ends)
+    assert [at for at, grade, _, says in told if grade is LOST and says.startswith("policy routing")] == [line]

@@ -39,7 +39,8 @@ PATTERNS = [
              r"^set policy route |^sros filter \S+ \S+ entry \S+ action forward \S|"
              r"^sros (.* )?policy-based-forwarding |"
              r"^routeros ip(v6)? firewall mangle add action=(mark-routing|route) |^routeros (routing|ip route) rule add |"
-             r"^vrp .*with-redirect|^vrp (.* )?ip(v6)? (local )?policy-based-route ", Grade.NOT_CARRIED_OVER,
+             r"^vrp .*with-redirect|^vrp (.* )?ip(v6)? (local )?policy-based-route |^vrp (.* )?traffic-redirect |"
+             r"^vrp policy-based-route rule .* action pbr ", Grade.NOT_CARRIED_OVER,
              "policy routing: paths follow destinations alone, and what this policy sends elsewhere has another path",
              "declare the traffic that it takes with 'paths', or by roles ('from' and 'to')"),
     _pattern(r"^\s*ip nat (inside|outside|source|pool)|^set nat (source|destination)|^set security nat |"
@@ -74,7 +75,7 @@ PATTERNS = [
              r"^\s*route-target import |^sros service vprn \S+ (.* )?((vrf-import|grt-lookup|grt-leaking)( |$)|"
              r"vrf-target (?!export(-community)? \S+$))|^sros (.* )?rib-management .*leak-(import|export) |"
              r"^routeros ip(v6)? route add .* leads-to-another-table$|"
-             r"^routeros routing bgp (vpn|instance vrf) add .*import|"
+             r"^routeros (routing bgp (vpn|instance vrf)|ip route vrf) add .*import|"
              r"^vrp ip vpn-instance \S+ .*vpn-target (?!.*export-extcommunity)|^vrp .*import-rib |"
              r"^vrp ip(v6)? route-static vpn-instance \S+ .* (vpn-instance|public)( |$)|"
              r"^vrp ip(v6)? route-static (?!vpn-instance ).* vpn-instance ", Grade.PREMISE,
@@ -84,7 +85,7 @@ PATTERNS = [
              r"^sros filter \S+ \S+ (entry \S+ action|default-action) drop( |$)|"
              r"^routeros ip(v6)? firewall filter add action=(drop|reject|tarpit) (.* )?chain=(?!(input|output)( |$))|"
              r"^routeros ip(v6)? firewall raw add action=drop (.* )?chain=prerouting( |$)|"
-             r"^vrp (.* )?traffic-filter |^vrp .*with-deny", Grade.PREMISE,
+             r"^vrp (.* )?traffic-(filter|secure) |^vrp .*with-deny|^vrp security-policy .* action deny$", Grade.PREMISE,
              "a packet filter: packets that it denies end here, and are declared only with may_drop",
              "write may_drop = true under [paths] if a meter comes after the filter"),
     _pattern(r"^sros filter \S+ \S+ default-action-not-given$", Grade.PREMISE,
