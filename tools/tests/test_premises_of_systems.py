@@ -279,7 +279,8 @@ def test_interfaces_of_vrp_that_are_shut_down() -> None:
     ("traffic behavior B\n deny\ntraffic policy P\n classifier C behavior B\ninterface A1\n traffic-policy P outbound\n",
      [(6, PREMISE)]),
     # A policy that the text does not define may send packets elsewhere, and may deny some.
-    ("interface A1\n traffic-policy P inbound\n", [(2, LOST), (2, PREMISE)]),
+    ("interface A1\n traffic-policy P inbound\n", [(2, LOST)]),
+    ("traffic policy P\n classifier C behavior B\ninterface A1\n traffic-policy P inbound\n", [(4, LOST)]),
     ("interface A1\n traffic-redirect inbound acl 3000 ip-nexthop 192.0.2.1\n", [(2, LOST)]),
     ("policy-based-route\n rule name A\n  action pbr next-hop 192.0.2.1\n", [(3, LOST)]),
     ("policy-based-route\n rule name A\n  action pbr next-hop 192.0.2.1\n  disable\n", []),

@@ -13,6 +13,8 @@ from once_tools.source import Source
 Numbered = tuple[int, list[str]]
 FILTER = "filter ip-filter|ipv6-filter|mac-filter *"
 DEFINED = "traffic behavior|policy *"
+UNKNOWN = {"unknown"}
+TOLD = {"redirect", "deny", *UNKNOWN}  # what is said of a traffic policy
 
 
 def line_of(system: str, words: Iterable[str]) -> str:
@@ -80,7 +82,7 @@ def routeros(source: Source) -> list[tuple[int, str]]:
 
 def vrp(source: Source) -> list[tuple[int, str]]:
     """Returns the statements of VRP that are not shut down or disabled. Where a traffic policy is applied, its line gets the
-    words `with-redirect` or `with-deny`; a policy that is not defined in the text may have both."""
+    words `with-redirect` or `with-deny`, or `with-unknown` if the text does not define the policy or its behavior."""
     found = [(one.place.line, list(one.words)) for one in statements(source)]
     kept = in_force(in_force(found, "shutdown", ("undo", "shutdown")), "disable", ("enable",))
     kept = [(number, words) for number, words in kept if "undo" not in words]
@@ -96,10 +98,9 @@ def vrp(source: Source) -> list[tuple[int, str]]:
     lines = []
     for number, words in kept:
         at = words.index("traffic-policy") + 1 if "traffic-policy" in words[:-1] else 0
-        unknown = {"redirect", "deny"}
         named = policies.get(words[at]) if at else set()
-        does = unknown if named is None else {each for name in named for each in actions.get(name, unknown)}
-        lines.append((number, line_of("vrp", [*words, *(f"with-{each}" for each in sorted(does & unknown))])))
+        does = UNKNOWN if named is None else {each for name in named for each in actions.get(name, UNKNOWN)}
+        lines.append((number, line_of("vrp", [*words, *(f"with-{each}" for each in sorted(does & TOLD))])))
     return lines
 
 

@@ -88,6 +88,9 @@ PATTERNS = [
              r"^vrp (.* )?traffic-(filter|secure) |^vrp .*with-deny|^vrp security-policy .* action deny$", Grade.PREMISE,
              "a packet filter: packets that it denies end here, and are declared only with may_drop",
              "write may_drop = true under [paths] if a meter comes after the filter"),
+    _pattern(r"^vrp .*with-unknown", Grade.NOT_CARRIED_OVER,
+             "a traffic policy that is not defined whole in this text: it may send packets elsewhere, or deny them",
+             "give the whole configuration, or declare the traffic that it takes with 'paths'"),
     _pattern(r"^sros filter \S+ \S+ default-action-not-given$", Grade.PREMISE,
              "a packet filter that gives no default action: it may drop what none of its entries takes (whether it does is not "
              "established here), and such packets are declared only with may_drop", "give the filter a default action, or "
