@@ -3,6 +3,7 @@ from __future__ import annotations
 
 import ipaddress
 import json
+from dataclasses import replace
 from pathlib import Path
 from typing import Any
 
@@ -486,17 +487,17 @@ def test_premises_of_configurations(tmp_path: Path) -> None:
         (2, "not carried over"), (3, "not carried over"), (4, "premise"), (6, "premise"), (7, "premise")]
 
 
-@pytest.mark.parametrize("text, line", [
-    ("/ip firewall nat add chain=srcnat action=masquerade out-interface=ether1 disabled=yes\n", 0),
-    ("/ip firewall nat add chain=srcnat action=masquerade out-interface=ether1\n", 1),
-    ("set nat source rule 10 outbound-interface 'eth1'\nset nat source rule 10 disable\n", 0),
-    ("set nat source rule 10 disable\nset nat source rule 11 outbound-interface 'eth1'\n", 2),
-    ("deactivate security nat\nset security nat source rule-set A from zone trust\n", 0),
-    ("deactivate security natural\nset security nat source rule-set A from zone trust\n", 2)])
-def test_premises_of_statements_that_are_not_in_force(tmp_path: Path, text: str, line: int) -> None:
+@pytest.mark.parametrize("kind, text, line", [
+    ("mikrotik", "/ip firewall nat add chain=srcnat action=masquerade out-interface=ether1 disabled=yes\n", 0),
+    ("mikrotik", "/ip firewall nat add chain=srcnat action=masquerade out-interface=ether1\n", 1),
+    (EDGE.kind, "set nat source rule 10 outbound-interface 'eth1'\nset nat source rule 10 disable\n", 0),
+    (EDGE.kind, "set nat source rule 10 disable\nset nat source rule 11 outbound-interface 'eth1'\n", 2),
+    (EDGE.kind, "deactivate security nat\nset security nat source rule-set A from zone trust\n", 0),
+    (EDGE.kind, "deactivate security natural\nset security nat source rule-set A from zone trust\n", 2)])
+def test_premises_of_statements_that_are_not_in_force(tmp_path: Path, kind: str, text: str, line: int) -> None:
     """A translation that is disabled or deactivated translates nothing; 0 is no finding."""
     (tmp_path / "edge-1.cfg").write_text(text)
-    declaration = declared(tmp_path, [EDGE], TRAFFIC + 'from = ["edge-1:Gi0/0/0"]\nto = ["edge-1:Te0/1/0"]\n',
+    declaration = declared(tmp_path, [replace(EDGE, kind=kind)], TRAFFIC + 'from = ["edge-1:Gi0/0/0"]\nto = ["edge-1:Te0/1/0"]\n',
                            edge_1='config = "edge-1.cfg"')
     assert [one.place.line for one in declaration.findings if one.grade.value == "not carried over"] == ([line] if line else [])
 

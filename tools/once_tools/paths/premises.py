@@ -6,6 +6,7 @@ from dataclasses import dataclass
 from typing import Iterable
 
 from once_tools.model import Device, Finding, Grade, Topic
+from once_tools.paths.in_force import SYSTEMS
 from once_tools.readers import junos, vyos
 from once_tools.source import Source
 
@@ -24,35 +25,81 @@ class Pattern:
     topic: Topic = Topic.OTHER
 
 
+# Parts of the lines of `in_force`: a router or a VPRN of SR OS, and what the command `nat` of VRP may be followed by.
+ROUTER = r"^sros (router|service vprn \S+) "
+NAT_OF_VRP = r"(outbound|inbound|server|static|bind)( |$)"
+
+
 def _pattern(expression: str, grade: Grade, says: str, todo: str, topic: Topic = Topic.OTHER) -> Pattern:
     return Pattern(re.compile(expression), grade, says, todo, topic)
 
 
 PATTERNS = [
     _pattern(r"^\s*ip(v6)? policy route-map |^\s*service-policy type pbr |then routing-instance |^\s*ip rule add |"
-             r"^set policy route |traffic-policy \S+ inbound", Grade.NOT_CARRIED_OVER,
+             r"^set policy route |^sros filter \S+ \S+ entry \S+ action forward \S|"
+             r"^sros (.* )?policy-based-forwarding |"
+             r"^routeros ip(v6)? firewall mangle add action=(mark-routing|route) |^routeros (routing|ip route) rule add |"
+             r"^vrp .*with-redirect|^vrp (.* )?ip(v6)? (local )?policy-based-route |^vrp (.* )?traffic-redirect |"
+             r"^vrp policy-based-route rule .* action pbr ", Grade.NOT_CARRIED_OVER,
              "policy routing: paths follow destinations alone, and what this policy sends elsewhere has another path",
              "declare the traffic that it takes with 'paths', or by roles ('from' and 'to')"),
-    _pattern(r"^\s*ip nat (inside|outside|source|pool)|^set nat (source|destination)|^set security nat |^\s*nat outbound|"
-             r"/ip firewall nat(?!.*\bdisabled=yes\b)|^set services nat ", Grade.NOT_CARRIED_OVER,
+    _pattern(r"^\s*ip nat (inside|outside|source|pool)|^set nat (source|destination)|^set security nat |"
+             r"^set services nat |" + ROUTER + r"nat (inside|outside) (?!exit$)\S|"
+             r"^sros filter \S+ \S+ entry \S+ action nat( |$)|^sros (?!service nat ).* nat-policy \S|"
+             r"^routeros ip(v6)? firewall nat add action=(src-nat|masquerade|dst-nat|netmap|redirect|same|endpoint-\S+)( |$)|"
+             r"^vrp (.* )?nat " + NAT_OF_VRP + r"|^vrp nat-policy .* action (source-nat|destination-nat|nat)( |$)",
+             Grade.NOT_CARRIED_OVER,
              "address translation (NAT): a packet has other addresses after it, and whether one packet is counted on both "
              "sides the audit cannot see", "declare a class for each side of the translation, and meter one side alone",
              Topic.NAT),
     _pattern(r"^\s*tunnel source |^\s*crypto map |^\s*tunnel protection |^set interfaces (gr|ip|st0|vxlan|tunnel|wireguard)|"
-             r"^\s*vxlan source-interface ", Grade.PREMISE,
+             r"^\s*vxlan source-interface |^sros (.* )?(ip-tunnel|ipsec-tunnel|ipsec-gw|ipsec-gateway) \S|"
+             r"^sros service sdp \S+ (delivery-type )?gre|^sros (.* )?auto-bind(-tunnel resolution-filter)? gre( |$)|"
+             r"^sros service \S+ \S+ vxlan |^routeros interface (gre|ipip|eoip|wireguard|vxlan|6to4|gre6|ipipv6|eoipv6|"
+             r"(l2tp|pptp|sstp|ovpn)-client) add |^routeros interface (l2tp|pptp|sstp|ovpn)-server server set .*enabled=yes|"
+             r"^routeros ip ipsec policy add (?!.*(action=(none|discard)|template=yes))|"
+             r"^vrp interface \S+ (tunnel-protocol (?!none|mpls)|ipsec policy )|^vrp interface Nve\S* (source|vni) ",
+             Grade.PREMISE,
              "a tunnel: its outer packets are packets of their own, and a meter that sees both counts both",
              "see that an exempt class has the outer packets (protocol 47 or 50, or the tunnel's port)"),
-    _pattern(r"^\s*mpls (ip|ldp|traffic-eng)|^set protocols (mpls|ldp|rsvp)", Grade.PREMISE,
+    _pattern(r"^\s*mpls (ip|ldp|traffic-eng)|^set protocols (mpls|ldp|rsvp)|"
+             r"^sros router (mpls|ldp|rsvp|(isis|ospf)( \d+)? segment-routing)( |$)|"
+             r"^sros service sdp \S+ (delivery-type )?mpls|^sros (.* )?auto-bind(-tunnel resolution(-filter)?)? "
+             r"(?!gre|filter|disabled|\S+ false)\S+|"
+             r"^routeros mpls (?!interface )[^=]*add |^routeros mpls ldp set .*enabled=yes|^routeros interface vpls add |"
+             r"^vrp (interface \S+ )?mpls(?! lsr-id)( |$)|^vrp interface \S+ tunnel-protocol mpls|"
+             r"^vrp (isis|ospf) .*segment-routing mpls", Grade.PREMISE,
              "MPLS: core interfaces are crossed by labelled packets, which meters of IP may not see",
              "meter at interfaces where packets have no labels", Topic.MPLS),
     _pattern(r"^\s*ip(v6)? route vrf .* global\b|^\s*route-replicate |^\s*import ipv4 unicast map|rib-groups? |"
-             r"^\s*route-target import ", Grade.PREMISE,
+             r"^\s*route-target import |^sros service vprn \S+ (.* )?((vrf-import|grt-lookup|grt-leaking)( |$)|"
+             r"vrf-target (?!export(-community)? \S+$))|^sros (.* )?rib-management .*leak-(import|export) |"
+             r"^routeros ip(v6)? route add .* leads-to-another-table$|"
+             r"^routeros (routing bgp (vpn|instance vrf)|ip route vrf) add .*import|"
+             r"^vrp ip vpn-instance \S+ .*vpn-target (?!.*export-extcommunity)|^vrp .*import-rib |"
+             r"^vrp ip(v6)? route-static vpn-instance \S+ .* (vpn-instance|public)( |$)|"
+             r"^vrp ip(v6)? route-static (?!vpn-instance ).* vpn-instance ", Grade.PREMISE,
              "routes may lead from one VRF into another: such ways are declared only where an interface pair joins them",
              "declare traffic between VRFs with 'paths'"),
-    _pattern(r"^\s*ip access-group |^\s*ipv6 traffic-filter |^\s*ipv4 access-group ", Grade.PREMISE,
+    _pattern(r"^\s*ip access-group |^\s*ipv6 traffic-filter |^\s*ipv4 access-group |"
+             r"^sros filter \S+ \S+ (entry \S+ action|default-action) drop( |$)|"
+             r"^routeros ip(v6)? firewall filter add action=(drop|reject|tarpit) (.* )?chain=(?!(input|output)( |$))|"
+             r"^routeros ip(v6)? firewall raw add action=drop (.* )?chain=prerouting( |$)|"
+             r"^vrp (.* )?traffic-(filter|secure) |^vrp .*with-deny|^vrp security-policy .* action deny$", Grade.PREMISE,
              "a packet filter: packets that it denies end here, and are declared only with may_drop",
              "write may_drop = true under [paths] if a meter comes after the filter"),
-    _pattern(r"^\s*ip mtu |^\s*ip tcp adjust-mss|^\s*(ipv6 )?mtu (?!1500\b)\d|^set interfaces .* mtu ", Grade.PREMISE,
+    _pattern(r"^vrp .*with-unknown", Grade.NOT_CARRIED_OVER,
+             "a traffic policy that is not defined whole in this text: it may send packets elsewhere, or deny them",
+             "give the whole configuration, or declare the traffic that it takes with 'paths'"),
+    _pattern(r"^sros filter \S+ \S+ default-action-not-given$", Grade.PREMISE,
+             "a packet filter that gives no default action: it may drop what none of its entries takes (whether it does is not "
+             "established here), and such packets are declared only with may_drop", "give the filter a default action, or "
+             "write may_drop = true under [paths] if a meter comes after it"),
+    _pattern(r"^\s*ip mtu |^\s*ip tcp adjust-mss|^\s*(ipv6 )?mtu (?!1500\b)\d|^set interfaces .* mtu |"
+             r"^sros (router|service \S+ \S+) (.* )?interface \S+ (.* )?ip-mtu (?!1500( |$))\d|"
+             r"^sros (port|lag) \S+ (.* )?mtu \d|^routeros interface .* (max-)?mtu=(?!1500( |$))\d|"
+             r"^routeros ip(v6)? firewall mangle add action=change-mss |"
+             r"^vrp interface \S+ ((ipv6 )?mtu (?!1500( |$))\d|tcp adjust-mss )", Grade.PREMISE,
              "an MTU of its own: where a packet is fragmented, meters after it count each fragment, with its header",
              "make all MTUs on metered paths equal, or meter before this interface"),
 ]
@@ -69,6 +116,8 @@ def not_in_force(lines: Iterable[str]) -> tuple[str, ...]:
 
 def lines_of(device: Device, source: Source) -> list[tuple[int, str]]:
     """Returns the lines of a configuration that are in force, with their numbers."""
+    if device.kind in SYSTEMS:
+        return SYSTEMS[device.kind](source)
     found = STATEMENTS.get(device.kind)
     lines = [(one.place.line, "set " + " ".join(one.words)) for one in found(source) if not one.inactive] if found else \
         list(enumerate(source.lines(), 1))

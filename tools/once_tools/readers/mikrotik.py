@@ -33,6 +33,8 @@ KEYS = (*ADDRESSES, "protocolIdentifier", *PORTS, "ipClassOfService")
 VERSIONS = {"1": 1, "5": 5, "9": 9, "ipfix": 10}
 COUNTS = {"ingress": Direction.INGRESS, "both": Direction.BOTH}
 NAME = "traffic-flow"
+# Actions of a rule under `/ip firewall nat` that change no address; a rule without an action accepts.
+CHANGES_NOTHING = ("accept", "jump", "return", "log", "passthrough")
 FOUND = re.compile(r"\[ ?find [^\]]*\]")
 # The name that an interface has unless the line sets another.
 DEFAULT_NAME = re.compile(r"\[ ?find default-name=([^\s\]]+) ?\]")
@@ -250,6 +252,10 @@ class _Reading:
                              "to ingress or both", Topic.OTHER, None, exporters)
         return found or Direction.INGRESS
 
+    def translates(self, one: Line) -> bool:
+        return one.menu == "ip firewall nat" and one.verb == "add" and one.values.get("disabled") != "yes" \
+            and one.values.get("action", "accept") not in CHANGES_NOTHING
+
     def report_rest(self) -> None:
         exporters = [one.name for one in self.device.exporters]
         if self.settings.get("packet-sampling", "no") != "no":
@@ -262,7 +268,7 @@ class _Reading:
             elif value == "no":
                 self.log.note(place, f"records have no {key}", exporters=exporters)
         for one in self.lines:
-            if one.menu == "ip firewall nat" and one.verb == "add" and one.values.get("disabled") != "yes":
+            if self.translates(one):
                 self.log.lost(one.place, "NAT: packets have other addresses beyond the router than where they are "
                               "metered, and a report by address counts "
                               "them under those that the meter sees",
