@@ -69,7 +69,7 @@ def network(lists):
 
 
 def traffic(meters, count):
-    """Returns the document of the packets from so many networks, which cross all meters."""
+    """Returns the document of a class: packets from `count` networks, which cross all meters."""
     last = ipaddress.ip_address(FIRST + count * SIZE - 1)
     path = [{"device": f"meter {it}", "interface": "eth0", "direction": "ingress"} for it in range(meters)]
     region = {"ipVersion": "4", "sourceIPv4Address": f"{ipaddress.ip_address(FIRST)}-{last}"}

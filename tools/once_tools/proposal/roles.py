@@ -55,8 +55,8 @@ def routes_by_table(device: str, around: Surroundings) -> Iterator[tuple[str, Ad
 
 
 def routes_by_statement(device: str, around: Surroundings) -> Iterator[tuple[str, Address | None, Place]]:
-    """Yields interface, gateway and place of static default routes: a line about routes has the default prefix, and behind it
-    the next hop."""
+    """Yields interface, gateway and place of static default routes: a line about routes has the default prefix, followed by the
+    next hop."""
     entry = next((one for one in around.project.devices if one.name == device), None)
     for source in around.project.sources(entry.config, entry.place) if entry and device in around.devices else []:
         is_router = False
