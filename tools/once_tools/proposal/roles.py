@@ -1,4 +1,4 @@
-"""Which interfaces lead to customers and which to the core, as far as configurations suggest it."""
+"""Guesses from configurations which interfaces lead to customers and which to the core."""
 from __future__ import annotations
 
 import ipaddress

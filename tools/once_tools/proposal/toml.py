@@ -27,7 +27,7 @@ def one_or_list(texts: Sequence[str]) -> str:
 
 
 def commented(entries: Iterable[tuple[str, str]]) -> str:
-    """Returns a list of texts with a comment behind each."""
+    """Returns a list of texts, each followed by a comment."""
     return "[\n" + "".join(f"    {quoted(text)},{f'  # {printable(comment)}' if comment else ''}\n"
                            for text, comment in entries) + "]"
 
