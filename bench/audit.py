@@ -2,6 +2,7 @@
 import os
 import sys
 
+import lists
 from check import busy, chain, document, least_in_turns, one_class, run
 
 FILTERS = 125
@@ -63,6 +64,23 @@ def per_line(program, work):
     return right and max(figures[1:]) <= 1.3 * min(figures[1:])
 
 
+def filter_lists(program, work):
+    """Whether paths of meters with lists of filters are audited and checked, in whatever order the filters stand."""
+    right = True
+    for meters, filters in ((1, 64), (32, 256), (62, 256)):
+        times = []
+        for order in ("ascending", "descending", "shuffled"):
+            documents, found = lists.documents(work, meters, filters, order), os.path.join(work, "found.txt")
+            audit, check = [program, "audit", *documents], [program, "check", *documents, found]
+            answered(audit, 0, "once-certificate 1\n", found)
+            ours, theirs = least_in_turns(3, [lambda: answered(audit, 0, "once-certificate 1\n"), lambda: answered(check, 0, "yes\n")])
+            lines = lists.lines_of(meters, filters)
+            print("%2d x %d filters, %-10s %6d lines: audit %.3f s, check %.3f s" % (meters, filters, order, lines, ours, theirs))
+            times.append(ours)
+        right = right and (meters == 1 or max(times) <= 1.5 * min(times))
+    return right
+
+
 def large(program, work, traffic):
     network = document(work, "chain.json", chain(256, 64))
     taken = least_in_turns(5, [lambda: answered([program, "audit", network, traffic], 0, "once-certificate 1\n")])[0]
@@ -94,7 +112,7 @@ def refuted(program, work, traffic):
 def main(program, work):
     program = os.path.abspath(program)
     traffic = one_class(work)
-    done = [per_line(program, work), large(program, work, traffic), doublings(program, work, traffic), refuted(program, work, traffic)]
+    done = [per_line(program, work), filter_lists(program, work), large(program, work, traffic), doublings(program, work, traffic), refuted(program, work, traffic)]
     return 0 if all(done) else 1
 
 

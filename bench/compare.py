@@ -8,6 +8,7 @@ import sys
 
 import collect
 import instructions
+import lists
 import replay
 import run as metering
 from check import least_in_turns, run
@@ -68,6 +69,7 @@ UNITS = {
     "replay": "a packet along ten collectors",
     "audit": "a line of a certificate that is found",
     "run": "a packet of a capture",
+    **{name: "a line, %s meters of %s filters" % tuple(name.split("-")[1].split("x")) for name in instructions.KINDS if "-" in name},
 }
 
 
@@ -94,11 +96,16 @@ def of_replay(work, steps):
     return ["replay", instructions.NETWORK, instructions.TRAFFIC, path]
 
 
+def of_lists(work, lines):
+    return ["audit", *lists.documents(work, lines // 512, 256, "ascending")]
+
+
 SIZES = {
     "check": (of_check, "line", (1_000, 10_000, 100_000, 999_999)),
     "collect": (of_collect, "record", (3_000, 30_000, 300_000, 3_000_000)),
     "run": (of_run, "packet", (1_000, 10_000, 100_000, 1_000_000)),
     "replay": (of_replay, "step", (2_000, 20_000, 200_000)),
+    "audit of filter lists": (of_lists, "line", (512, 2_048, 8_192, 16_384)),
 }
 
 

@@ -13,6 +13,9 @@ the units that it has more, so that the start and the reading of documents don't
   replay    a packet that is counted, goes along ten collectors that aggregate and is tallied: 2,000 and 4,000 packets
   audit     a line of a certificate that is found, 125 filters that are split apart: 20 and 40 paths
   run       a packet of a capture that a meter with a timeout cache counts: 20,000 and 40,000 packets of 1,000 flows
+  audit-1x64, audit-32x256, audit-62x256, check-1x64, check-32x256, check-62x256
+            a line of the certificate of a path of 1 or 32 meters, or of two paths of 31, with 64 or 256 filters each, by networks in
+            ascending order: what the command takes more than `lint` of the same documents
 
 It needs valgrind (Debian's package) on the PATH. Where that isn't there, the comparison with a page says so, and passes:
 the gate makes it.
@@ -30,6 +33,7 @@ sys.path[:0] = [os.path.join(TOP, "tests"), os.path.dirname(os.path.abspath(__fi
 
 import audit
 import collect
+import lists
 import replay
 import run as metering
 from check import document
@@ -81,16 +85,29 @@ def metered(work, size):
     return [words[0], *(os.path.join(folder, name) for name in words[1:])], size
 
 
+def of_lists(meters, filters, command):
+    """Returns what makes the words of `lint`, which counts no line, and then of the command over the same documents."""
+    def made(work, size):
+        words = lists.documents(work, meters, filters, "ascending")
+        if size == 1:
+            return ["lint", *words], 0
+        more = [lists.certificate(work, meters, filters, "ascending")] if command == "check" else []
+        return [command, *words, *more], lists.lines_of(meters, filters)
+    return made
+
+
+SIZES = ((1, 64), (32, 256), (62, 256))
 KINDS = {
     "check": (checked, 20_000),
     "collect": (collected, 20_000),
     "replay": (replayed, 2_000),
     "audit": (audited, 20),
     "run": (metered, 20_000),
+    **{f"{command}-{meters}x{filters}": (of_lists(meters, filters, command), 1) for command in ("audit", "check") for meters, filters in SIZES},
 }
 
 # A row of a page's table: the kind of work, and a unit's instructions.
-ROW_OF_PAGE = re.compile(r"^\| `(\w+)` \|[^|]*\| ([\d,]+) \|", re.MULTILINE)
+ROW_OF_PAGE = re.compile(r"^\| `([\w-]+)` \|[^|]*\| ([\d,]+) \|", re.MULTILINE)
 
 
 def by_unit(program, small, large):
@@ -128,10 +145,10 @@ def main(words):
         for name, found in inputs.items():
             now = by_unit(words.program, *found)
             if name not in before:
-                print("%-8s %7.0f instructions" % (name, now))
+                print("%-13s %7.0f instructions" % (name, now))
                 dear += [name] if words.noted else []
                 continue
-            print("%-8s %7.0f instructions, %7.0f before, %.2f times" % (name, now, before[name], now / before[name]))
+            print("%-13s %7.0f instructions, %7.0f before, %.2f times" % (name, now, before[name], now / before[name]))
             dear += [name] if now > words.most * before[name] else []
     if dear:
         print("more than %.2f times what it was, or not noted: %s" % (words.most, " ".join(dear)))
