@@ -67,10 +67,6 @@ def answers():
     return found
 
 
-def anchor(number, name):
-    return f"[{number}](#{number}-{name.lower()})"
-
-
 def section(number, row, answered):
     """The lines of a number."""
     name, wrong, cause, cure, place = row
@@ -95,11 +91,8 @@ def page(named):
             hundreds.append((rows[0][0] // 100, title, rows))
     text, answered = HEAD, answers()
     for hundred, title, rows in sorted(hundreds):
-        text += f"- {hundred}xx, {title}: {', '.join(anchor(number, row[0]) for number, row in rows)}\n"
-    for hundred, title, rows in sorted(hundreds):
-        text += f"\n## {hundred}xx: {title}\n\n" + "".join(line for row in rows for line in section(*row, answered))
-        text = text.rstrip("\n") + "\n"
-    return text
+        text += f"## {hundred}xx: {title}\n\n" + "".join(line for row in rows for line in section(*row, answered))
+    return text.rstrip("\n") + "\n"
 
 
 def faults(named):
