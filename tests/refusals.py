@@ -19,7 +19,7 @@ TABLES = os.path.join(TOP, "crates", "fx_words", "src")
 
 HEAD = """# Refusals
 
-What each number means that the program answers, its usual causes, and what to do. Answers are `refused N PLACE`, `no N PLACE`, `unknown N`, `memory N` and `device N`; the place, if there is one, is a JSON Pointer (RFC 6901) into a document, a line of a text, or an octet. FORMATS is [docs/FORMATS.md](FORMATS.md).
+What each number means that the program answers, its usual causes, and what to do. Answers are `refused N PLACE`, `no N PLACE`, `unknown N`, `memory N` and `device N`; the place, if there is one, is a JSON Pointer (RFC 6901) into a document, a line of a text, or an octet. [FORMATS](FORMATS.md) describes each text. An example is a folder with this answer.
 
 `tests/refusals.py` writes this page from the tables of `crates/fx_words/src`, which `once explain` prints.
 
@@ -54,16 +54,16 @@ def tables():
 
 
 def answers():
-    """Answers by their number, with the folder that has them: examples first, then rows, short names first."""
+    """The folder that has an answer of each number: examples first, then rows, short names first."""
     found = {}
     for kind, names in (("examples", r"answer.*\.txt"), ("tests/rows", r"stdout")):
         for folder in sorted(glob.glob(f"{TOP}/{kind}/*/"), key=lambda name: (len(name), name)):
             for name in sorted(os.listdir(folder)):
                 if re.fullmatch(names, name):
                     with open(os.path.join(folder, name), encoding="utf-8", errors="replace") as file:
-                        answer = re.match(r"(?:refused|no|unknown|memory|device) (\d+)\b.*", file.readline())
+                        answer = re.match(r"(?:refused|no|unknown|memory|device) (\d+)\b", file.readline())
                     if answer:
-                        found.setdefault(int(answer[1]), (os.path.relpath(folder, TOP), answer[0].strip()))
+                        found.setdefault(int(answer[1]), os.path.relpath(folder, TOP))
     return found
 
 
@@ -73,11 +73,11 @@ def section(number, row, answered):
     yield f"### {number} {name}\n\n{wrong}\n\n"
     yield f"- Causes: {cause}\n"
     yield f"- Fix: {cure}\n"
-    if place:
-        yield f"- See: {place}\n"
+    sources = [it for it in place.split("; ") if it and not it.startswith("FORMATS")]
+    if sources:
+        yield f"- See: {'; '.join(sources)}\n"
     if number in answered:
-        folder, answer = answered[number]
-        yield f"- Example: `{folder}`: `{answer}`\n"
+        yield f"- Example: `{answered[number]}`\n"
     yield "\n"
 
 
