@@ -14,9 +14,10 @@ import ipaddress
 import json
 import os
 import random
-import subprocess
 import sys
 import tempfile
+
+from program import run
 
 CLASSES = 250
 NETWORK = {
@@ -82,8 +83,8 @@ def replayed(program, texts, packets):
         ):
             with open(os.path.join(work, name), "w", encoding="utf-8") as file:
                 file.write(text)
-        run = subprocess.run([program, "replay", "network.json", "traffic.json", "run.txt"], cwd=work, capture_output=True, text=True, check=False)
-        return run.returncode, run.stdout
+        ran = run([program, "replay", "network.json", "traffic.json", "run.txt"], work, text=True)
+        return ran.returncode, ran.stdout
 
 
 def main():

@@ -17,11 +17,11 @@ import concurrent.futures
 import os
 import re
 import struct
-import subprocess
 import sys
 import tempfile
 
 from mutated_inputs import PLACE, PRINTED, SECONDS, SPACE, seeds
+from program import DidNotEnd, run
 from refused_growth import ROWS, SWEPT, octets_of
 
 REFUSED = re.compile(rb"(refused|no) \d+" + PLACE)
@@ -65,13 +65,13 @@ def try_one(program, folder, words, given, whole):
     """The status of a run over a cut file, and what is wrong with it, if anything is."""
     try:
         limited = ["prlimit", "--as=%d" % SPACE, program, *words]
-        run = subprocess.run(limited, input=given, capture_output=True, cwd=folder, timeout=SECONDS)
-    except subprocess.TimeoutExpired:
+        ran = run(limited, folder, given, SECONDS)
+    except DidNotEnd:
         return None, "no end within %d s" % SECONDS
-    form = PRINTED.get(run.returncode) if whole else REFUSED if run.returncode in (1, 2) else None
-    if form is None or not form.fullmatch(run.stdout) or run.stderr:
-        return run.returncode, "status %d, %r, %r" % (run.returncode, run.stdout[:200], run.stderr[:200])
-    return run.returncode, None
+    form = PRINTED.get(ran.returncode) if whole else REFUSED if ran.returncode in (1, 2) else None
+    if form is None or not form.fullmatch(ran.stdout) or ran.stderr:
+        return ran.returncode, "status %d, %r, %r" % (ran.returncode, ran.stdout[:200], ran.stderr[:200])
+    return ran.returncode, None
 
 
 def cuts_of(program, kind, words, files, name):

@@ -12,14 +12,13 @@ import json
 import os
 import re
 import shutil
-import subprocess
 import sys
 import tempfile
 
 sys.dont_write_bytecode = True
 TOP = os.path.dirname(os.path.dirname(os.path.abspath(__file__)))
-sys.path.insert(0, os.path.join(TOP, "tests"))
-from verdict import not_run, told
+import program
+from verdict import not_run, report_named
 
 NODE = re.compile(r'^ *([a-z]+[0-9_]+) \[(.*)\];$')
 EDGE = re.compile(r'^ *([a-z]+[0-9_]+) -> ([a-z]+[0-9_]+)(?: \[(.*)\])?;$')
@@ -195,7 +194,7 @@ class Drawer:
         self.program, self.dot = program, dot
 
     def run(self, *words):
-        return subprocess.run([self.program, *words], stdout=subprocess.PIPE, timeout=60)
+        return program.run([self.program, *words])
 
     def draw(self, what, network, *texts):
         """Draws, and compares with the network's document: gives what was drawn, and its faults."""
@@ -211,7 +210,7 @@ class Drawer:
                 with open(texts[1], encoding="utf-8") as file:
                     faults += unmarked(graph, file.read())
             if self.dot and what.startswith("examples"):
-                taken = subprocess.run([self.dot, "-Tcanon"], input=done.stdout, stdout=subprocess.DEVNULL, stderr=subprocess.PIPE)
+                taken = program.run([self.dot, "-Tcanon"], given=done.stdout, stdout=program.NOWHERE)
                 if taken.returncode or taken.stderr:
                     faults.append(f"dot: {taken.stderr.decode()[:100]}")
         except AssertionError as fault:
@@ -248,7 +247,7 @@ def main(words):
     dot = words[1] if len(words) > 1 else shutil.which("dot")
     if not dot:
         not_run("drawings through dot", "there is no dot (Debian's package graphviz)")
-    return told(drawings(Drawer(os.path.abspath(words[0]), dot)))
+    return report_named(drawings(Drawer(os.path.abspath(words[0]), dot)))
 
 
 if __name__ == "__main__":

@@ -15,9 +15,10 @@ import glob
 import json
 import os
 import random
-import subprocess
 import sys
 import tempfile
+
+from program import run
 
 AXES = {
     "sourceIPv4Address": ["10.0.0.0/8", "10.1.2.3", "10.0.0.1-10.0.0.9"],
@@ -148,7 +149,7 @@ def traffic(draw, meters):
 
 
 def asked(program, room, command, *files):
-    ran = subprocess.run([program, command, *files], cwd=room, stdin=subprocess.DEVNULL, capture_output=True)
+    ran = run([program, command, *files], room)
     return ran.returncode, ran.stdout
 
 

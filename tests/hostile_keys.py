@@ -13,10 +13,8 @@ import struct
 import sys
 import tempfile
 
-TOP = os.path.dirname(os.path.dirname(os.path.abspath(__file__)))
-sys.path.insert(0, os.path.join(TOP, "bench"))
-
-import run
+from program import timed
+from sample_networks import TRAFFIC, network
 
 # The prefixes of 64 bits: that one, and one for documents (RFC 3849).
 PREFIXES = {"chosen": 0x9E37_79B9_7F4A_7C15, "other": 0x2001_0DB8_0000_0000}
@@ -34,15 +32,15 @@ def write_capture(path, prefix, flows):
 
 
 def write_documents(folder, most):
-    network = json.dumps(run.network(most)).replace("sourceIPv4Address", "sourceIPv6Address")
-    for name, text in (("network.json", network), ("traffic.json", json.dumps(run.TRAFFIC)), ("schedule", "")):
+    document = json.dumps(network(most)).replace("sourceIPv4Address", "sourceIPv6Address")
+    for name, text in (("network.json", document), ("traffic.json", json.dumps(TRAFFIC)), ("schedule", "")):
         with open(os.path.join(folder, name), "w") as file:
             file.write(text)
 
 
 def least(program, words, folder):
     """The least processor time of three runs."""
-    return min(run.processor_time([program, *words], folder)[0] for _ in range(3))
+    return min(timed([program, *words], folder)[0] for _ in range(3))
 
 
 def compare(program, name, words_of, folder):

@@ -25,10 +25,10 @@ by the RFCs.
 """
 import ipaddress
 import os
-import subprocess
 import sys
 import tempfile
 
+from program import NOWHERE, succeed
 import scapy
 from scapy.all import ARP, IP, TCP, UDP, Dot1AD, Dot1Q, Ether, ICMP, Padding, RawPcapWriter
 from scapy.contrib.igmp import IGMP
@@ -284,7 +284,7 @@ OTHER, MALFORMED = "Other", "Malformed"
 
 
 def output(words):
-    return subprocess.run(words, stdout=subprocess.PIPE, stderr=subprocess.DEVNULL, text=True, check=True).stdout
+    return succeed(words, stderr=NOWHERE, text=True).stdout
 
 
 def told_of(capture):

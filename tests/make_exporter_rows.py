@@ -24,9 +24,10 @@ import os
 import random
 import socket
 import struct
-import subprocess
 import sys
 import tempfile
+
+from program import NOWHERE, start
 
 HERE = os.path.dirname(os.path.abspath(__file__))
 ROWS = {"pmacctd": {"stream-of-pmacctd": 4, "stream-of-pmacctd-by-addresses-of-ipv6": 6},
@@ -208,7 +209,7 @@ def sent(exporter, capture):
         receiver.bind(("127.0.0.1", 0))
         receiver.settimeout(1)
         words = words_of(exporter, capture, receiver.getsockname()[1], work)
-        run, quiet = subprocess.Popen(words, stdout=subprocess.DEVNULL, stderr=subprocess.DEVNULL), 0
+        run, quiet = start(words, stdout=NOWHERE, stderr=NOWHERE), 0
         while quiet < QUIET and (run.poll() is None or quiet < 1):
             try:
                 messages.append(receiver.recv(65535))

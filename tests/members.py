@@ -10,11 +10,11 @@ Prints a line for each object that isn't told so, and last `N passed, M failed`.
 import copy
 import json
 import os
-import subprocess
 import sys
 import tempfile
 
-from verdict import told
+from program import run
+from verdict import report_named
 
 TOP = os.path.dirname(os.path.dirname(os.path.abspath(__file__)))
 STRANGE = "zzzzzzzz"
@@ -80,11 +80,11 @@ def allowed(program, folder, documents):
         files.append(os.path.join(folder, name))
         with open(files[-1], "w", encoding="utf-8") as file:
             json.dump(value, file)
-    run = subprocess.run([program, "lint", *files, "--words"], stdout=subprocess.PIPE, text=True, timeout=60)
-    for line in run.stdout.splitlines():
+    ran = run([program, "lint", *files, "--words"], text=True)
+    for line in ran.stdout.splitlines():
         if line.startswith(BEGIN):
             return [name for name in line[len(BEGIN) :].split(", ") if name != "none"]
-    return run.stdout[:300]
+    return ran.stdout[:300]
 
 
 def cases(program, folder, kind):
@@ -112,4 +112,4 @@ if __name__ == "__main__":
         sys.exit(__doc__)
     with tempfile.TemporaryDirectory() as folder:
         program = os.path.abspath(sys.argv[1])
-        sys.exit(told(case for kind in ("network", "traffic") for case in cases(program, folder, kind)))
+        sys.exit(report_named(case for kind in ("network", "traffic") for case in cases(program, folder, kind)))

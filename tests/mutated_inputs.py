@@ -17,9 +17,10 @@ import os
 import random
 import re
 import shutil
-import subprocess
 import sys
 import tempfile
+
+from program import DidNotEnd, run
 
 HERE = os.path.dirname(os.path.abspath(__file__))
 ROWS = os.path.join(HERE, "rows")
@@ -144,7 +145,7 @@ def mutated(chance, octets):
 
 def run_in(space, program, words, given, folder, seconds):
     limited = ["prlimit", "--as=%d" % space, program, *words]
-    return subprocess.run(limited, input=given, capture_output=True, cwd=folder, timeout=seconds)
+    return run(limited, folder, given, seconds)
 
 
 def try_one(program, seed, given):
@@ -162,7 +163,7 @@ def try_one(program, seed, given):
         if run.returncode == 4:
             longest = run_in(MORE_SPACE, program, words, files.get("stdin", b""), folder, seconds)
             run = longest if longest.stdout.count(b"\n") > MANY_STEPS else run
-    except subprocess.TimeoutExpired:
+    except DidNotEnd:
         return None, "%s %s: no end within %.1f s" % (folder, words, seconds)
     form = PRINTED.get(run.returncode)
     if form is None or not form.fullmatch(run.stdout) or run.stderr:

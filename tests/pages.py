@@ -7,9 +7,10 @@ without `$ ` are of a network of the reader's. Prints a line for each that diffe
 """
 import os
 import re
-import subprocess
 import sys
 import tempfile
+
+from program import WITH_OUTPUT, run
 
 TOP = os.path.dirname(os.path.dirname(os.path.abspath(__file__)))
 PAGES = ["README.md", "docs/GUIDE.md", "tools/README.md"]
@@ -55,13 +56,12 @@ def main(program):
                 text = file.read()
             for session in sessions(text):
                 script = "".join("%s\nprintf '\\0'\n" % command for command, _ in session).replace("/tmp/", made + "/tmp/")
-                run = subprocess.run(
-                    ["bash", "-c", script], cwd=TOP, stdout=subprocess.PIPE, stderr=subprocess.STDOUT, text=True,
-                    env={**os.environ, "PATH": made + ":" + os.environ["PATH"]})
-                for (command, wanted), found in zip(session, run.stdout.split("\0")):
+                environment = {**os.environ, "PATH": made + ":" + os.environ["PATH"]}
+                ran = run(["bash", "-c", script], TOP, seconds=600, stderr=WITH_OUTPUT, text=True, env=environment)
+                for (command, wanted), found in zip(session, ran.stdout.split("\0")):
                     passed, failed = passed + (found == wanted), failed + (found != wanted)
                     if found != wanted:
-                        print("%s: %s: printed %r in place of %r" % (page, command, found, wanted))
+                        print("%s: %s: printed %r instead of %r" % (page, command, found, wanted))
     print("pages: %d passed, %d failed" % (passed, failed))
     return 1 if failed else 0
 

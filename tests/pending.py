@@ -15,7 +15,6 @@ import re
 import sys
 
 sys.dont_write_bytecode = True
-sys.path.insert(0, os.path.dirname(os.path.realpath(__file__)))
 import mutants
 from kit import load_rt
 

@@ -12,15 +12,15 @@ import json
 import os
 import re
 import signal
-import subprocess
 import sys
 import tempfile
 import time
 
+from program import NOWHERE, PIPE, start
+from sample_networks import FILTERS, metered, paths
+from verdict import report_named
+
 TESTS = os.path.dirname(os.path.abspath(__file__))
-sys.path.insert(0, os.path.join(os.path.dirname(TESTS), "bench"))
-from audit import FILTERS, metered, paths
-from verdict import told
 
 PATHS = 1_996
 PAUSE = 1.2
@@ -33,24 +33,24 @@ def octets_of(*names):
         return file.read()
 
 
-def piped(words, octets, errors=subprocess.PIPE):
+def piped(words, octets, errors=PIPE):
     """What a run prints whose standard input comes in three pieces, with its status."""
-    start = time.monotonic()
-    run = subprocess.Popen(words, stdin=subprocess.PIPE, stdout=subprocess.PIPE, stderr=errors)
+    began = time.monotonic()
+    run = start(words, stdin=PIPE, stderr=errors)
     third = len(octets) // 3
     for piece in (octets[:third], octets[third:2 * third], octets[2 * third:]):
         run.stdin.write(piece)
         run.stdin.flush()
         time.sleep(PAUSE)
     said, told = run.communicate(timeout=60)
-    return said, told or b"", run.returncode, time.monotonic() - start
+    return said, told or b"", run.returncode, time.monotonic() - began
 
 
-def stopped(words, errors=subprocess.PIPE):
+def stopped(words, errors=PIPE):
     """What a run prints that is stopped several times, a moment after it began or went on, with its status."""
-    start = time.monotonic()
+    began = time.monotonic()
     with tempfile.TemporaryFile() as answer:
-        run = subprocess.Popen(words, stdin=subprocess.DEVNULL, stdout=answer, stderr=errors)
+        run = start(words, stdin=NOWHERE, stdout=answer, stderr=errors)
         for _ in range(STOPS):
             time.sleep(MOMENT)
             run.send_signal(signal.SIGSTOP)
@@ -58,7 +58,7 @@ def stopped(words, errors=subprocess.PIPE):
             run.send_signal(signal.SIGCONT)
         _, told = run.communicate(timeout=120)
         answer.seek(0)
-        return answer.read(), told or b"", run.returncode, time.monotonic() - start
+        return answer.read(), told or b"", run.returncode, time.monotonic() - began
 
 
 def line_faults(told, form, most, seconds):
@@ -96,12 +96,12 @@ def cases(program, folder):
     row = os.path.join(TESTS, "rows", "run-over-the-capture-of-pmacctd", "")
     capture = octets_of("run-over-the-capture-of-pmacctd", "capture.pcap")
     yield "run", faults(
-        lambda words, errors=subprocess.PIPE: piped(words, capture, errors),
+        lambda words, errors=PIPE: piped(words, capture, errors),
         [program, "run", row + "network.json", row + "traffic.json", "/dev/stdin", row + "schedule"],
         r"once: (\d+) octets of /dev/stdin read", len(capture))
     stream = octets_of("stream-of-pmacctd", "stream.ipfix")
     yield "collect", faults(
-        lambda words, errors=subprocess.PIPE: piped(words, stream, errors),
+        lambda words, errors=PIPE: piped(words, stream, errors),
         [program, "collect", os.path.join(TESTS, "rows", "stream-of-pmacctd", "network.json"), "/dev/stdin"],
         r"once: (\d+) octets of /dev/stdin read", len(stream))
     names = os.path.join(folder, "network.json"), os.path.join(folder, "traffic.json")
@@ -115,7 +115,7 @@ def cases(program, folder):
 
 def main(program):
     with tempfile.TemporaryDirectory() as folder:
-        return told(cases(os.path.abspath(program), folder))
+        return report_named(cases(os.path.abspath(program), folder))
 
 
 if __name__ == "__main__":

@@ -11,11 +11,11 @@ Prints a line for each run and ends with 1 where one fails.
 import os
 import re
 import shutil
-import subprocess
 import sys
 import tempfile
 
 from long_certificates import ROW, write_certificate
+from program import run, succeed
 
 HERE = os.path.dirname(os.path.abspath(__file__))
 ROWS = os.path.dirname(ROW)
@@ -54,7 +54,7 @@ class Shim:
         self.program, self.name, self.tells = program, name, tells
         self.library, self.told = os.path.join(folder, name + ".so"), os.path.join(folder, name + ".txt")
         source = os.path.join(HERE, name + ".c")
-        subprocess.run(["cc", "-O2", "-Wall", "-shared", "-fPIC", "-o", self.library, source], check=True)
+        succeed(["cc", "-O2", "-Wall", "-shared", "-fPIC", "-o", self.library, source])
 
     def run(self, words, given=b"", folder=None, **asked):
         """What is printed, the status, and the numbers that the library tells; what is asked of it are its variables."""
@@ -62,7 +62,7 @@ class Shim:
         how = {**os.environ, **asked, "LD_PRELOAD": self.library, self.tells: self.told}
         if os.path.exists(self.told):
             os.remove(self.told)
-        done = subprocess.run([self.program] + words, input=given, capture_output=True, cwd=folder, env=how, timeout=120)
+        done = run([self.program] + words, folder, given, env=how)
         try:
             with open(self.told) as file:
                 told = list(map(int, file.read().split()))

@@ -40,6 +40,8 @@ STEPS = [
     of_texts("crates"),
     of_texts("callers"),
     of_texts("refusals", "--compare"),
+    of_texts("english"),
+    of_texts("lint", needs=("python3-pyflakes",), module="pyflakes"),
     Step("unit tests", ("-m", "pytest", "-q", "-p", "no:cacheprovider", "tests/unit"), ("python3-pytest",), False, False, "pytest", False),
     Step("importers", ("make", "--no-print-directory", "run-tools"), IMPORTERS, True),
     script("schemas", PROGRAM, needs=("python3-jsonschema",), module="jsonschema"),

@@ -12,12 +12,12 @@ import glob
 import json
 import os
 import shutil
-import subprocess
 import sys
 import tempfile
 
 from schema_cases import reading
-from verdict import not_run, told_each
+from program import WITH_OUTPUT, run
+from verdict import not_run, report_each
 
 TOP = os.path.dirname(os.path.dirname(os.path.abspath(__file__)))
 MODULE = os.path.join(TOP, "docs", "schemas", "once-audit.yang")
@@ -49,9 +49,8 @@ def lint(*words):
     folders = []
     for folder in filter(None, os.environ.get("YANG_MODPATH", TRANSCRIBED).split(":")):
         folders += ["-p", folder]
-    how = {"stdout": subprocess.PIPE, "stderr": subprocess.STDOUT, "text": True, "timeout": 60}
-    run = subprocess.run(["yanglint", *folders, *FEATURES, MODULE, *words], **how)
-    return run.returncode, run.stdout
+    ran = run(["yanglint", *folders, *FEATURES, MODULE, *words], stderr=WITH_OUTPUT, text=True)
+    return ran.returncode, ran.stdout
 
 
 def data_of(network, traffic):
@@ -104,7 +103,7 @@ def main():
         not_run("docs/schemas/once-audit.yang", "there is no yanglint (Debian's package libyang-tools)")
         print("0 passed, 0 failed")
         return 0
-    return told_each(faults())
+    return report_each(faults())
 
 
 if __name__ == "__main__":
