@@ -21,11 +21,13 @@ PAGES = ("README.md", "CONTRIBUTING.md", "docs/*.md", "tests/README.md")
 # Pages that are checked for phrases, and whose words do not count: they grow with each version.
 UNCOUNTED = ("CHANGELOG.md", "SECURITY.md")
 TOTAL = 30_000
+# Pages whose tables are written from what was measured: they have a limit of their own, and are not in the total.
+MEASURED = {"docs/LAB.md": 3_000}
 # The most words of a page, and of any other page.
 LIMITS = {
-    "README.md": 900, "CONTRIBUTING.md": 2_300, "docs/ARCHITECTURE.md": 2_200, "docs/BELIEVE.md": 2_700, "docs/DECISIONS.md": 2_800,
-    "docs/FORMATS.md": 3_000, "docs/GATE.md": 1_700, "docs/GLOSSARY.md": 2_400, "docs/GUIDE.md": 3_600, "docs/PROVED.md": 3_200,
-    "docs/REFUSALS.md": 5_600, "docs/SCALE.md": 900, "docs/SPEED.md": 600, "tests/README.md": 1_400,
+    "README.md": 700, "CONTRIBUTING.md": 2_100, "docs/ARCHITECTURE.md": 2_200, "docs/BELIEVE.md": 2_600, "docs/DECISIONS.md": 2_900,
+    "docs/FORMATS.md": 2_900, "docs/GATE.md": 1_800, "docs/GLOSSARY.md": 2_300, "docs/GUIDE.md": 3_300, "docs/PROVED.md": 3_300,
+    "docs/REFUSALS.md": 5_500, "docs/SCALE.md": 900, "docs/SPEED.md": 600, "tests/README.md": 1_400,
 }
 OTHER_LIMIT = 1_500
 # Pages whose sentences are written elsewhere, and sections that are: they are counted, and not checked for phrases.
@@ -105,11 +107,11 @@ def faults(folder):
     counted, others = read(folder, PAGES), read(folder, UNCOUNTED)
     for page, text in {**counted, **others}.items():
         wrong = [] if page in ELSEWHERE else [*phrases(page, text)]
-        limit = LIMITS.get(page, OTHER_LIMIT)
+        limit = {**LIMITS, **MEASURED}.get(page, OTHER_LIMIT)
         if page in counted and words(text) > limit:
             wrong.append(f"{page}: {words(text)} words, {limit} at most: shorten it, or link to the page that has the fact")
         yield wrong
-    total = sum(words(text) for text in counted.values())
+    total = sum(words(text) for page, text in counted.items() if page not in MEASURED)
     yield [f"the pages have {total} words, {TOTAL} at most"] if total > TOTAL else []
 
 
@@ -120,7 +122,8 @@ def main(arguments):
     given = parser.parse_args(arguments)
     if given.counts:
         counts = {page: words(text) for page, text in read(given.folder, PAGES).items()}
-        print("\n".join(f"{page}: {count}" for page, count in counts.items()), f"\nall: {sum(counts.values())}")
+        print("\n".join(f"{page}: {count}" for page, count in counts.items()))
+        print(f"all: {sum(count for page, count in counts.items() if page not in MEASURED)}")
         return 0
     for page, why in ELSEWHERE.items():
         not_run(f"phrases of {page}", why)
