@@ -1,13 +1,13 @@
 #!/usr/bin/env python3
-"""Compares which texts the program reads as addresses of IPv6, and as which, with Python's `ipaddress`.
+"""Compares which texts the program reads as IPv6 addresses, and as which, with Python's `ipaddress`.
 
 usage: addresses.py PROGRAM [--spellings N] [--seed S]
 
-Addresses are drawn at random and spelled in many ways: digits of either case, leading zeros, `::` in place of any groups
-of zeros, a dotted quad at the end. A traffic document has a class for each, whose region is that spelling, and a run has
-a packet for each, in the written form of what `ipaddress` reads: the program is to find every packet in its class, and
-each other packet in none. Then spellings are changed at a character: those that `ipaddress` still reads are asked in the
-same way, and each of the others is to be refused with 302. The last line is `N passed, N failed`.
+Addresses are drawn at random and spelled in many ways: digits of either case, leading zeros, `::` instead of any groups of zeros, a
+dotted quad at the end. A traffic document has a class for each, whose region is that spelling, and a run has a packet for each,
+in the written form of what `ipaddress` reads: the program must find every packet in its class, and every other packet in none. Then
+spellings are changed at a character: those that `ipaddress` still reads are tried in the same way, and each of the others
+must be refused with 302. The last line is `N passed, N failed`.
 """
 import argparse
 import ipaddress

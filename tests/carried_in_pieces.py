@@ -1,11 +1,11 @@
 #!/usr/bin/env python3
 """carried_in_pieces.py PROGRAM: carries what is on a link in two pieces, cut at each octet.
 
-In each network below, once its capture is read and its caches are emptied by lines of a schedule, all octets of the first
-link are carried in two pieces, wherever they are cut: the totals and the octets of the first link must be those of a
-schedule that doesn't carry them. A piece of one octet more than there are must be refused with 802 at its line.
+In each network below, once its capture has been read and its caches have been emptied by lines of a schedule, all octets of the first
+link are carried in two pieces, cut anywhere: the totals and the octets of the first link must be those of a schedule that
+doesn't carry them. A piece of one octet more than there are must be refused with 802 at its line.
 
-Prints `N runs, M failed`; the exit status is 1 where one failed.
+Prints `N runs, M failed`; the exit status is 1 if one failed.
 """
 import os
 import shutil

@@ -1,11 +1,10 @@
 #!/usr/bin/env python3
 """drawings.py PROGRAM [GRAPHVIZ]: reads what `once draw` prints, and compares the graph with the documents.
 
-For the networks of the rows and the examples that `once lint` takes, alone and with their traffic, and for some that have
-names which DOT would take for its own signs: the boxes and what stands in them, and the edges, must be those that the
-JSON tells, read here by itself. With certificates and refutations, the marked edges must be those that their lines name.
-Where Graphviz's `dot` is there (or what stands in its place), it must take the drawings of the examples. One line a fault; the last line is
-`N passed, N failed`.
+For the networks of the rows and the examples that `once lint` accepts, alone and with their traffic, and for some with names that DOT
+would take for its own signs: the boxes and their contents, and the edges, must be those of the JSON, which is read here independently.
+With certificates and refutations, the marked edges must be those that their lines name. If Graphviz's `dot` is installed (or
+GRAPHVIZ), it must accept the drawings of the examples. Prints a line for each fault; the last line is `N passed, N failed`.
 """
 import glob
 import json
@@ -147,7 +146,7 @@ def unlike(graph, network):
         if node.startswith("collector"):
             is_report = (boxes[inside], lines[0]) == (shown(report["device"]), shown(report["collectingProcess"]))
             if ("report" in lines[1:]) != is_report:
-                yield f"{node}: told as the report or not"
+                yield f"{node}: the report or not"
 
 
 def leaves(certificate):

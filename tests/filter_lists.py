@@ -3,8 +3,8 @@
 
 Each filter of each meter selects another network of 256 addresses, and together they are the packets of the class, so each leaf of a
 certificate has one filter and there are as many leaves as filters. `audit` must print a certificate with one split fewer than
-leaves, none of them deeper than 2 log2 of the number of filters, plus 2, in whatever order the filters stand; each leaf must name
-the filter of its network; and `check` must say yes. One filter less, and `audit` must print a refutation that `confirm` confirms.
+leaves, none of them deeper than 2 log2 of the number of filters, plus 2, in whatever order the filters come; each leaf must name
+the filter of its network; and `check` must say yes. With one filter less, `audit` must print a refutation that `confirm` confirms.
 
 Prints a line for each that fails, and last `N passed, M failed`; the exit status is 1 if one failed. It takes some seconds.
 """

@@ -1,11 +1,11 @@
 #!/usr/bin/env python3
 """full_files.py PROGRAM: runs the program with files that become full at each of their octets.
 
-Of each row that puts octets on links, no file may have more than 0 octets, then no more than 1, and so on until all are
-whole (a limit of the system, RLIMIT_FSIZE: the write that comes to it writes what still fits, the next one fails, as on a
-full disk). Each run must print `device 902` alone and end with status 5, but the last, which prints what the row does; a
-link's file holds the beginning of what it should. The same with the answer on a file: the run must end with status 5, and
-the file has the beginning of the answer, or of `device 902`. Prints a line for each row and ends with 1 where one fails.
+Of each row that puts octets on links, no file may have more than 0 octets, then no more than 1, and so on until all are complete (a limit of
+the system, RLIMIT_FSIZE: the write that reaches it writes what still fits, the next one fails, as on a full disk). Each run
+must print `device 902` alone and end with status 5, except the last, which prints what the row does; a link's file holds the beginning
+of what it should. The same with the answer in a file: the run must end with status 5, and the file has the beginning of the
+answer, or of `device 902`. Prints a line for each row and ends with 1 if one fails.
 """
 import os
 import re

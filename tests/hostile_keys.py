@@ -1,11 +1,11 @@
 #!/usr/bin/env python3
 """hostile_keys.py PROGRAM [FLOWS]: keys that were chosen to be slow to find, metered and collected by the program.
 
-A hash with a fixed seed can be made to collide by whoever knows it: the one of the library of maps is the same for all
-addresses of IPv6 in one prefix. A capture has so many packets (20,000 where none is said), each of a flow of its own with
-a source there, another as many with sources elsewhere. Both are metered by a cache without a bound and by one with a
-bound, and what that puts on its link is collected. The least processor time of three runs over the first must be at most
-2.5 times that over the second. Prints a line for each and ends with 1 where one fails.
+A hash with a fixed seed can be made to collide by anyone who knows it: the one of the library of maps is the same for all IPv6 addresses
+in one prefix. A capture has FLOWS packets (20,000 by default), each of a flow of its own with a source there, another as many
+with sources elsewhere. Both are metered by an unbounded and by a bounded cache, and what that puts on its link is collected. The
+minimum CPU time of three runs over the first must be at most 2.5 times that over the second. Prints a line for each and ends
+with 1 if one fails.
 """
 import json
 import os

@@ -1,9 +1,9 @@
 #!/usr/bin/env python3
 """hostile_streams.py PROGRAM: streams that are made to cost time or memory, collected by the program.
 
-Each is collected as it is and twice as long, in 64 MiB of address space; both answers must be right, and the least
-processor time of five runs of the second at most 2.5 times that of the first. A stream whose templates don't
-fit must be answered 900. Prints a line for each and ends with 1 where one fails.
+Each is collected as it is and twice as long, in 64 MiB of address space; both answers must be right, and the minimum CPU time of
+five runs of the second at most 2.5 times that of the first. A stream whose templates don't fit must be answered 900. Prints a
+line for each and ends with 1 if one fails.
 """
 import os
 import random

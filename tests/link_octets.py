@@ -1,14 +1,13 @@
 #!/usr/bin/env python3
 """link_octets.py PROGRAM: has other programs read what `run` puts on links.
 
-Runs the program over captures in some networks, and has each link's octets read by tshark (as datagrams of a capture
-that is made for it), by ipfixDump (as an IPFIX file, RFC 5655) and by nfcapd (as datagrams over the loopback), of
-Debian's packages tshark, libfixbuf-tools and nfdump; where one isn't there, says so and goes without it. All must read
-the same records, nfcapd with no gap in the sequence numbers, and `collect` the same sums as they. nfcapd knows no
-prefixes: of records by prefix it reads the counts alone. On a link that carries each packet of the capture once the sums
-must be those of its packets, and at the report's the totals those that `run` prints.
+Runs the program over captures in some networks, and has each link's octets read by tshark (as datagrams of a capture that is made
+for it), by ipfixDump (as an IPFIX file, RFC 5655) and by nfcapd (as datagrams over the loopback), of Debian's packages tshark,
+libfixbuf-tools and nfdump; one that is missing is listed as not run. All must read the same records, nfcapd with no gap in the sequence
+numbers, and `collect` the same sums as they. nfcapd knows no prefixes: of records by prefix it reads only the counts. On a link
+that carries each packet of the capture once the sums must be those of its packets, and at the report the totals that `run` prints.
 
-Prints `N links, M failed`; the exit status is 1 where one failed.
+Prints `N links, M failed`; the exit status is 1 if one failed.
 """
 import ipaddress
 import itertools
@@ -169,7 +168,7 @@ def faults(program, folder, schedule, readers):
             yield "%s: `collect` prints %r, and `run` %r" % (link, collected, run.stdout.decode())
         elif link == links[-1] and any(
                 lines_of(records) != totals_in(collected) for records in read.values() if has_keys(records)):
-            yield "%s: the sums are %r in place of %r" % (link, read, collected)
+            yield "%s: the sums are %r instead of %r" % (link, read, collected)
         else:
             yield None
 

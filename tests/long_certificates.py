@@ -3,8 +3,8 @@
 
 Each is one tree, whose splits halve the sources of 10.0.0.0/8, made in a temporary folder, for the documents of the row
 certificate-of-one-leaf: with 499,999 splits it has the 1,000,000 split and leaf lines that a certificate may have, with
-500,000 splits one more. Prints a line for each that is answered otherwise, and last `N passed, M failed`; the exit
-status is 1 where one was.
+500,000 splits one more. Prints a line for each that is answered otherwise, and last `N passed, M failed`; the exit status is 1 if
+one was.
 """
 import os
 import sys

@@ -1,11 +1,11 @@
 #!/usr/bin/env python3
 """long_runs.py PROGRAM [FRAMES]: runs over captures that come through a pipe, and runs that are broken off.
 
-First a capture of so many frames (50,000,000 where none are given) of 10,000 flows through a pipe, in 32 MiB of address
-space: the totals must be the sums. Then runs of a million frames that don't come to their end: ended by SIGTERM in the
-middle; with standard output closed before the answer; with links on a disk that is full (/dev/full); with a pipe that
-ends in the middle of a record. None of them may leave anything on standard output that looks like an answer, and what is
-answered must be its refusal. Prints a line for each and ends with 1 where one fails.
+First a capture of FRAMES frames (50,000,000 by default) of 10,000 flows through a pipe, in 32 MiB of address space: the totals must be
+the sums. Then runs of a million frames that don't reach their end: ended by SIGTERM in the middle; with standard output closed
+before the answer; with links on a disk that is full (/dev/full); with a pipe that ends in the middle of a record. None of them may
+leave anything on standard output that looks like an answer, and what is answered must be its refusal. Prints a line for each and
+ends with 1 if one fails.
 """
 import json
 import os

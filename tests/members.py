@@ -1,11 +1,11 @@
 #!/usr/bin/env python3
-"""members.py PROGRAM: whether `lint --words` names, for each object, the members that the schemas of docs/schemas allow.
+"""members.py PROGRAM: checks that `lint --words` names, for each object, the members that the schemas of docs/schemas allow.
 
-Each object of the documents of `schema_cases` gets a member more, of a name that is near none. Behind `refused 102` must
-stand those members that the object's schema names and the object doesn't have, but for those that are refused with a
-number of their own, whose schema is `"not": {}`, and those of a choice (`oneOf`) of which the object has another.
+Each object of the documents of `schema_cases` gets one more member, with a name that is near none. After `refused 102` the program must name
+those members that the object's schema has and the object doesn't, except those that are refused with a number of their own, whose
+schema is `"not": {}`, and those of a choice (`oneOf`) of which the object has another.
 
-Prints a line for each object that isn't told so, and last `N passed, M failed`. The exit status is 1 where one failed.
+Prints a line for each object with other names, and last `N passed, M failed`. The exit status is 1 if one failed.
 """
 import copy
 import json
@@ -104,7 +104,7 @@ def cases(program, folder, kind):
         wanted = [name for name in names if name not in there and not (made and name in choice)]
         where = "/".join(map(str, ("",) + place))
         wrong = not isinstance(found, list) or sorted(found) != sorted(wanted)
-        yield "%s %s" % (kind, where), ["names %r in place of %r" % (found, wanted)] if wrong else []
+        yield "%s %s" % (kind, where), ["names %r instead of %r" % (found, wanted)] if wrong else []
 
 
 if __name__ == "__main__":

@@ -1,14 +1,14 @@
 #!/usr/bin/env python3
 """mutated_inputs.py PROGRAM [--each N] [--seed N] [--jobs N] [KIND..]: runs the program over inputs that were changed.
 
-Takes the rows of `rows/`, and in each of N runs of a kind changes one file of a row (N is 200 where none is given): some
-octets become others, go, come, or come twice, numbers become others, lines or pieces change places, or it is cut. Kinds
-are network, traffic, certificate, refutation, run, capture, schedule, stream and bundle. Each run must end by itself,
-within ten seconds and a microsecond for each octet, in 64 MiB of address space, with a status of the table and what is
-printed with it: 0 an answer, 1 `no N PLACE` or a refutation, 2 `refused N PLACE`, 3 `unknown 601`, and nothing on
-standard error. Devices (5) don't fail here, and the words parse (no 6). Memory (4) fails only where an audit comes to a
-refutation of more than 500,000 steps, which has 1,000,000 at most: it must be written in 96 MiB. Prints each run that
-doesn't, and keeps its files in a folder that it names; last a line for each kind with how many runs ended with each status.
+Takes the rows of `rows/`, and in each of N runs of a kind (200 by default) changes one file of a row: some octets become others, go, come, or come
+twice, numbers become others, lines or pieces change places, or it is cut. Kinds are network, traffic, certificate, refutation, run,
+capture, schedule, stream and bundle. Each run must end by itself, within ten seconds and a microsecond for each octet, in
+64 MiB of address space, with a status of the table and what is printed with it: 0 an answer, 1 `no N PLACE` or a refutation,
+2 `refused N PLACE`, 3 `unknown 601`, and nothing on standard error. Devices (5) don't fail here, and the arguments parse (no 6). Memory (4)
+fails only if an audit comes to a refutation of more than 500,000 steps, which has 1,000,000 at most: it must be written in
+96 MiB. Prints each run that doesn't, and keeps its files in a folder that it names; last a line for each kind with how many runs
+ended with each status.
 """
 import argparse
 import collections

@@ -1,9 +1,9 @@
 #!/usr/bin/env python3
-"""pages.py PROGRAM: runs the command lines of pages for users as they are written, and compares what they print.
+"""pages.py PROGRAM: runs the commands of pages for users as they are written, and compares what they print.
 
-Blocks that are set in by four spaces and begin with `$ ` are run, those of one heading in one session from the top of
-the repository: each line behind `$ `, with PROGRAM as `once` and tools/once-import, and what it prints must be the lines that follow. Blocks
-without `$ ` are of a network of the reader's. Prints a line for each that differs, and last how many passed.
+Blocks that are indented by four spaces and begin with `$ ` are run, those of one heading in one session from the top of the
+repository: each line after `$ `, with PROGRAM as `once` and tools/once-import; what it prints must be the lines that follow. Blocks
+without `$ ` are about a network of the reader's. Prints a line for each that differs, and last how many passed.
 """
 import os
 import re

@@ -1,12 +1,11 @@
 #!/usr/bin/env python3
-"""progress.py PROGRAM: has `run`, `collect` and `audit` tell how far they have come.
+"""progress.py PROGRAM: checks that `run`, `collect` and `audit` report their progress.
 
-The capture and the stream of two rows come through a pipe, with a second or more between their pieces; the audit is of a
-certificate of nearly as many lines as there may be, and is stopped for a second or more several times, as a fast machine
-may find all lines in less. With `--progress` lines must come on standard error, whose figures rise and end within what there
-is, at most one a second; without it none. The answer must be the same either way, and also where standard error is full.
-Prints a line for each that fails, and last `N passed, M failed`; the exit status is 1 where one did. It takes half a
-minute.
+The capture and the stream of two rows come through a pipe, with a second or more between their pieces; the audit is of a certificate of
+nearly as many lines as there may be, and is stopped for a second or more several times, as a fast machine may find all lines in
+less. With `--progress` lines must come on standard error, whose figures rise and end within what there is, at most one a second;
+without it none. The answer must be the same either way, and also if standard error is full.
+Prints a line for each that fails, and last `N passed, M failed`; the exit status is 1 if one did. It takes half a minute.
 """
 import json
 import os
@@ -66,7 +65,7 @@ def line_faults(told, form, most, seconds):
     lines = told.decode().splitlines()
     figures = [re.fullmatch(form, line) for line in lines]
     if not lines or not all(figures):
-        yield "told %r in %.1f s" % (told[:300], seconds)
+        yield "printed %r in %.1f s" % (told[:300], seconds)
         return
     figures = [int(found[1]) for found in figures]
     if figures != sorted(figures) or figures[-1] > most:
@@ -79,7 +78,7 @@ def faults(call, words, form, most):
     """What is wrong with a call's lines and answers, by its words without the option."""
     plain = call(words)
     if plain[1]:
-        yield "told %r unasked" % plain[1][:200]
+        yield "printed %r unasked" % plain[1][:200]
     if plain[2]:
         yield "answered %r, status %d" % (plain[0][:200], plain[2])
     said, told, status, seconds = call([*words, "--progress"])

@@ -1,21 +1,21 @@
 #!/usr/bin/env python3
 """rows.py PROGRAM [ROW..]: runs the program over the worked rows, each a folder of tests/rows.
 
-  words    the program's words, in one line; the files that they name stand beside it (no file: no words)
+  words    the program's arguments, in one line; the files that they name are beside it (no file: no arguments)
   stdin    what it gets on standard input (no file: nothing)
-  stdout   what it must print, octet for octet (no file: not looked at)
-  told     what stands behind that with `--words`, but for what is said of each refusal of its number (rows_in_words.py)
+  stdout   what it must print, octet for octet (no file: not compared)
+  told     what follows that with `--words`, except what is said of each refusal of its number (rows_in_words.py)
   output   the file that its standard output is, as /dev/full (no file: it is read)
   status   its exit status
-  refutes  stands there where it must print a refutation that `confirm` accepts, over the same documents; with a
-           number: one of so many steps
+  refutes  is there if it must print a refutation that `confirm` accepts, over the same documents; with a number: one of that many
+           steps
   linkN.hex, linkN.len, nolink.N
-           the octets that must stand in the file linkN, how many they must be, or that it must not be there; the
-           program runs in a copy of the folder
+           the octets that must be in the file linkN, how many they must be, or that it must not exist; the program runs in a
+           copy of the folder
   cuts     the name of a file that is cut to each of the lengths of cuts.txt: a line has the length, the exit status and
-           what must be printed, with `\n` for the ends of lines
+           what must be printed, with `\\n` for the ends of lines
 
-Prints a line for each row that fails, and last `N passed, M failed`. The exit status is 1 where a row failed.
+Prints a line for each row that fails, and last `N passed, M failed`. The exit status is 1 if a row failed.
 """
 import contextlib
 import os

@@ -1,11 +1,11 @@
 #!/usr/bin/env python3
-"""rows_in_words.py PROGRAM [ROW..]: runs the worked rows with `--words`, in front of their other words and behind them.
+"""rows_in_words.py PROGRAM [ROW..]: runs the worked rows with `--words`, before their other arguments and after them.
 
-What stands first on standard output must be what the row prints without it, with the row's status, and nothing may
-stand on standard error. Behind a refusal, an answer of no and `unknown 601` must stand what is wrong and what to do; and in
-front of that the lines of the row's file `told`, where it has one.
+Standard output must begin with what the row prints without it, with the row's status, and nothing may be on standard error. A
+refusal, an answer of no and `unknown 601` must be followed by what is wrong and what to do; and before that by the lines of the row's
+file `told`, if it has one.
 
-Prints a line for each row that fails, and last `N passed, M failed`. The exit status is 1 where a row failed.
+Prints a line for each row that fails, and last `N passed, M failed`. The exit status is 1 if a row failed.
 """
 import os
 import re

@@ -1,14 +1,13 @@
 #!/usr/bin/env python3
-"""schemas.py PROGRAM: holds the schemas of docs/schemas against what the program takes and refuses.
+"""schemas.py PROGRAM: compares the schemas of docs/schemas with what the program accepts and refuses.
 
-Of each network and traffic document of tests/rows and examples, and of the cases of tests/schema_cases: what the
-program takes the schema takes. What the program refuses the schema refuses, where the table of docs/schemas/README.md
-says that it sees the number; of a case it refuses what the case says, and the cases hold the table: only such as are
-seen, none, or both where a number is seen in part. Rows tell by what they expect which documents are taken; of the
-others and of the cases `lint` tells.
+Of each network and traffic document of tests/rows and examples, and of the cases of tests/schema_cases: what the program accepts the
+schema accepts. What the program refuses the schema refuses, if the table of docs/schemas/README.md says that it sees the number; of
+a case it refuses what the case says, and the cases check the table: only such as are seen, none, or both if a number is seen in
+part. Rows show by what they expect which documents are accepted; `lint` is asked about the others and about the cases.
 
-It needs Python's `jsonschema`, of version 4 or later; where that isn't there, nothing is held. Prints a line for each fault, and last
-`N passed, M failed`. The exit status is 1 where something failed.
+It needs Python's `jsonschema`, version 4 or later; without it nothing is compared. Prints a line for each fault, and last
+`N passed, M failed`. The exit status is 1 if something failed.
 """
 import concurrent.futures
 import glob

@@ -1,13 +1,13 @@
 #!/usr/bin/env python3
-"""terminal.py PROGRAM: runs the program as a person does who is new to it.
+"""terminal.py PROGRAM: runs the program as a newcomer does.
 
-Without words on a terminal it must print its help and not wait. With words that don't parse it must end with status 6,
-and tell last what to do (`ADVICE`), without the tip that an option is a file's name. With `--words` it must not wait for
-a pipe that it has read to its end, and it must say of a directory that it is one and of standard input that it is closed,
-not write a link's file over one of a run's own. The lines of its help must have at most 100 columns, and it must take what
-stands there as an example: documents, certificate, refutation, run, schedule, totals and the lines for a shell.
+Without arguments on a terminal it must print its help and not wait. With arguments that don't parse it must end with status 6, and
+say last what to do (`ADVICE`), without the tip that an option is a file's name. With `--words` it must not wait for a pipe that it has read
+to its end, and it must say that a directory is one and that standard input is closed, and not write a link's file over one of
+the run's own. The lines of its help must have at most 100 columns, and it must accept the examples there: documents, certificate,
+refutation, run, schedule, totals and the lines for a shell.
 
-Prints a line for each fault, and last `N passed, M failed`. The exit status is 1 where something failed.
+Prints a line for each fault, and last `N passed, M failed`. The exit status is 1 if something failed.
 """
 import json
 import os

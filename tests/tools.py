@@ -1,5 +1,5 @@
 #!/usr/bin/env python3
-"""tools.py PROGRAM: runs `once-import table` and `once-import exporter`, and has the program look at what they write.
+"""tools.py PROGRAM: runs `once-import table` and `once-import exporter`, and has the program read what they write.
 
 Each folder of tests/tools is a case, run in a copy:
 
@@ -11,10 +11,10 @@ Each folder of tests/tools is a case, run in a copy:
                 the documents that it must write as made.json and made-traffic.json (no file: none)
   expects       another case, whose documents these are
 
-Documents are compared as values. Each must be in order for `lint`; an audit of what the tables of tools/examples
-describe must answer with a certificate to which `check` says yes. What a network of pmacctd totals, of the stream that pmacctd
-has sent and of the capture that it was sent for, must be what the rows of tests/rows with that stream want. Prints a
-line for each fault, and last `N passed, M failed`.
+Documents are compared as values. Each must be accepted by `lint`; an audit of what the tables of tools/examples describe must answer
+with a certificate to which `check` says yes. What a network of pmacctd totals, of the stream that pmacctd sent and of the capture that
+it was sent for, must be what the rows of tests/rows with that stream expect. Prints a line for each fault, and last
+`N passed, M failed`.
 """
 import glob
 import json

@@ -1,11 +1,10 @@
 #!/usr/bin/env python3
-"""yang_module.py: has yanglint (Debian's package `libyang-tools`) look at docs/schemas/once-audit.yang.
+"""yang_module.py: has yanglint (Debian's package `libyang-tools`) check docs/schemas/once-audit.yang.
 
-The module itself must be right; the documents of examples must be data of it, the configuration of each of their devices
-must be data of RFC 6728's module with its augmentation, and some documents with a fault must not. What the module imports,
-`ietf-ipfix-psamp` of RFC 6728, is looked for in the folders of the variable YANG_MODPATH, with colons between them. Where that
-variable is not set, tests/yang has a transcription of the nodes that the profile reads. Where there is no yanglint, a line
-`not run:` says so. Prints last `N passed, M failed`.
+The module itself must be right; the documents of examples must be data of it, the configuration of each of their devices must be data of
+RFC 6728's module with its augmentation, and some documents with a fault must not. What the module imports, `ietf-ipfix-psamp` of
+RFC 6728, is looked for in the folders of the variable YANG_MODPATH, with colons between them; if it is not set, tests/yang has a
+transcription of the nodes that the profile reads. Without yanglint, a line `not run:` says so. Prints last `N passed, M failed`.
 """
 import copy
 import glob
