@@ -3,10 +3,10 @@
 
 usage: english.py [--counts] [FOLDER]
 
-FOLDER is the repository. The pages are README.md, CONTRIBUTING.md, CHANGELOG.md, SECURITY.md, docs/*.md and tests/README.md. None may
-have a phrase of PHRASES outside of code, quoted text and links, nor more words than LIMITS says; all together may have TOTAL. Words
-are counted as they stand, without blocks of code: whatever has a letter or a digit between blanks. --counts prints the
-words of each page. A page whose sentences are written elsewhere is not checked for phrases, and listed as not run.
+FOLDER is the repository. No page of PAGES and OTHERS may have a phrase of PHRASES outside of code, quoted text and links. No page of PAGES
+may have more words than LIMITS says, and all together more than TOTAL. A word is what has a letter or a digit between blanks,
+outside of blocks of code. --counts prints the words of each page. A page whose sentences are written elsewhere is not checked for
+phrases, and listed as not run.
 """
 import argparse
 import glob
@@ -18,8 +18,8 @@ from verdict import not_run, report
 
 TOP = os.path.dirname(os.path.dirname(os.path.abspath(__file__)))
 PAGES = ("README.md", "CONTRIBUTING.md", "docs/*.md", "tests/README.md")
-# Pages that are checked for phrases, and whose words do not count: they grow with each version.
-UNCOUNTED = ("CHANGELOG.md", "SECURITY.md")
+# Pages that are checked for phrases, and whose words are not limited.
+OTHERS = ("CHANGELOG.md", "SECURITY.md", "docs/*/README.md", "examples/*/README.md", "tools/README.md")
 TOTAL = 30_000
 # Pages whose tables are written from what was measured: they have a limit of their own, and are not in the total.
 MEASURED = {"docs/LAB.md": 3_000}
@@ -104,7 +104,7 @@ def read(folder, patterns):
 
 def faults(folder):
     """Yields each page with its faults, and last the sum of words with its."""
-    counted, others = read(folder, PAGES), read(folder, UNCOUNTED)
+    counted, others = read(folder, PAGES), read(folder, OTHERS)
     for page, text in {**counted, **others}.items():
         wrong = [] if page in ELSEWHERE else [*phrases(page, text)]
         limit = {**LIMITS, **MEASURED}.get(page, OTHER_LIMIT)
