@@ -32,6 +32,14 @@ def octets_of(*names):
         return file.read()
 
 
+def ended(run, seconds):
+    """Waits for the end of a run, and returns what it printed; one that takes longer is killed."""
+    try:
+        return run.communicate(timeout=seconds)
+    finally:
+        run.kill()
+
+
 def piped(words, octets, errors=PIPE):
     """What a run prints whose standard input comes in three pieces, with its status."""
     began = time.monotonic()
@@ -41,8 +49,8 @@ def piped(words, octets, errors=PIPE):
         run.stdin.write(piece)
         run.stdin.flush()
         time.sleep(PAUSE)
-    said, told = run.communicate(timeout=60)
-    return said, told or b"", run.returncode, time.monotonic() - began
+    said, reported = ended(run, 60)
+    return said, reported or b"", run.returncode, time.monotonic() - began
 
 
 def stopped(words, errors=PIPE):
@@ -55,17 +63,17 @@ def stopped(words, errors=PIPE):
             run.send_signal(signal.SIGSTOP)
             time.sleep(PAUSE)
             run.send_signal(signal.SIGCONT)
-        _, told = run.communicate(timeout=120)
+        _, reported = ended(run, 120)
         answer.seek(0)
-        return answer.read(), told or b"", run.returncode, time.monotonic() - began
+        return answer.read(), reported or b"", run.returncode, time.monotonic() - began
 
 
-def line_faults(told, form, most, seconds):
-    """What is wrong with the lines that were told."""
-    lines = told.decode().splitlines()
+def line_faults(reported, form, most, seconds):
+    """Yields what is wrong with the lines that were reported."""
+    lines = reported.decode().splitlines()
     figures = [re.fullmatch(form, line) for line in lines]
     if not lines or not all(figures):
-        yield "printed %r in %.1f s" % (told[:300], seconds)
+        yield "printed %r in %.1f s" % (reported[:300], seconds)
         return
     figures = [int(found[1]) for found in figures]
     if figures != sorted(figures) or figures[-1] > most:
@@ -81,8 +89,8 @@ def faults(call, words, form, most):
         yield "printed %r unasked" % plain[1][:200]
     if plain[2]:
         yield "answered %r, status %d" % (plain[0][:200], plain[2])
-    said, told, status, seconds = call([*words, "--progress"])
-    yield from line_faults(told, form, most, seconds)
+    said, reported, status, seconds = call([*words, "--progress"])
+    yield from line_faults(reported, form, most, seconds)
     if (said, status) != (plain[0], plain[2]):
         yield "answered otherwise"
     with open("/dev/full", "wb") as full:
