@@ -65,7 +65,7 @@ QUOTED = (r"`[^`]*`", r"\"[^\"\n]*\"", r"\]\([^)]*\)")
 
 
 def without(text, patterns):
-    """Returns a text with blanks in place of what patterns match, so that lines keep their numbers."""
+    """Returns a text with what patterns match blanked out, so that lines keep their numbers."""
     for pattern in patterns:
         text = re.sub(pattern, lambda match: re.sub(r"[^\n]", " ", match[0]), text)
     return text
