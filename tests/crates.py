@@ -102,7 +102,8 @@ def rows_of(page):
     """Returns the crates of the table in tests/README.md, each with its files: (crate, module)."""
     rows = {}
     for crate, cell in re.findall(r"^\| `(fx_\w+)` \| (`fx_\w+`: .*) \|$", page, re.M):
-        rows[crate] = [(where, name) for where, names in re.findall(r"`(fx_\w+)`: ((?:`\w+`(?:, )?)+)", cell) for name in re.findall(r"`(\w+)`", names)]
+        lists = re.findall(r"`(fx_\w+)`: ((?:`\w+`(?:, )?)+)", cell)
+        rows[crate] = [(where, name) for where, names in lists for name in re.findall(r"`(\w+)`", names)]
     return rows
 
 
@@ -149,7 +150,8 @@ def main(arguments):
     with open(f"{TOP}/tests/README.md", encoding="utf-8") as file:
         page = file.read()
     faults = [*wrong_groups(found, GROUPS), *wrong_rows(found, GROUPS, page)]
-    faults += [f"crates.txt: {'missing' if line in text.split(chr(10)) else 'wrong'}: {line}" for line in sorted(set(text.split("\n")) ^ set(there.split("\n")))]
+    due, found_there = set(text.split("\n")), set(there.split("\n"))
+    faults += [f"crates.txt: {'missing' if line in due else 'wrong'}: {line}" for line in sorted(due ^ found_there)]
     if text != there:
         faults.append("crates.txt is not as the files and groups say: run tests/crates.py --write")
     print("\n".join(faults) if faults else f"crates.txt: {len(found)} crates in {len(GROUPS)} groups, and their tests, as the files say")

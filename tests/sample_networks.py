@@ -47,7 +47,8 @@ def metered(processes):
     }
     devices = [device("d0", meter), device("d1", {"collectingProcess": [{"name": "in"}]})]
     link = {"device": "d0", "exportingProcess": "out", "destination": "d1", "toDevice": "d1", "toProcess": "in"}
-    return {"devices": devices, "links": [link], "report": {"device": "d1", "collectingProcess": "in", "key": [{"ieName": "sourceIPv4Address"}]}}
+    report = {"device": "d1", "collectingProcess": "in", "key": [{"ieName": "sourceIPv4Address"}]}
+    return {"devices": devices, "links": [link], "report": report}
 
 
 def paths(count):

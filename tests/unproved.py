@@ -2,8 +2,8 @@
 
 usage: packaging/build_unproved.py [--to FILE] [FOLDER]
 
-FOLDER is a checkout (the current folder if none is given). The program is the one that `rt try` compiles and runs: while `rt try` runs it, its
-file gets a second name. It serves to try a change over the rows before any proof, and takes a minute or two. A program that
+FOLDER is a checkout (the current folder by default). The program is the one that `rt try` compiles and runs: while `rt try` runs it,
+its file gets a second name. It serves to try a change over the rows before any proof, and takes a minute or two. A program that
 is as new as all sources is kept. Exit statuses: 0 built, 1 refused, with what `rt try` says.
 """
 import argparse
