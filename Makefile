@@ -76,7 +76,7 @@ shown: kit
 check: kit
 	@python3 packaging/build_unproved.py
 	@ln -sf out/unproved/once once
-	@python3 tests/gate.py definitions clauses crates callers refusals english links lint "unit tests" rows examples
+	@python3 tests/gate.py definitions clauses crates callers refusals english links names lint "unit tests" rows examples
 	@names=$$(python3 tests/passed.py --changed) && if [ -n "$$names" ]; then rt ci $$names; fi
 
 # Lists what the gate would still have to prove and try on this machine, with the time that docs/GATE.md has for each.

@@ -42,6 +42,7 @@ STEPS = [
     of_texts("refusals", "--compare"),
     of_texts("english"),
     of_texts("links"),
+    of_texts("names"),
     of_texts("lint", needs=("python3-pyflakes",), module="pyflakes"),
     Step("unit tests", ("-m", "pytest", "-q", "-p", "no:cacheprovider", "tests/unit"), ("python3-pytest",), False, False, "pytest", False),
     Step("importers", ("make", "--no-print-directory", "run-tools"), IMPORTERS, True),
