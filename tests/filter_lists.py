@@ -95,7 +95,7 @@ def leaves_of(text, count):
 
 
 def answered(program, command, *names):
-    return run([program, command, *names], text=True)
+    return run([program, command, *names], seconds=600, text=True)
 
 
 def written(folder, name, value):
