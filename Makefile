@@ -76,7 +76,7 @@ shown: kit
 check: kit
 	@python3 packaging/build_unproved.py
 	@ln -sf out/unproved/once once
-	@python3 tests/gate.py definitions clauses crates callers refusals "unit tests" rows examples
+	@python3 tests/gate.py definitions clauses crates callers refusals english links names lint "unit tests" rows examples
 	@names=$$(python3 tests/passed.py --changed) && if [ -n "$$names" ]; then rt ci $$names; fi
 
 # Lists what the gate would still have to prove and try on this machine, with the time that docs/GATE.md has for each.
@@ -134,7 +134,7 @@ PROGRAM = ./once
 BIN = $(DESTDIR)$(PREFIX)/bin
 SHARE = $(DESTDIR)$(PREFIX)/share
 ZSH = $(SHARE)/zsh/site-functions
-DOCUMENTS = $(wildcard $(addprefix docs/,GUIDE.md FORMATS.md REFUSALS.md PROVED.md DECISIONS.md GLOSSARY.md SCALE.md))
+DOCUMENTS = $(wildcard $(addprefix docs/,GUIDE.md FORMATS.md REFUSALS.md PROVED.md BELIEVE.md DECISIONS.md GLOSSARY.md SCALE.md))
 
 # Installs ./once, which is proved and built first where it isn't there; PROGRAM= names another.
 install:
@@ -143,7 +143,7 @@ install:
 	install -D -m 644 packaging/once.1 $(SHARE)/man/man1/once.1
 	install -D -m 644 packaging/once.bash $(SHARE)/bash-completion/completions/once
 	install -D -m 644 packaging/_once $(ZSH)/_once
-	install -D -m 644 -t $(SHARE)/doc/once README.md
+	install -D -m 644 -t $(SHARE)/doc/once README.md CHANGELOG.md SECURITY.md
 	install -D -m 644 -t $(SHARE)/doc/once/docs $(DOCUMENTS)
 	install -D -m 644 -t $(SHARE)/doc/once/docs/schemas docs/schemas/*
 	cd examples && find . -type f ! -name '*.pyc' -exec install -D -m 644 {} "$(abspath $(SHARE))/doc/once/examples/{}" \;

@@ -4,36 +4,7 @@ import sys
 
 import lists
 from check import busy, chain, document, least_in_turns, one_class, run
-
-FILTERS = 125
-
-
-def metered(processes):
-    """A meter of so many filters, each for another port, and a process that selects all, which alone is collected."""
-    fields = [{"name": "s", "ieName": "sourceIPv4Address", "isFlowKey": [None]}, {"name": "o", "ieId": 1}, {"name": "p", "ieId": 2}]
-    layout = {"cacheLayout": {"cacheField": fields}}
-    by_port = lambda k: {"name": "port", "filterMatch": {"ieName": "destinationTransportPort", "value": str(2 * k + 1)}}
-    names = ["all"] + ["port %d" % k for k in range(processes)]
-    selections = [{"name": "all", "selector": [{"name": "a", "selectAll": [None]}], "cache": "counted"}]
-    selections += [{"name": "port %d" % k, "selector": [by_port(k)], "cache": "lost"} for k in range(processes)]
-    caches = [{"name": "counted", "timeoutCache": layout, "exportingProcess": ["out"]}, {"name": "lost", "timeoutCache": layout}]
-    lists = {
-        "observationPoint": [{"name": "op", "observationDomainId": 0, "ifName": ["eth0"], "selectionProcess": names}],
-        "selectionProcess": selections,
-        "cache": caches,
-        "exportingProcess": [{"name": "out", "destination": [{"name": "d1", "tcpExporter": {}}]}],
-    }
-    collector = {"collectingProcess": [{"name": "in"}]}
-    devices = [{"name": name, "config": {"ietf-ipfix-psamp:ipfix": it}} for name, it in (("d0", lists), ("d1", collector))]
-    link = {"device": "d0", "exportingProcess": "out", "destination": "d1", "toDevice": "d1", "toProcess": "in"}
-    return {"devices": devices, "links": [link], "report": {"device": "d1", "collectingProcess": "in", "key": [{"ieName": "sourceIPv4Address"}]}}
-
-
-def paths(count):
-    """A declaration of so many paths, at most 16 to a class."""
-    path = [{"device": "d0", "interface": "eth0", "direction": "ingress"}]
-    sizes = [16] * (count // 16) + ([count % 16] if count % 16 else [])
-    return {"classes": [{"name": "class %d" % k, "paths": [path] * size} for k, size in enumerate(sizes)]}
+from sample_networks import FILTERS, metered, paths
 
 
 def answered(words, status, begins, to=None):

@@ -37,7 +37,7 @@ def checked(words, wanted="yes\n"):
     """The time of a check that is answered so, and its processor time."""
     taken, used, said, status = run(words)
     if said != wanted:
-        sys.exit("printed %r, status %d, in place of %r" % (said[:200], status, wanted))
+        sys.exit("printed %r, status %d, instead of %r" % (said[:200], status, wanted))
     return taken, used
 
 

@@ -20,19 +20,19 @@ ROUNDS = 5
 
 HEAD = """# Speed
 
-What the commands cost, beside programs that do such work too. `bench/compare.sh` writes this page and its picture.
+What the commands cost, compared with programs that do similar work. `bench/compare.sh` writes this page and its picture.
 
 - Machine: {machine}
-- Beside it: {peers}
+- Compared with: {peers}
 - Measured on {day}, `once` as it is proved and built.
 
-## Processor time
+## CPU time
 
-The least of {rounds} whole runs, in turns, start and documents included; a unit's share of it in nanoseconds. `mawk` adds up
-the words of the lines, `{{n += NF}} END {{print n}}`; `nfcapd` takes the messages over the loopback and stores the flows, and adds
-nothing up; `softflowd` meters the capture into flows and sends them nowhere.
+Minimum of {rounds} interleaved end-to-end runs, divided by the number of units, in nanoseconds. `mawk` adds up the words of the lines,
+`{{n += NF}} END {{print n}}`; `nfcapd` receives the messages over the loopback and stores the flows, and adds nothing up; `softflowd`
+meters the capture into flows and sends them nowhere.
 
-| Work | `once` | Beside it | Times |
+| Work | `once` | Other | Ratio |
 |---|---|---|---|
 """
 
@@ -42,24 +42,24 @@ ELSEWHERE, EARLIER_PROOFS = (os.path.join(TOP, "bench", name) for name in ("else
 COUNTED = """
 ## Instructions
 
-Counted by valgrind's callgrind, which neither a machine's load nor its clock changes: what the larger of two inputs takes
-more, shared among the units that it has more. `bench/instructions.py PROGRAM --noted docs/SPEED.md` fails where one takes
-more than 1.10 times what stands here.
+Counted by valgrind's callgrind, independent of a machine's load and clock: the difference between two inputs, divided by the
+difference in units. `bench/instructions.py PROGRAM --noted docs/SPEED.md` fails if one takes more than 1.10 times the number
+in this table.
 
-| Work | A unit | Instructions | Beside it |
+| Work | Unit | Instructions | Other |
 |---|---|---|---|
 """
 
 PROOF = """
 ## The proof
 
-What `make once` took where it last proved all crates of the program in one call, as it does in a fresh clone: {proved}.
+What `make once` took when it last proved all crates of the program in one call, as in a fresh clone: {proved}.
 """
 
 GROWTH = """
 ## Growth
 
-The least processor time of three runs, in seconds:
+Minimum CPU time of three runs, in seconds:
 
 """
 
@@ -223,7 +223,7 @@ def page(rows, counts, grown):
     text += GROWTH
     for kind, unit, points in grown:
         text += "- `%s`: %s\n" % (kind, ", ".join("%s %ss %.3f" % (format(size, ","), unit, took) for size, took in points))
-    return text + ("\n![Processor time against size](speed.svg)\n" if draw(grown) else "")
+    return text + ("\n![CPU time against size](speed.svg)\n" if draw(grown) else "")
 
 
 def draw(grown):
@@ -231,7 +231,7 @@ def draw(grown):
     if not shutil.which("gnuplot"):
         return False
     lines = ["set terminal svg size 720,480 font 'sans,12' background 'white'", "set output '%s'" % PICTURE]
-    lines += ["set logscale xy", "set xlabel 'lines, records, packets, steps'", "set ylabel 'seconds of processor time'"]
+    lines += ["set logscale xy", "set xlabel 'lines, records, packets, steps'", "set ylabel 'seconds of CPU time'"]
     lines += ["set key left top", "set grid", "set format x '10^{%L}'"]
     lines.append("plot " + ", ".join("'-' with linespoints title '%s'" % kind for kind, _, _ in grown))
     for _, _, points in grown:

@@ -102,7 +102,7 @@ def seconds(program, network, traffic, path, run, size):
         printed = subprocess.run([program, "replay", network, traffic, path], stdout=subprocess.PIPE, check=True).stdout.decode()
         taken = time.monotonic() - start
         if printed != wanted:
-            sys.exit("printed %r in place of %r" % (printed[:200], wanted[:200]))
+            sys.exit("printed %r instead of %r" % (printed[:200], wanted[:200]))
         best = taken if best is None else min(best, taken)
     return best
 

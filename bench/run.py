@@ -1,51 +1,14 @@
 """Times runs over a capture. See run.sh."""
 import json
 import os
-import resource
 import shutil
-import subprocess
 import sys
 
-KEY = ["sourceIPv4Address", "destinationIPv4Address", "protocolIdentifier", "sourceTransportPort",
-       "destinationTransportPort"]
+TOP = os.path.dirname(os.path.dirname(os.path.abspath(__file__)))
+sys.path.insert(0, os.path.join(TOP, "tests"))
 
-
-def network(most=None):
-    """A meter with a timeout cache, of at most so many flows, and a collector that reports by the same key."""
-    fields = [{"name": name, "ieName": name, "isFlowKey": [None]} for name in KEY]
-    fields += [{"name": name, "ieName": name} for name in ["octetDeltaCount", "packetDeltaCount"]]
-    bound = {} if most is None else {"maxFlows": most}
-    meter = {
-        "observationPoint": [{"name": "uplink", "observationDomainId": 0, "ifName": ["eth0"], "selectionProcess": ["all"]}],
-        "selectionProcess": [{"name": "all", "selector": [{"name": "all", "selectAll": [None]}], "cache": "flows"}],
-        "cache": [{"name": "flows", "timeoutCache": {**bound, "cacheLayout": {"cacheField": fields}}, "exportingProcess": ["out"]}],
-        "exportingProcess": [{"name": "out", "destination": [{"name": "collector", "tcpExporter": {}}]}],
-    }
-    collector = {"collectingProcess": [{"name": "billing"}]}
-    return {
-        "devices": [{"name": name, "config": {"ietf-ipfix-psamp:ipfix": config}} for name, config in
-                    [("meter", meter), ("collector", collector)]],
-        "links": [{"device": "meter", "exportingProcess": "out", "destination": "collector", "toDevice": "collector",
-                   "toProcess": "billing"}],
-        "report": {"device": "collector", "collectingProcess": "billing", "key": [{"ieName": name} for name in KEY]},
-    }
-
-
-TRAFFIC = {"classes": [{"name": "all", "paths": [[{"device": "meter", "interface": "eth0", "direction": "ingress"}]]}]}
-
-
-def processor_time(words, folder, limit=None):
-    """The processor time of a run, and what it prints."""
-    def limits():
-        if limit:
-            resource.setrlimit(resource.RLIMIT_AS, (limit, limit))
-
-    before = resource.getrusage(resource.RUSAGE_CHILDREN)
-    run = subprocess.run(words, cwd=folder, stdout=subprocess.PIPE, stderr=subprocess.STDOUT, preexec_fn=limits)
-    after = resource.getrusage(resource.RUSAGE_CHILDREN)
-    if run.returncode:
-        raise SystemExit("%s: status %d: %s" % (words[0], run.returncode, run.stdout[:300]))
-    return after.ru_utime + after.ru_stime - before.ru_utime - before.ru_stime, run.stdout.decode(errors="replace")
+from program import timed
+from sample_networks import TRAFFIC, network, write_capture
 
 
 def least_space(words, folder):
@@ -54,16 +17,11 @@ def least_space(words, folder):
     while high - low > 1:
         middle = (low + high) // 2
         try:
-            processor_time(words, folder, middle << 20)
+            timed(words, folder, middle << 20)
             high = middle
         except SystemExit:
             low = middle
     return high
-
-
-def write_capture(path, frames, flows):
-    make = os.path.join(os.path.dirname(os.path.abspath(__file__)), "make_capture.py")
-    subprocess.run([sys.executable, make, path, str(frames), str(flows)], check=True)
 
 
 def write_inputs(folder, frames, flows, most=None, lines=()):
@@ -91,7 +49,7 @@ def by_flows(program, frames, folder):
                 units = (frames - flows) // 2
                 lines = ["next\n"] * flows + ["expire 1 1\nnext\n"] * units
                 words = write_inputs(here, flows + units, flows, lines=lines)
-            took = min(processor_time([program, *words], here)[0] for _ in range(3))
+            took = min(timed([program, *words], here)[0] for _ in range(3))
             print("%-9s where %6d flows are held: %5.0f ns each" % (name, flows, took / units * 1e9))
             shutil.rmtree(here)
 
@@ -108,7 +66,7 @@ def main(program, frames, flows, folder):
     least = {}
     for _ in range(5):
         for name, words in programs.items():
-            took, printed = processor_time(words, folder)
+            took, printed = timed(words, folder)
             least[name] = min(took, least.get(name, took))
             if name == "once run" and not ("keys %d\n" % flows in printed and "skipped other 0 malformed 0" in printed):
                 raise SystemExit("once run: " + printed[:200])

@@ -1,19 +1,18 @@
 #!/usr/bin/env python3
-"""Proves the libraries that the program stands on, lowest first, and builds the program from what is proved.
+"""Proves the libraries that the program uses, lowest first, and builds the program from what is proved.
 
 usage: prove_program.py [NAME..]
 
-Run at the top of the repository. Each NAME is a crate as crates.txt has it, which is proved with all that it stands on;
-the program where none is given. A crate is proved once all libraries that it names are, side by side as many as memory and all
-processors but one allow, first those with the longest chain of others behind them. The crate with the longest chain gets three
-processes, or more where no other can run beside it, one whose chain is nearly as long two, and any other one. RT_JOBS=N in the
-environment sets how many are proved at a time, with one process each.
+Run at the top of the repository. Each NAME is a crate of crates.txt, which is proved with all crates below it; the program by
+default. A crate is proved once all libraries that it names are, side by side as many as memory and all processors but one
+allow, first those with the longest chain of others above them. The crate with the longest chain gets three processes, or more if no
+other can run beside it, one whose chain is nearly as long two, and any other one. RT_JOBS=N in the environment sets how many are
+proved at a time, with one process each.
 
-A line a crate says how long its proof took, by the clock and in processor time; the last line says it of all, and for how long
-the machine's host kept processors for others. Where all crates were proved by one call, as from a fresh clone, out/proved has
-that line.
+One line for each crate says how long its proof took, elapsed and in CPU time; the last line says it of all, and for how long the
+machine's host kept processors for others. If all crates were proved by one call, as from a fresh clone, out/proved has that line.
 
-What is proved lies in the crate's out/program, with what was said of it in the file `said`: its library, or of the program
+What is proved is in the crate's out/program, with the prover's output in the file `said`: its library, or of the program
 `once`. A library keeps the statements that crates above may cite and leaves the proofs out, so that it is read quickly. A
 crate whose files, libraries and kit are as they were is kept.
 """

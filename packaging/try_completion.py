@@ -85,7 +85,7 @@ def main():
                 is_right = found == wanted and not said
                 passed, failed = passed + is_right, failed + (not is_right)
                 if not is_right:
-                    print("%s: once %s: %s in place of %s %s" % (shell.__name__, " ".join(words), found, wanted, said))
+                    print("%s: once %s: %s instead of %s %s" % (shell.__name__, " ".join(words), found, wanted, said))
     print("%d passed, %d failed" % (passed, failed))
     return 1 if failed else 0
 

@@ -1,22 +1,23 @@
 #!/usr/bin/env python3
-"""Compares which texts the program reads as addresses of IPv6, and as which, with Python's `ipaddress`.
+"""Compares which texts the program reads as IPv6 addresses, and as which, with Python's `ipaddress`.
 
 usage: addresses.py PROGRAM [--spellings N] [--seed S]
 
-Addresses are drawn at random and spelled in many ways: digits of either case, leading zeros, `::` in place of any groups
-of zeros, a dotted quad at the end. A traffic document has a class for each, whose region is that spelling, and a run has
-a packet for each, in the written form of what `ipaddress` reads: the program is to find every packet in its class, and
-each other packet in none. Then spellings are changed at a character: those that `ipaddress` still reads are asked in the
-same way, and each of the others is to be refused with 302. The last line is `N passed, N failed`.
+Addresses are drawn at random and spelled in many ways: digits of either case, leading zeros, `::` instead of any groups of zeros, a
+dotted quad at the end. A traffic document has a class for each, whose region is that spelling, and a run has a packet for each,
+in the written form of what `ipaddress` reads: the program must find every packet in its class, and every other packet in none. Then
+spellings are changed at a character: those that `ipaddress` still reads are tried in the same way, and each of the others
+must be refused with 302. The last line is `N passed, N failed`.
 """
 import argparse
 import ipaddress
 import json
 import os
 import random
-import subprocess
 import sys
 import tempfile
+
+from program import run
 
 CLASSES = 250
 NETWORK = {
@@ -82,8 +83,8 @@ def replayed(program, texts, packets):
         ):
             with open(os.path.join(work, name), "w", encoding="utf-8") as file:
                 file.write(text)
-        run = subprocess.run([program, "replay", "network.json", "traffic.json", "run.txt"], cwd=work, capture_output=True, text=True, check=False)
-        return run.returncode, run.stdout
+        ran = run([program, "replay", "network.json", "traffic.json", "run.txt"], work, text=True)
+        return ran.returncode, ran.stdout
 
 
 def main():

@@ -1,17 +1,18 @@
 #!/usr/bin/env python3
 """carried_in_pieces.py PROGRAM: carries what is on a link in two pieces, cut at each octet.
 
-In each network below, once its capture is read and its caches are emptied by lines of a schedule, all octets of the first
-link are carried in two pieces, wherever they are cut: the totals and the octets of the first link must be those of a
-schedule that doesn't carry them. A piece of one octet more than there are must be refused with 802 at its line.
+In each network below, once its capture has been read and its caches have been emptied by lines of a schedule, all octets of the first
+link are carried in two pieces, cut anywhere: the totals and the octets of the first link must be those of a schedule that
+doesn't carry them. A piece of one octet more than there are must be refused with 802 at its line.
 
-Prints `N runs, M failed`; the exit status is 1 where one failed.
+Prints `N runs, M failed`; the exit status is 1 if one failed.
 """
 import os
 import shutil
-import subprocess
 import sys
 import tempfile
+
+from program import run
 
 HERE = os.path.dirname(os.path.abspath(__file__))
 # The folders of the networks, how many packets their captures have, and how many records are in the first cache then.
@@ -23,7 +24,7 @@ NETWORKS = [
 ]
 
 
-def run(program, folder, lines):
+def carried(program, folder, lines):
     """What the program prints and with which status, and the octets of each link."""
     for name in os.listdir(folder):
         if name.startswith("out"):
@@ -31,7 +32,7 @@ def run(program, folder, lines):
     with open(os.path.join(folder, "lines"), "w") as file:
         file.write("".join(line + "\n" for line in lines))
     words = ["network.json", "traffic.json", "capture.pcap", "lines", "--links", "out"]
-    ended = subprocess.run([program, "run", *words], cwd=folder, stdout=subprocess.PIPE, timeout=120)
+    ended = run([program, "run", *words], folder)
     links = {}
     for name in sorted(os.listdir(folder)):
         if name.startswith("out"):
@@ -42,19 +43,19 @@ def run(program, folder, lines):
 
 def faults(program, folder, packets, records):
     first = ["next"] * packets + ["expire 1 1"] * records
-    wanted = run(program, folder, first)
+    wanted = carried(program, folder, first)
     if wanted[0]:
         yield "the schedule without pieces ends with %d: %r" % wanted[:2]
         return
     # Each line of the schedule has a message of its own; together they are what is on the first link then.
     octets = len(wanted[2]["out1"])
     for cut in range(1, octets):
-        found = run(program, folder, first + ["carry 1 %d" % cut, "carry 1 %d" % (octets - cut)])
+        found = carried(program, folder, first + ["carry 1 %d" % cut, "carry 1 %d" % (octets - cut)])
         if found[:2] != wanted[:2] or found[2]["out1"] != wanted[2]["out1"]:
-            yield "cut at %d: %r in place of %r" % (cut, found[:2], wanted[:2])
+            yield "cut at %d: %r instead of %r" % (cut, found[:2], wanted[:2])
         else:
             yield None
-    found = run(program, folder, first + ["carry 1 %d" % (octets + 1)])
+    found = carried(program, folder, first + ["carry 1 %d" % (octets + 1)])
     line = len(first) + 1
     yield None if found[:2] == (2, "refused 802 line %d\n" % line) else "an octet more: %r" % (found[:2],)
 

@@ -1,10 +1,10 @@
 #!/usr/bin/env python3
-"""Whether all clauses stand within 100 columns; with --wrap, breaks those that don't.
+"""Checks that all clauses are within 100 columns; with --wrap, breaks those that aren't.
 
     clauses.py [--wrap] [FILE ..]
 
-Without files, all sources of all crates. A clause is what stands from `requires`, `ensures` or `ghost NAME =` (or `:`) to the
-closing brace of its term. Where it is broken, a line goes on with the operator of least depth that fits.
+Without files, all sources of all crates. A clause reaches from `requires`, `ensures` or `ghost NAME =` (or `:`) to the closing brace of
+its term. A broken line continues with the operator of least depth that fits.
 """
 import glob
 import os

@@ -1,15 +1,14 @@
 #!/usr/bin/env python3
 """cut_inputs.py PROGRAM [--all] [--jobs N]: runs the program over inputs that end too soon.
 
-Takes the rows that `refused_growth.py` takes, or with --all every row of `rows/` whose files have less than 20,000 octets
-in all, and cuts each of a row's files at each of its octets: network, traffic, certificate, refutation, run, capture,
-schedule, stream, bundle; a file that several rows have is cut in one of them. A file that was cut must be refused, or
-answered with `no` where it is a certificate, a refutation or a run: status 1 or 2, one line with a number and a place,
-nothing on standard error. Some cuts leave a whole file: of a document those that take white space alone, of a
-certificate, a refutation or a run those that take lines behind its last alone, of a capture those behind a frame, of a
-stream those behind a message, of a schedule all, since a schedule has no end of its own. There any status of the table
-may come with what is printed with it. Each run has ten seconds and 64 MiB of address space. Prints each run that does
-otherwise; last a line for each kind with how many runs ended with each status.
+Takes the rows that `refused_growth.py` takes, or with --all every row of `rows/` whose files have less than 20,000 octets in all, and cuts
+each of a row's files at each of its octets: network, traffic, certificate, refutation, run, capture, schedule, stream, bundle; a
+file that several rows have is cut in one of them. A file that was cut must be refused, or answered with `no` if it is a
+certificate, a refutation or a run: status 1 or 2, one line with a number and a place, nothing on standard error. Some cuts leave a
+whole file: those that remove only white space at the end of a document, lines after the last of a certificate, a refutation or a
+run, those after a frame of a capture or a message of a stream, and all of a schedule, which has no end of its own. Then
+any status of the table may come with what is printed with it. Each run has ten seconds and 64 MiB of address space. Prints each run
+that behaves otherwise; last a line for each kind with how many runs ended with each status.
 """
 import argparse
 import collections
@@ -17,11 +16,11 @@ import concurrent.futures
 import os
 import re
 import struct
-import subprocess
 import sys
 import tempfile
 
 from mutated_inputs import PLACE, PRINTED, SECONDS, SPACE, seeds
+from program import DidNotEnd, run
 from refused_growth import ROWS, SWEPT, octets_of
 
 REFUSED = re.compile(rb"(refused|no) \d+" + PLACE)
@@ -65,13 +64,13 @@ def try_one(program, folder, words, given, whole):
     """The status of a run over a cut file, and what is wrong with it, if anything is."""
     try:
         limited = ["prlimit", "--as=%d" % SPACE, program, *words]
-        run = subprocess.run(limited, input=given, capture_output=True, cwd=folder, timeout=SECONDS)
-    except subprocess.TimeoutExpired:
+        ran = run(limited, folder, given, SECONDS)
+    except DidNotEnd:
         return None, "no end within %d s" % SECONDS
-    form = PRINTED.get(run.returncode) if whole else REFUSED if run.returncode in (1, 2) else None
-    if form is None or not form.fullmatch(run.stdout) or run.stderr:
-        return run.returncode, "status %d, %r, %r" % (run.returncode, run.stdout[:200], run.stderr[:200])
-    return run.returncode, None
+    form = PRINTED.get(ran.returncode) if whole else REFUSED if ran.returncode in (1, 2) else None
+    if form is None or not form.fullmatch(ran.stdout) or ran.stderr:
+        return ran.returncode, "status %d, %r, %r" % (ran.returncode, ran.stdout[:200], ran.stderr[:200])
+    return ran.returncode, None
 
 
 def cuts_of(program, kind, words, files, name):
@@ -89,7 +88,7 @@ def cuts_of(program, kind, words, files, name):
             status, fault = try_one(program, folder, words, given, end in ends)
             counts[status] += 1
             if fault:
-                faults.append("%s of %s, cut behind %d of %d octets: %s" % (name, " ".join(words) or "a bundle", end, len(octets), fault))
+                faults.append("%s of %s, cut after %d of %d octets: %s" % (name, " ".join(words) or "a bundle", end, len(octets), fault))
     return kind, counts, faults
 
 

@@ -5,7 +5,7 @@ A root is a public contract, or one clause of it. The names that it speaks of ar
 crates/NAME/src and crates/NAME/specs, name by name, to all definitions that they stand on.
 
   --compare  writes nothing: says where docs/BELIEVE.md or docs/PROVED.md isn't what it should be, and which files of
-             definitions a public contract cites that docs/DEFINITIONS.md doesn't name; the exit status is then 1
+             definitions a public contract cites that docs/GLOSSARY.md doesn't name; the exit status is then 1
   --doubts   prints names that nothing explains, and bound names that are also names of definitions
 """
 import collections
@@ -33,8 +33,8 @@ COMMANDS = [
     ("`fx_audit::lint_bytes`", [("fx_audit", "lint_bytes", [])]),
     ("`fx_audit::lint_both_bytes`", [("fx_audit", "lint_both_bytes", [])]),
     ("`fx_audit::bundle_bytes`", [("fx_audit", "bundle_bytes", [])]),
-    ("`answer_words`, a private function of `fx_cli`: from the words to the exit status", [("fx_cli", "answer_words", [])]),
-    ("`answer_in_words`, another: the same with words behind the answer", [("fx_cli", "answer_in_words", [])]),
+    ("`answer_words`, a private function of `fx_cli`: from the arguments to the exit status", [("fx_cli", "answer_words", [])]),
+    ("`answer_in_words`, another: the same with an explanation after the answer", [("fx_cli", "answer_in_words", [])]),
 ]
 
 
@@ -53,12 +53,11 @@ def totals(library, things):
     return len(found), sum(definition.lines() for definition in found), len(files)
 
 
-def table(library, things):
-    yield "| File | Definitions | Lines | Names |"
-    yield "|---|---|---|---|"
+def files(library, things):
+    """A line for each file: how many definitions of it, of how many lines, and their names."""
     for module, group in sorted(by_file(library, things).items()):
         names = ", ".join("`%s`" % d.name for d in sorted(group, key=lambda d: d.name))
-        yield "| `%s` | %d | %d | %s |" % (module, len(group), sum(d.lines() for d in group), names)
+        yield "- `%s`(%d/%d): %s" % (module, len(group), sum(d.lines() for d in group), names)
 
 
 def others(things, kind):
@@ -72,18 +71,16 @@ def others(things, kind):
 
 
 def section(library, title, besides, new):
-    """A command's part of the file; `besides` where others come before it."""
+    """A command's part of the file; `besides` if others come before it."""
     yield "## " + title
     yield ""
-    more = "More definitions" if besides else "Definitions"
-    yield "%s: %d, of %d lines in %d files.%s" % ((more,) + totals(library, new) + (
-        " What stands in the tables above is left out." if besides else "",))
+    yield "%s: %d, of %d lines in %d files." % (("More definitions" if besides else "Definitions",) + totals(library, new))
     yield ""
-    yield from table(library, new)
+    yield from files(library, new)
     types = list(others(new, "type"))
     if types:
         yield ""
-        yield "%s of Rust that these definitions name, each under its file in `crates/NAME/src`:" % ("More types and constants" if besides else "Types and constants")
+        yield "Rust:"
         yield ""
         yield from types
     yield ""
@@ -93,11 +90,9 @@ INTRODUCTION = """# The definitions to believe, by command
 
 `python3 tests/definitions.py` writes this file, and the gate compares it. Don't change it by hand.
 
-A contract says no more than its definitions, so whoever relies on a command has to read them and believe that they say what they should. Below they stand by command. Each list begins with the names that the contract's `ensures` clauses use and follows every name to its own definition, and so on; an import that isn't used brings nothing in. Definitions that stand in no list are means of proof, or serve contracts of other functions.
+A contract says no more than its definitions, so whoever relies on a command has to read them and believe that they say what they should. Each list begins with the names that the contract's `ensures` clauses use and follows every name to its own definition, and so on; an unused import adds nothing. A list leaves out what lists above it have. Definitions in no list are means of proof, or serve contracts of other functions.
 
-The lines are those of the definitions, with their types and without comments and empty lines. Types and constants of Rust are listed by name and not counted: their fields and values stand in `crates/NAME/src`. What a contract's arguments are seen as (`ghost view`) isn't followed: the types of the definitions that they are given to tell it. Names of libraries come last; what they mean is told by the kit.
-
-A path such as `fx_layout/Keys` means `crates/fx_layout/specs/Keys.antt`.
+`fx_layout/Keys` is `crates/fx_layout/specs/Keys.antt`. `(2/7)` after it means 2 definitions of 7 lines, with their types and without comments and empty lines. Types and constants of Rust that the definitions name are listed by crate and file, and not counted; their fields and values are in `crates/NAME/src`. How a contract sees its arguments (`ghost view`) isn't followed: the types of the definitions that take them show it. Names of libraries come last; the kit says what they mean.
 """
 
 
@@ -146,9 +141,9 @@ def cited_modules(library):
 
 
 def named_modules():
-    """The files that docs/DEFINITIONS.md names; a name without a crate is of the crate before it in its row."""
+    """The files that docs/GLOSSARY.md names; a name without a crate is of the crate before it in its line."""
     named = set()
-    for row in read(os.path.join(ROOT, "docs", "DEFINITIONS.md")).split("\n"):
+    for row in read(os.path.join(ROOT, "docs", "GLOSSARY.md")).split("\n"):
         crate = None
         for word in re.findall(r"`([\w/]+)`", row):
             before, _, name = word.rpartition("/")
@@ -166,7 +161,7 @@ def read(path):
 
 def differences(library, found):
     if read(BELIEVE) != written(library, found):
-        yield "docs/BELIEVE.md isn't what `python3 tests/definitions.py` writes"
+        yield "docs/BELIEVE.md isn't what `python3 tests/definitions.py` writes: run it"
     proved = " ".join(read(os.path.join(ROOT, "docs", "PROVED.md")).split())
     for sentence in sentences(library, found):
         if sentence not in proved:
@@ -174,7 +169,7 @@ def differences(library, found):
     named = named_modules()
     for module, where in sorted(cited_modules(library).items()):
         if module not in named and module.split("/")[0] + "/*" not in named:
-            yield "docs/DEFINITIONS.md doesn't name %s (%s)" % (module, where)
+            yield "docs/GLOSSARY.md doesn't name %s (%s)" % (module, where)
 
 
 def main(words):

@@ -1,25 +1,23 @@
 #!/usr/bin/env python3
 """drawings.py PROGRAM [GRAPHVIZ]: reads what `once draw` prints, and compares the graph with the documents.
 
-For the networks of the rows and the examples that `once lint` takes, alone and with their traffic, and for some that have
-names which DOT would take for its own signs: the boxes and what stands in them, and the edges, must be those that the
-JSON tells, read here by itself. With certificates and refutations, the marked edges must be those that their lines name.
-Where Graphviz's `dot` is there (or what stands in its place), it must take the drawings of the examples. One line a fault; the last line is
-`N passed, N failed`.
+For the networks of the rows and the examples that `once lint` accepts, alone and with their traffic, and for some with names that DOT
+would take for its own signs: the boxes and their contents, and the edges, must be those of the JSON, which is read here independently.
+With certificates and refutations, the marked edges must be those that their lines name. If Graphviz's `dot` is installed (or
+GRAPHVIZ), it must accept the drawings of the examples. Prints a line for each fault; the last line is `N passed, N failed`.
 """
 import glob
 import json
 import os
 import re
 import shutil
-import subprocess
 import sys
 import tempfile
 
 sys.dont_write_bytecode = True
 TOP = os.path.dirname(os.path.dirname(os.path.abspath(__file__)))
-sys.path.insert(0, os.path.join(TOP, "tests"))
-from verdict import not_run, told
+import program
+from verdict import not_run, report_named
 
 NODE = re.compile(r'^ *([a-z]+[0-9_]+) \[(.*)\];$')
 EDGE = re.compile(r'^ *([a-z]+[0-9_]+) -> ([a-z]+[0-9_]+)(?: \[(.*)\])?;$')
@@ -148,7 +146,7 @@ def unlike(graph, network):
         if node.startswith("collector"):
             is_report = (boxes[inside], lines[0]) == (shown(report["device"]), shown(report["collectingProcess"]))
             if ("report" in lines[1:]) != is_report:
-                yield f"{node}: told as the report or not"
+                yield f"{node}: the report or not"
 
 
 def leaves(certificate):
@@ -195,7 +193,7 @@ class Drawer:
         self.program, self.dot = program, dot
 
     def run(self, *words):
-        return subprocess.run([self.program, *words], stdout=subprocess.PIPE, timeout=60)
+        return program.run([self.program, *words])
 
     def draw(self, what, network, *texts):
         """Draws, and compares with the network's document: gives what was drawn, and its faults."""
@@ -211,7 +209,7 @@ class Drawer:
                 with open(texts[1], encoding="utf-8") as file:
                     faults += unmarked(graph, file.read())
             if self.dot and what.startswith("examples"):
-                taken = subprocess.run([self.dot, "-Tcanon"], input=done.stdout, stdout=subprocess.DEVNULL, stderr=subprocess.PIPE)
+                taken = program.run([self.dot, "-Tcanon"], given=done.stdout, stdout=program.NOWHERE)
                 if taken.returncode or taken.stderr:
                     faults.append(f"dot: {taken.stderr.decode()[:100]}")
         except AssertionError as fault:
@@ -248,7 +246,7 @@ def main(words):
     dot = words[1] if len(words) > 1 else shutil.which("dot")
     if not dot:
         not_run("drawings through dot", "there is no dot (Debian's package graphviz)")
-    return told(drawings(Drawer(os.path.abspath(words[0]), dot)))
+    return report_named(drawings(Drawer(os.path.abspath(words[0]), dot)))
 
 
 if __name__ == "__main__":

@@ -7,10 +7,10 @@ differs, and last `N passed, M failed`.
 """
 import glob
 import os
-import subprocess
 import sys
 
-from verdict import told_each
+from program import run
+from verdict import report_each
 
 TOP = os.path.dirname(os.path.dirname(os.path.abspath(__file__)))
 # The command by the kind of file, and the kind of file that has what it must print.
@@ -32,7 +32,7 @@ def calls():
 
 def fault(program, arguments, expected):
     """Returns what is wrong with a call, or None."""
-    ran = subprocess.run([program, *arguments], stdin=subprocess.DEVNULL, stdout=subprocess.PIPE, timeout=120)
+    ran = run([program, *arguments])
     with open(expected, "rb") as file:
         wanted = file.read()
     at = os.path.relpath(arguments[-1], TOP)
@@ -40,7 +40,7 @@ def fault(program, arguments, expected):
 
 
 def main(program):
-    return told_each(fault(os.path.abspath(program), *it) for it in calls())
+    return report_each(fault(os.path.abspath(program), *it) for it in calls())
 
 
 if __name__ == "__main__":

@@ -1,12 +1,11 @@
 #!/usr/bin/env python3
 """failed_devices.py PROGRAM: runs the program with reads and writes failed, by failed_devices.c, which `cc` builds.
 
-Of each row the first call that reads fails, alone and with all behind it, then the second, and so on until a run meets
-no failure: each must print `device 901` alone and end with status 5, but the last, which prints what the row does. The
-same with the calls that write: each must end with status 5, having printed `device 902` alone, or nothing but a part of
-the answer, its beginning, where it is the answer's own write that fails. What a run that ends so has put on a link is the
-beginning of what it should be; where it is a read that fails, whole messages of it. Prints a line for each run and ends
-with 1 where one fails.
+Of each row the first call that reads fails, alone and with all later ones, then the second, and so on until a run meets no
+failure: each must print `device 901` alone and end with status 5, except the last, which prints what the row does. The same with
+the calls that write: each must end with status 5, having printed `device 902` alone, or nothing but the beginning of the answer, if it
+is the answer's own write that fails. What such a run has put on a link is the beginning of what it should be; if a read fails,
+whole messages of it. Prints a line for each run and ends with 1 if one fails.
 """
 import os
 import shutil
@@ -55,7 +54,7 @@ def main(program):
         shim = Shim(os.path.abspath(program), folder, "failed_devices", "DEVICES")
         for row in SWEPT:
             for kind in ("READ", "WRITE"):
-                for behind, end in ((False, "alone"), (True, "and all behind")):
+                for behind, end in ((False, "alone"), (True, "and all later ones")):
                     failed += not is_right("%s, each %s, %s" % (row, kind.lower(), end), sweep(shim, row, kind, behind))
     return 1 if failed else 0
 

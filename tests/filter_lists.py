@@ -3,8 +3,8 @@
 
 Each filter of each meter selects another network of 256 addresses, and together they are the packets of the class, so each leaf of a
 certificate has one filter and there are as many leaves as filters. `audit` must print a certificate with one split fewer than
-leaves, none of them deeper than 2 log2 of the number of filters, plus 2, in whatever order the filters stand; each leaf must name
-the filter of its network; and `check` must say yes. One filter less, and `audit` must print a refutation that `confirm` confirms.
+leaves, none of them deeper than 2 log2 of the number of filters, plus 2, in whatever order the filters come; each leaf must name
+the filter of its network; and `check` must say yes. With one filter less, `audit` must print a refutation that `confirm` confirms.
 
 Prints a line for each that fails, and last `N passed, M failed`; the exit status is 1 if one failed. It takes some seconds.
 """
@@ -13,11 +13,11 @@ import json
 import math
 import os
 import random
-import subprocess
 import sys
 import tempfile
 
-from verdict import told
+from program import run
+from verdict import report_named
 
 # How many meters, how many filters each has, and how they stand.
 LISTS = [(1, 64, "ascending"), (9, 64, "ascending"), (4, 250, "ascending"), (4, 250, "descending"), (4, 250, "shuffled"), (2, 3, "shuffled")]
@@ -94,8 +94,8 @@ def leaves_of(text, count):
     return leaves, deepest
 
 
-def run(program, command, *names):
-    return subprocess.run([program, command, *names], stdin=subprocess.DEVNULL, capture_output=True, text=True, check=False)
+def answered(program, command, *names):
+    return run([program, command, *names], seconds=600, text=True)
 
 
 def written(folder, name, value):
@@ -107,7 +107,7 @@ def written(folder, name, value):
 
 def certificate_faults(program, folder, documents, lists, count):
     """Yields what is wrong with the answer where each network has a filter."""
-    answer = run(program, "audit", *documents)
+    answer = answered(program, "audit", *documents)
     if answer.returncode:
         yield f"audit ends with {answer.returncode}: {answer.stdout[:40]!r}"
         return
@@ -117,17 +117,17 @@ def certificate_faults(program, folder, documents, lists, count):
         yield "the leaves do not name the filters of their networks"
     if deepest > 2 * math.log2(count) + 2:
         yield f"a split of depth {deepest} for {count} filters"
-    said = run(program, "check", *documents, written(folder, "certificate.txt", answer.stdout)).stdout
+    said = answered(program, "check", *documents, written(folder, "certificate.txt", answer.stdout)).stdout
     if said != "yes\n":
         yield f"check says {said[:40]!r}"
 
 
 def refutation_faults(program, folder, documents):
     """Yields what is wrong with the answer where a network has no filter."""
-    answer = run(program, "audit", *documents)
+    answer = answered(program, "audit", *documents)
     if answer.returncode != 1:
         yield f"audit without a filter ends with {answer.returncode}"
-    said = run(program, "confirm", *documents, written(folder, "refutation.txt", answer.stdout)).stdout
+    said = answered(program, "confirm", *documents, written(folder, "refutation.txt", answer.stdout)).stdout
     if not said.startswith("refuted\n"):
         yield f"confirm says {said[:40]!r}"
 
@@ -148,7 +148,7 @@ def main(arguments):
         sys.exit(__doc__)
     with tempfile.TemporaryDirectory() as folder:
         program = os.path.abspath(arguments[0])
-        return told((f"{meters} meters of {filters} filters, {order}", faults_of(program, folder, meters, filters, order)) for meters, filters, order in LISTS)
+        return report_named((f"{meters} meters of {filters} filters, {order}", faults_of(program, folder, meters, filters, order)) for meters, filters, order in LISTS)
 
 
 if __name__ == "__main__":

@@ -1,21 +1,21 @@
 #!/usr/bin/env python3
 """full_files.py PROGRAM: runs the program with files that become full at each of their octets.
 
-Of each row that puts octets on links, no file may have more than 0 octets, then no more than 1, and so on until all are
-whole (a limit of the system, RLIMIT_FSIZE: the write that comes to it writes what still fits, the next one fails, as on a
-full disk). Each run must print `device 902` alone and end with status 5, but the last, which prints what the row does; a
-link's file holds the beginning of what it should. The same with the answer on a file: the run must end with status 5, and
-the file has the beginning of the answer, or of `device 902`. Prints a line for each row and ends with 1 where one fails.
+Of each row that puts octets on links, no file may have more than 0 octets, then no more than 1, and so on until all are complete (a limit of
+the system, RLIMIT_FSIZE: the write that reaches it writes what still fits, the next one fails, as on a full disk). Each run
+must print `device 902` alone and end with status 5, except the last, which prints what the row does; a link's file holds the beginning
+of what it should. The same with the answer in a file: the run must end with status 5, and the file has the beginning of the
+answer, or of `device 902`. Prints a line for each row and ends with 1 if one fails.
 """
 import os
 import re
 import resource
 import shutil
 import signal
-import subprocess
 import sys
 import tempfile
 
+from program import run
 from refused_growth import ROWS, SWEPT, is_right, octets_of, wrong_links
 
 
@@ -27,15 +27,15 @@ def limited(most):
     return limit
 
 
-def run(program, row, folder, most, answer):
+def run_row(program, row, folder, most, answer):
     """What stands in the answer's file, or on a pipe where there is none, and the status."""
     words, given = octets_of(row, "words").decode().split(), octets_of(row, "stdin")
-    how = {"input": given, "cwd": folder, "timeout": 120, "preexec_fn": limited(most)}
+    how = {"given": given, "preexec_fn": limited(most)}
     if answer is None:
-        done = subprocess.run([program] + words, capture_output=True, **how)
+        done = run([program] + words, folder, **how)
         return done.stdout + done.stderr, done.returncode
     with open(answer, "wb") as file:
-        done = subprocess.run([program] + words, stdout=file, **how)
+        done = run([program] + words, folder, stdout=file, **how)
     with open(answer, "rb") as file:
         return file.read(), done.returncode
 
@@ -44,7 +44,7 @@ def full_links(program, row, folder):
     """Whether a run ends as it should where a link's file is full at an octet, and what to say of it."""
     wanted, most = (octets_of(row, "stdout"), int(octets_of(row, "status"))), 0
     while True:
-        said, status = run(program, row, folder, most, None)
+        said, status = run_row(program, row, folder, most, None)
         is_whole = (said, status) == wanted
         links = wrong_links(row, folder, is_whole, messages=False)
         if links or not is_whole and (said, status) != (b"device 902\n", 5):
@@ -58,7 +58,7 @@ def full_answer(program, row, folder):
     """The same where the answer's file is full at an octet."""
     wanted, most = (octets_of(row, "stdout"), int(octets_of(row, "status"))), 0
     while most < len(wanted[0]):
-        said, status = run(program, row, folder, most, os.path.join(folder, "answer"))
+        said, status = run_row(program, row, folder, most, os.path.join(folder, "answer"))
         if status != 5 or not (wanted[0].startswith(said) or b"device 902\n".startswith(said)):
             return False, "full at %d octets: status %d, printed %r" % (most, status, said[:200])
         most += 1

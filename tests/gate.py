@@ -12,13 +12,12 @@ import argparse
 import os
 import re
 import shutil
-import subprocess
 import sys
 import time
 from concurrent.futures import ThreadPoolExecutor
 
 sys.dont_write_bytecode = True
-sys.path.insert(0, os.path.dirname(os.path.realpath(__file__)))
+import program
 from mutation.store import Store, digest, digest_of_files, store_folder
 from steps import PROGRAM, STEPS, command_of
 
@@ -58,12 +57,11 @@ class Outcome:
 
 def run(step):
     began = time.monotonic()
-    how = {"stdin": subprocess.DEVNULL, "stdout": subprocess.PIPE, "stderr": subprocess.STDOUT, "text": True, "errors": "replace"}
     environment = {**os.environ, "ONCE": PROGRAM, "PYTHONDONTWRITEBYTECODE": "1"}
     try:
-        ran = subprocess.run(command_of(step), timeout=SECONDS, env=environment, **how)
+        ran = program.run(command_of(step), seconds=SECONDS, env=environment, stderr=program.WITH_OUTPUT, text=True, errors="replace")
         return Outcome(ran.returncode, ran.stdout, time.monotonic() - began)
-    except subprocess.TimeoutExpired as error:
+    except program.DidNotEnd as error:
         return Outcome(124, f"{error.stdout or ''}\nit did not end within {SECONDS} s", time.monotonic() - began)
 
 
@@ -71,7 +69,7 @@ def versions(packages):
     """Returns the versions of Debian packages, and whether each is installed."""
     words = ["dpkg-query", "-W", "-f=${Package} ${Version} ${db:Status-Status}\n", *packages]
     try:
-        return subprocess.run(words, stdout=subprocess.PIPE, stderr=subprocess.DEVNULL, text=True).stdout if packages else ""
+        return program.run(words, stderr=program.NOWHERE, text=True).stdout if packages else ""
     except OSError:
         return ""
 

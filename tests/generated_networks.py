@@ -1,23 +1,24 @@
 #!/usr/bin/env python3
-"""Audits generated networks, and has each answer judged by the program's own checker or by what confirms refutations.
+"""Audits generated networks, and has each answer verified by the program's own checker or by `confirm`.
 
 usage: generated_networks.py PROGRAM [--networks N] [--seed S] [--examples]
 
-Small networks of meters, mediators and a collector are drawn at random: filters, keys, export modes, destinations without
-a link, aggregations with matches, classes that overlap or are exempt. `audit` is to print a certificate to which `check`
-says yes, or a refutation that `confirm` confirms; none of them is so large that `unknown 601` would be right. The last
-line is `N passed, N failed`; a failing network is printed.
+Small networks of meters, mediators and a collector are drawn at random: filters, keys, export modes, destinations without a link,
+aggregations with matches, classes that overlap or are exempt. `audit` must print a certificate to which `check` says yes, or a
+refutation that `confirm` confirms; none of them is so large that `unknown 601` would be right. The last line is
+`N passed, N failed`; a failing network is printed.
 
-  --examples  the networks of examples/ in their place
+  --examples  the networks of examples/ instead
 """
 import argparse
 import glob
 import json
 import os
 import random
-import subprocess
 import sys
 import tempfile
+
+from program import run
 
 AXES = {
     "sourceIPv4Address": ["10.0.0.0/8", "10.1.2.3", "10.0.0.1-10.0.0.9"],
@@ -148,7 +149,7 @@ def traffic(draw, meters):
 
 
 def asked(program, room, command, *files):
-    ran = subprocess.run([program, command, *files], cwd=room, stdin=subprocess.DEVNULL, capture_output=True)
+    ran = run([program, command, *files], room)
     return ran.returncode, ran.stdout
 
 

@@ -1,11 +1,11 @@
 #!/usr/bin/env python3
 """hostile_keys.py PROGRAM [FLOWS]: keys that were chosen to be slow to find, metered and collected by the program.
 
-A hash with a fixed seed can be made to collide by whoever knows it: the one of the library of maps is the same for all
-addresses of IPv6 in one prefix. A capture has so many packets (20,000 where none is said), each of a flow of its own with
-a source there, another as many with sources elsewhere. Both are metered by a cache without a bound and by one with a
-bound, and what that puts on its link is collected. The least processor time of three runs over the first must be at most
-2.5 times that over the second. Prints a line for each and ends with 1 where one fails.
+A hash with a fixed seed can be made to collide by anyone who knows it: the one of the library of maps is the same for all IPv6 addresses
+in one prefix. A capture has FLOWS packets (20,000 by default), each of a flow of its own with a source there, another as many
+with sources elsewhere. Both are metered by an unbounded and by a bounded cache, and what that puts on its link is collected. The
+minimum CPU time of three runs over the first must be at most 2.5 times that over the second. Prints a line for each and ends
+with 1 if one fails.
 """
 import json
 import os
@@ -13,10 +13,8 @@ import struct
 import sys
 import tempfile
 
-TOP = os.path.dirname(os.path.dirname(os.path.abspath(__file__)))
-sys.path.insert(0, os.path.join(TOP, "bench"))
-
-import run
+from program import timed
+from sample_networks import TRAFFIC, network
 
 # The prefixes of 64 bits: that one, and one for documents (RFC 3849).
 PREFIXES = {"chosen": 0x9E37_79B9_7F4A_7C15, "other": 0x2001_0DB8_0000_0000}
@@ -34,15 +32,15 @@ def write_capture(path, prefix, flows):
 
 
 def write_documents(folder, most):
-    network = json.dumps(run.network(most)).replace("sourceIPv4Address", "sourceIPv6Address")
-    for name, text in (("network.json", network), ("traffic.json", json.dumps(run.TRAFFIC)), ("schedule", "")):
+    document = json.dumps(network(most)).replace("sourceIPv4Address", "sourceIPv6Address")
+    for name, text in (("network.json", document), ("traffic.json", json.dumps(TRAFFIC)), ("schedule", "")):
         with open(os.path.join(folder, name), "w") as file:
             file.write(text)
 
 
 def least(program, words, folder):
     """The least processor time of three runs."""
-    return min(run.processor_time([program, *words], folder)[0] for _ in range(3))
+    return min(timed([program, *words], folder)[0] for _ in range(3))
 
 
 def compare(program, name, words_of, folder):

@@ -1,20 +1,20 @@
 #!/usr/bin/env python3
 """hostile_streams.py PROGRAM: streams that are made to cost time or memory, collected by the program.
 
-Each is collected as it is and twice as long, in 64 MiB of address space; both answers must be right, and the least
-processor time of five runs of the second at most 2.5 times that of the first. A stream whose templates don't
-fit must be answered 900. Prints a line for each and ends with 1 where one fails.
+Each is collected as it is and twice as long, in 64 MiB of address space; both answers must be right, and the minimum CPU time of
+five runs of the second at most 2.5 times that of the first. A stream whose templates don't fit must be answered 900. Prints a
+line for each and ends with 1 if one fails.
 """
 import os
 import random
-import resource
 import struct
-import subprocess
 import sys
 import tempfile
 
+from program import DidNotEnd, cpu_seconds, run
+
 NETWORK = os.path.join(os.path.dirname(os.path.abspath(__file__)), "rows", "stream-of-two-messages", "network.json")
-ROOM, ROUNDS = 64 * 2**20, 5
+SPACE, ROUNDS = 64 * 2**20, 5
 PROTOCOL = struct.pack(">2H", 4, 1)
 NOTHING = "keys 0\nunassigned 0\ngaps %d\nskipped %d\n"
 
@@ -124,19 +124,12 @@ def too_many_templates():
     yield "memory 900\n"
 
 
-def busy():
-    """The processor time of all processes that were waited for."""
-    used = resource.getrusage(resource.RUSAGE_CHILDREN)
-    return used.ru_utime + used.ru_stime
-
-
 def seconds(program, path, text, status=0):
-    bound = lambda: resource.setrlimit(resource.RLIMIT_AS, (ROOM, ROOM))
-    before = busy()
-    run = subprocess.run([program, "collect", NETWORK, path], stdout=subprocess.PIPE, preexec_fn=bound, timeout=60)
-    taken = busy() - before
-    if run.stdout.decode() != text or run.returncode != status:
-        raise ValueError("status %d, printed %r in place of %r" % (run.returncode, run.stdout[:100], text))
+    before = cpu_seconds()
+    ran = run([program, "collect", NETWORK, path], seconds=60, space=SPACE)
+    taken = cpu_seconds() - before
+    if ran.stdout.decode() != text or ran.returncode != status:
+        raise ValueError("status %d, printed %r instead of %r" % (ran.returncode, ran.stdout[:100], text))
     return taken
 
 
@@ -155,7 +148,7 @@ def growth(program, stream):
 
 
 def starved(program, stream):
-    return True, "%.3f s, for want of memory" % measured(program, stream(), 4)
+    return True, "%.3f s, out of memory" % measured(program, stream(), 4)
 
 
 def main(program):
@@ -163,7 +156,7 @@ def main(program):
     for stream, way in [(stream, growth) for stream in STREAMS] + [(too_many_templates, starved)]:
         try:
             right, said = way(program, stream)
-        except (ValueError, subprocess.TimeoutExpired) as fault:
+        except (ValueError, DidNotEnd) as fault:
             right, said = False, str(fault)
         failed += not right
         print("%-24s %s%s" % (stream.__name__.replace("_", " "), said, "" if right else "   FAILED"))

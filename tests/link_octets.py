@@ -1,14 +1,13 @@
 #!/usr/bin/env python3
 """link_octets.py PROGRAM: has other programs read what `run` puts on links.
 
-Runs the program over captures in some networks, and has each link's octets read by tshark (as datagrams of a capture
-that is made for it), by ipfixDump (as an IPFIX file, RFC 5655) and by nfcapd (as datagrams over the loopback), of
-Debian's packages tshark, libfixbuf-tools and nfdump; where one isn't there, says so and goes without it. All must read
-the same records, nfcapd with no gap in the sequence numbers, and `collect` the same sums as they. nfcapd knows no
-prefixes: of records by prefix it reads the counts alone. On a link that carries each packet of the capture once the sums
-must be those of its packets, and at the report's the totals those that `run` prints.
+Runs the program over captures in some networks, and has each link's octets read by tshark (as datagrams of a capture that is made
+for it), by ipfixDump (as an IPFIX file, RFC 5655) and by nfcapd (as datagrams over the loopback), of Debian's packages tshark,
+libfixbuf-tools and nfdump; one that is missing is listed as not run. All must read the same records, nfcapd with no gap in the sequence
+numbers, and `collect` the same sums as they. nfcapd knows no prefixes: of records by prefix it reads only the counts. On a link
+that carries each packet of the capture once the sums must be those of its packets, and at the report the totals that `run` prints.
 
-Prints `N links, M failed`; the exit status is 1 where one failed.
+Prints `N links, M failed`; the exit status is 1 if one failed.
 """
 import ipaddress
 import itertools
@@ -17,11 +16,11 @@ import re
 import shutil
 import socket
 import struct
-import subprocess
 import sys
 import tempfile
 import time
 
+from program import NOWHERE, PIPE, start, succeed
 from verdict import not_run
 
 HERE = os.path.dirname(os.path.abspath(__file__))
@@ -58,7 +57,7 @@ def of_tshark(folder, octets):
     with open(os.path.join(folder, "link.pcap"), "wb") as file:
         file.write(as_datagrams(octets))
     words = ["tshark", "-n", "-r", "link.pcap", "-d", "udp.port==4739,cflow", "-V", "-O", "cflow"]
-    text = subprocess.run(words, cwd=folder, stdout=subprocess.PIPE, stderr=subprocess.DEVNULL, check=True).stdout.decode()
+    text = succeed(words, folder, stderr=NOWHERE).stdout.decode()
     if "Malformed" in text or "No template" in text:
         raise SystemExit("tshark doesn't read the octets:\n" + text[:2000])
     for flow in re.split(r"^ +Flow \d+$", text, flags=re.M)[1:]:
@@ -72,7 +71,7 @@ def of_ipfix_dump(folder, octets):
     with open(os.path.join(folder, "link.ipfix"), "wb") as file:
         file.write(octets)
     words = ["ipfixDump", "--in", "link.ipfix", "--data"]
-    text = subprocess.run(words, cwd=folder, stdout=subprocess.PIPE, stderr=subprocess.DEVNULL, check=True).stdout.decode()
+    text = succeed(words, folder, stderr=NOWHERE).stdout.decode()
     for flow in text.split("--- data record ")[1:]:
         found = dict(re.findall(r"(\w+) : (\S+)$", flow, flags=re.M))
         key = found.get("sourceIPv4Address") or found.get("sourceIPv6Address")
@@ -96,7 +95,7 @@ def of_nfcapd(folder, octets):
         free.bind(("127.0.0.1", 0))
         port = free.getsockname()[1]
     words = ["nfcapd", "-b", "127.0.0.1", "-p", str(port), "-w", flows, "-t", "86400"]
-    with subprocess.Popen(words, stdout=subprocess.DEVNULL, stderr=subprocess.PIPE, text=True) as collector:
+    with start(words, stdout=NOWHERE, stderr=PIPE, text=True) as collector:
         said = ""
         while "Startup" not in said:
             line = collector.stderr.readline()
@@ -111,7 +110,7 @@ def of_nfcapd(folder, octets):
     if "Sequence Errors: 0, Bad Packets: 0" not in said:
         raise SystemExit("nfcapd finds a gap or a message that it can't read:\n" + said)
     words = ["nfdump", "-R", flows, "-q", "-N", "-6", "-o", "fmt:%sa %pkt %byt"]
-    text = subprocess.run(words, stdout=subprocess.PIPE, stderr=subprocess.DEVNULL, check=True).stdout.decode()
+    text = succeed(words, stderr=NOWHERE).stdout.decode()
     for flow in text.splitlines():
         if flow.strip():
             key, packets, counted = flow.split()
@@ -153,13 +152,13 @@ def totals_in(text):
 def faults(program, folder, schedule, readers):
     """Yields what is wrong, link by link; None where nothing is."""
     words = ["network.json", "traffic.json", "capture.pcap", schedule, "--links", "link"]
-    run = subprocess.run([program, "run", *words], cwd=folder, stdout=subprocess.PIPE, check=True)
+    run = succeed([program, "run", *words], folder)
     links = sorted(name for name in os.listdir(folder) if re.fullmatch(r"link\d+", name))
     for link in links:
         with open(os.path.join(folder, link), "rb") as file:
             octets = file.read()
         read = {name: list(reader(folder, octets)) for name, reader in readers.items()}
-        collect = subprocess.run([program, "collect", "network.json", link], cwd=folder, stdout=subprocess.PIPE, check=True)
+        collect = succeed([program, "collect", "network.json", link], folder)
         collected = collect.stdout.decode()
         if "gaps 0\nskipped 0\n" not in collected:
             yield "%s: `collect` finds gaps or skips records" % link
@@ -169,7 +168,7 @@ def faults(program, folder, schedule, readers):
             yield "%s: `collect` prints %r, and `run` %r" % (link, collected, run.stdout.decode())
         elif link == links[-1] and any(
                 lines_of(records) != totals_in(collected) for records in read.values() if has_keys(records)):
-            yield "%s: the sums are %r in place of %r" % (link, read, collected)
+            yield "%s: the sums are %r instead of %r" % (link, read, collected)
         else:
             yield None
 

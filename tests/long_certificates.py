@@ -3,15 +3,15 @@
 
 Each is one tree, whose splits halve the sources of 10.0.0.0/8, made in a temporary folder, for the documents of the row
 certificate-of-one-leaf: with 499,999 splits it has the 1,000,000 split and leaf lines that a certificate may have, with
-500,000 splits one more. Prints a line for each that is answered otherwise, and last `N passed, M failed`; the exit
-status is 1 where one was.
+500,000 splits one more. Prints a line for each that is answered otherwise, and last `N passed, M failed`; the exit status is 1 if
+one was.
 """
 import os
-import subprocess
 import sys
 import tempfile
 
-from verdict import told
+from program import run
+from verdict import report_named
 
 ROW = os.path.join(os.path.dirname(os.path.abspath(__file__)), "rows", "certificate-of-one-leaf")
 SOURCES = (10 * 2**24, 11 * 2**24 - 1)
@@ -51,13 +51,13 @@ def write_certificate(path, splits):
 
 def faults(program, path, wanted, status):
     words = [program, "check", os.path.join(ROW, "network.json"), os.path.join(ROW, "traffic.json"), path]
-    run = subprocess.run(words, stdin=subprocess.DEVNULL, capture_output=True, timeout=120)
-    if run.stdout != wanted:
-        yield "printed %r in place of %r" % (run.stdout[:300], wanted)
-    if run.returncode != status:
-        yield "status %d in place of %d" % (run.returncode, status)
-    if run.stderr:
-        yield "printed %r on standard error" % run.stderr[:300]
+    ran = run(words)
+    if ran.stdout != wanted:
+        yield "printed %r instead of %r" % (ran.stdout[:300], wanted)
+    if ran.returncode != status:
+        yield "status %d instead of %d" % (ran.returncode, status)
+    if ran.stderr:
+        yield "printed %r on standard error" % ran.stderr[:300]
 
 
 def cases(program, path):
@@ -68,7 +68,7 @@ def cases(program, path):
 
 def main(program):
     with tempfile.TemporaryDirectory() as folder:
-        return told(cases(os.path.abspath(program), os.path.join(folder, "certificate.txt")))
+        return report_named(cases(os.path.abspath(program), os.path.join(folder, "certificate.txt")))
 
 
 if __name__ == "__main__":

@@ -1,25 +1,21 @@
 #!/usr/bin/env python3
 """long_runs.py PROGRAM [FRAMES]: runs over captures that come through a pipe, and runs that are broken off.
 
-First a capture of so many frames (50,000,000 where none are given) of 10,000 flows through a pipe, in 32 MiB of address
-space: the totals must be the sums. Then runs of a million frames that don't come to their end: ended by SIGTERM in the
-middle; with standard output closed before the answer; with links on a disk that is full (/dev/full); with a pipe that
-ends in the middle of a record. None of them may leave anything on standard output that looks like an answer, and what is
-answered must be its refusal. Prints a line for each and ends with 1 where one fails.
+First a capture of FRAMES frames (50,000,000 by default) of 10,000 flows through a pipe, in 32 MiB of address space: the totals must be
+the sums. Then runs of a million frames that don't reach their end: ended by SIGTERM in the middle; with standard output closed
+before the answer; with links on a disk that is full (/dev/full); with a pipe that ends in the middle of a record. None of them may
+leave anything on standard output that looks like an answer, and what is answered must be its refusal. Prints a line for each and
+ends with 1 if one fails.
 """
 import json
 import os
-import resource
 import signal
-import subprocess
 import sys
 import tempfile
 import time
 
-TOP = os.path.dirname(os.path.dirname(os.path.abspath(__file__)))
-sys.path.insert(0, os.path.join(TOP, "bench"))
-
-import run
+from program import PIPE, start
+from sample_networks import TRAFFIC, network, write_capture
 
 FLOWS = 10_000
 SPACE = 32 << 20
@@ -28,7 +24,7 @@ MILLION = 1_000_000
 
 def documents(folder):
     """A meter with a timeout cache, and a collector that reports by its key."""
-    for name, value in (("network.json", run.network()), ("traffic.json", run.TRAFFIC)):
+    for name, value in (("network.json", network()), ("traffic.json", TRAFFIC)):
         with open(os.path.join(folder, name), "w") as file:
             json.dump(value, file)
     open(os.path.join(folder, "schedule"), "w").close()
@@ -37,19 +33,15 @@ def documents(folder):
 def capture(folder):
     """A capture's header, and one round of frames over all flows, which can stand behind itself."""
     path = os.path.join(folder, "round.pcap")
-    run.write_capture(path, FLOWS, FLOWS)
+    write_capture(path, FLOWS, FLOWS)
     with open(path, "rb") as file:
         octets = file.read()
     return octets[:24], octets[24:]
 
 
-def limit():
-    resource.setrlimit(resource.RLIMIT_AS, (SPACE, SPACE))
-
-
 def begin(program, folder, *more, **how):
     words = [program, "run", "network.json", "traffic.json", "/dev/stdin", "schedule", *more]
-    return subprocess.Popen(words, cwd=folder, stdin=subprocess.PIPE, preexec_fn=limit, **{"stdout": subprocess.PIPE, **how})
+    return start(words, folder, SPACE, stdin=PIPE, **how)
 
 
 def feed(ongoing, octets, rounds):

@@ -1,23 +1,34 @@
 #!/usr/bin/env python3
 """make_capture_frames.py [FOLDER]: writes the captures of crates/fx_tests_values/src/frames, and what each frame holds.
 
-scapy (Debian's package python3-scapy: run this with /usr/bin/python3) makes the frames and the captures, tshark tells
-each frame's fields. What a frame holds follows from these fields by our rules (docs/DECISIONS.md, "Captures and
-streams"), which let a reader read less than tshark does:
-- EtherTypes 0x8100 and 0x88a8 are tags; behind them 0x0800 and 0x86dd are packets, all others are other frames;
-- the protocol of IPv6 is the first of tshark's next headers that isn't passed over (0, 43, 44, 60); of such a header
-  the length is read too, or the fragment's offset, and behind a later fragment's header nothing;
-- only protocols 6, 17 and 132 have ports, and those of IPv4 only at fragment offset 0: there are none behind an
-  authentication header or in a tunnel, where tshark tells some;
+scapy (Debian's package python3-scapy, 2.5.0: run this with /usr/bin/python3) makes the 138 frames and the captures, in both octet
+orders, with microseconds and nanoseconds, of Ethernet and of raw packets; tshark (4.0.17) reports each frame's fields. The
+test `holds_what_tshark_tells` compares them with what the reader lends and skips. Made again, the files are the same. What a
+frame holds follows from these fields by our rules (docs/DECISIONS.md, "Captures and streams"), by which a reader reads less
+than tshark does:
+- EtherTypes 0x8100 and 0x88a8 are tags; after them 0x0800 and 0x86dd are packets, all others are other frames;
+- the protocol of IPv6 is the first of tshark's next headers that isn't skipped (0, 43, 44, 60); of such a header
+  the length is read too, or the fragment's offset, and after a later fragment's header nothing;
+- only protocols 6, 17 and 132 have ports, and those of IPv4 only at fragment offset 0: there are none after an
+  authentication header or in a tunnel, where tshark reports some;
 - a packet of IPv6 has 40 octets and its payload length, so the hop-by-hop header of a jumbogram isn't there;
-- a frame is malformed where tshark doesn't tell a field that is read, or tells a version or a length that can't be.
+- a frame is malformed if tshark doesn't report a field that is read, or reports a version or a length that can't be.
+
+Once, on 2026-11-24, 120,000 random frames were compared in the same way, by a small program over fx_pcap that wasn't kept: frames
+of scapy with up to three tags, five extension headers and tunnels, half of them changed or cut, in both orders and of both link
+types. On 119,277 the reader and tshark agreed: 100,943 packets with the same fields, 13,842 malformed frames, 4,492 others. On 696
+the reader found a packet of which tshark reported less (_ws.malformed, _ws.short, _ws.unreassembled), stopping at what the
+reader skips: wrong contents of an extension header, options of IPv4 that weren't captured, the rest of SCTP's header, the last
+four octets of a fragment header. On 27 raw frames of other versions tshark reported no version: 18 are short, 9 begin with ten
+octets of 0, which it takes for a link's header. On all 723 the reader answered as a few lines of Python do that read the octets
+by the RFCs.
 """
 import ipaddress
 import os
-import subprocess
 import sys
 import tempfile
 
+from program import NOWHERE, succeed
 import scapy
 from scapy.all import ARP, IP, TCP, UDP, Dot1AD, Dot1Q, Ether, ICMP, Padding, RawPcapWriter
 from scapy.contrib.igmp import IGMP
@@ -273,7 +284,7 @@ OTHER, MALFORMED = "Other", "Malformed"
 
 
 def output(words):
-    return subprocess.run(words, stdout=subprocess.PIPE, stderr=subprocess.DEVNULL, text=True, check=True).stdout
+    return succeed(words, stderr=NOWHERE, text=True).stdout
 
 
 def told_of(capture):

@@ -3,19 +3,31 @@
 
 The capture (250 packets of 64 flows of IPv4 and 6 packets of 2 flows of IPv6, each frame cut to 64 octets) is written
 into the first row's folder, read by the exporter, and what it sends over the loopback is stored, message after message,
-in each row. What must be printed is counted over the capture: packets and the lengths that their IP headers give, in the
-first row by the addresses of IPv4, protocol and class of service, in the second by those of IPv6 and the version; the
-records of the other version's flows are unassigned. The gaps are counted from the messages' sequence numbers and record
-counts (RFC 7011, section 3.1). Where a message has a template with a counter of another length than 8 octets, what must
-be printed is 618 at that message. The export times are those of the day.
+in each row. What must be printed is counted over the capture, never by the program: packets and the lengths that their IP
+headers give, in the first row by the addresses of IPv4, protocol and class of service, in the second by those of IPv6 and the
+version; the records of the other version's flows are unassigned. The gaps are counted from the messages' sequence numbers and
+record counts (RFC 7011, section 3.1). If a message has a template with a counter of another length than 8 octets, 618 at that
+message must be printed. The export times are those of the day.
+
+- stream-of-pmacctd is what pmacctd (Debian's package pmacct, 1.7.7) sends with its plugin nfprobe, version 10, for capture.pcap
+  beside it (pcap_savefile), with counters of 8 octets; `unassigned 2`.
+- stream-of-pmacctd-by-addresses-of-ipv6 is the same stream under a report by the version and the addresses of IPv6;
+  `unassigned 64`.
+- stream-of-softflowd is what `softflowd -v 10 -r` (1.1.0) sends for the same capture, with counters of 4 octets: 618 at its
+  first message.
+- run-over-the-capture-of-pmacctd meters that capture, its packets of IPv4: the totals must be those of pmacctd's stream.
+
+The capture is the same each time. Made again, the stream of pmacctd differs in its export times only, that of softflowd also in
+its records' order and the clock of its start; what must be printed stays the same.
 """
 import os
 import random
 import socket
 import struct
-import subprocess
 import sys
 import tempfile
+
+from program import NOWHERE, start
 
 HERE = os.path.dirname(os.path.abspath(__file__))
 ROWS = {"pmacctd": {"stream-of-pmacctd": 4, "stream-of-pmacctd-by-addresses-of-ipv6": 6},
@@ -197,7 +209,7 @@ def sent(exporter, capture):
         receiver.bind(("127.0.0.1", 0))
         receiver.settimeout(1)
         words = words_of(exporter, capture, receiver.getsockname()[1], work)
-        run, quiet = subprocess.Popen(words, stdout=subprocess.DEVNULL, stderr=subprocess.DEVNULL), 0
+        run, quiet = start(words, stdout=NOWHERE, stderr=NOWHERE), 0
         while quiet < QUIET and (run.poll() is None or quiet < 1):
             try:
                 messages.append(receiver.recv(65535))

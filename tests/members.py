@@ -1,20 +1,20 @@
 #!/usr/bin/env python3
-"""members.py PROGRAM: whether `lint --words` names, for each object, the members that the schemas of docs/schemas allow.
+"""members.py PROGRAM: checks that `lint --words` names, for each object, the members that the schemas of docs/schemas allow.
 
-Each object of the documents of `schema_cases` gets a member more, of a name that is near none. Behind `refused 102` must
-stand those members that the object's schema names and the object doesn't have, but for those that are refused with a
-number of their own, whose schema is `"not": {}`, and those of a choice (`oneOf`) of which the object has another.
+Each object of the documents of `schema_cases` gets one more member, with a name that is near none. After `refused 102` the program must name
+those members that the object's schema has and the object doesn't, except those that are refused with a number of their own, whose
+schema is `"not": {}`, and those of a choice (`oneOf`) of which the object has another.
 
-Prints a line for each object that isn't told so, and last `N passed, M failed`. The exit status is 1 where one failed.
+Prints a line for each object with other names, and last `N passed, M failed`. The exit status is 1 if one failed.
 """
 import copy
 import json
 import os
-import subprocess
 import sys
 import tempfile
 
-from verdict import told
+from program import run
+from verdict import report_named
 
 TOP = os.path.dirname(os.path.dirname(os.path.abspath(__file__)))
 STRANGE = "zzzzzzzz"
@@ -80,11 +80,11 @@ def allowed(program, folder, documents):
         files.append(os.path.join(folder, name))
         with open(files[-1], "w", encoding="utf-8") as file:
             json.dump(value, file)
-    run = subprocess.run([program, "lint", *files, "--words"], stdout=subprocess.PIPE, text=True, timeout=60)
-    for line in run.stdout.splitlines():
+    ran = run([program, "lint", *files, "--words"], text=True)
+    for line in ran.stdout.splitlines():
         if line.startswith(BEGIN):
             return [name for name in line[len(BEGIN) :].split(", ") if name != "none"]
-    return run.stdout[:300]
+    return ran.stdout[:300]
 
 
 def cases(program, folder, kind):
@@ -104,7 +104,7 @@ def cases(program, folder, kind):
         wanted = [name for name in names if name not in there and not (made and name in choice)]
         where = "/".join(map(str, ("",) + place))
         wrong = not isinstance(found, list) or sorted(found) != sorted(wanted)
-        yield "%s %s" % (kind, where), ["names %r in place of %r" % (found, wanted)] if wrong else []
+        yield "%s %s" % (kind, where), ["names %r instead of %r" % (found, wanted)] if wrong else []
 
 
 if __name__ == "__main__":
@@ -112,4 +112,4 @@ if __name__ == "__main__":
         sys.exit(__doc__)
     with tempfile.TemporaryDirectory() as folder:
         program = os.path.abspath(sys.argv[1])
-        sys.exit(told(case for kind in ("network", "traffic") for case in cases(program, folder, kind)))
+        sys.exit(report_named(case for kind in ("network", "traffic") for case in cases(program, folder, kind)))

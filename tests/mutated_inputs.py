@@ -1,14 +1,14 @@
 #!/usr/bin/env python3
 """mutated_inputs.py PROGRAM [--each N] [--seed N] [--jobs N] [KIND..]: runs the program over inputs that were changed.
 
-Takes the rows of `rows/`, and in each of N runs of a kind changes one file of a row (N is 200 where none is given): some
-octets become others, go, come, or come twice, numbers become others, lines or pieces change places, or it is cut. Kinds
-are network, traffic, certificate, refutation, run, capture, schedule, stream and bundle. Each run must end by itself,
-within ten seconds and a microsecond for each octet, in 64 MiB of address space, with a status of the table and what is
-printed with it: 0 an answer, 1 `no N PLACE` or a refutation, 2 `refused N PLACE`, 3 `unknown 601`, and nothing on
-standard error. Devices (5) don't fail here, and the words parse (no 6). Memory (4) fails only where an audit comes to a
-refutation of more than 500,000 steps, which has 1,000,000 at most: it must be written in 96 MiB. Prints each run that
-doesn't, and keeps its files in a folder that it names; last a line for each kind with how many runs ended with each status.
+Takes the rows of `rows/`, and in each of N runs of a kind (200 by default) changes one file of a row: some octets become others, go, come, or come
+twice, numbers become others, lines or pieces change places, or it is cut. Kinds are network, traffic, certificate, refutation, run,
+capture, schedule, stream and bundle. Each run must end by itself, within ten seconds and a microsecond for each octet, in
+64 MiB of address space, with a status of the table and what is printed with it: 0 an answer, 1 `no N PLACE` or a refutation,
+2 `refused N PLACE`, 3 `unknown 601`, and nothing on standard error. Devices (5) don't fail here, and the arguments parse (no 6). Memory (4)
+fails only if an audit comes to a refutation of more than 500,000 steps, which has 1,000,000 at most: it must be written in
+96 MiB. Prints each run that doesn't, and keeps its files in a folder that it names; last a line for each kind with how many runs
+ended with each status.
 """
 import argparse
 import collections
@@ -17,9 +17,10 @@ import os
 import random
 import re
 import shutil
-import subprocess
 import sys
 import tempfile
+
+from program import DidNotEnd, run
 
 HERE = os.path.dirname(os.path.abspath(__file__))
 ROWS = os.path.join(HERE, "rows")
@@ -144,7 +145,7 @@ def mutated(chance, octets):
 
 def run_in(space, program, words, given, folder, seconds):
     limited = ["prlimit", "--as=%d" % space, program, *words]
-    return subprocess.run(limited, input=given, capture_output=True, cwd=folder, timeout=seconds)
+    return run(limited, folder, given, seconds)
 
 
 def try_one(program, seed, given):
@@ -162,7 +163,7 @@ def try_one(program, seed, given):
         if run.returncode == 4:
             longest = run_in(MORE_SPACE, program, words, files.get("stdin", b""), folder, seconds)
             run = longest if longest.stdout.count(b"\n") > MANY_STEPS else run
-    except subprocess.TimeoutExpired:
+    except DidNotEnd:
         return None, "%s %s: no end within %.1f s" % (folder, words, seconds)
     form = PRINTED.get(run.returncode)
     if form is None or not form.fullmatch(run.stdout) or run.stderr:

@@ -1,21 +1,22 @@
 #!/usr/bin/env python3
-"""pages.py PROGRAM: runs the command lines of pages for users as they are written, and compares what they print.
+"""pages.py PROGRAM: runs the commands of pages for users as they are written, and compares what they print.
 
-Blocks that are set in by four spaces and begin with `$ ` are run, those of one heading in one session from the top of
-the repository: each line behind `$ `, with PROGRAM as `once` and tools/once-import, and what it prints must be the lines that follow. Blocks
-without `$ ` are of a network of the reader's. Prints a line for each that differs, and last how many passed.
+Blocks that are indented by four spaces and begin with `$ ` are run, those of one heading in one session from the top of the
+repository: each line after `$ `, with PROGRAM as `once` and tools/once-import; what it prints must be the lines that follow. Blocks
+without `$ ` are about a network of the reader's. Prints a line for each that differs, and last how many passed.
 """
 import os
 import re
-import subprocess
 import sys
 import tempfile
+
+from program import WITH_OUTPUT, run
 
 TOP = os.path.dirname(os.path.dirname(os.path.abspath(__file__)))
 PAGES = ["README.md", "docs/GUIDE.md", "tools/README.md"]
 # What a reader does by hand behind a sentence, as a command.
 BY_HAND = {
-    "To mend it, take the second observation point": """python3 - <<'END'
+    "To fix it, remove the second observation point": """python3 - <<'END'
 import json
 document = json.load(open("network.json"))
 del document["devices"][0]["config"]["ietf-ipfix-psamp:ipfix"]["observationPoint"][1]
@@ -55,13 +56,12 @@ def main(program):
                 text = file.read()
             for session in sessions(text):
                 script = "".join("%s\nprintf '\\0'\n" % command for command, _ in session).replace("/tmp/", made + "/tmp/")
-                run = subprocess.run(
-                    ["bash", "-c", script], cwd=TOP, stdout=subprocess.PIPE, stderr=subprocess.STDOUT, text=True,
-                    env={**os.environ, "PATH": made + ":" + os.environ["PATH"]})
-                for (command, wanted), found in zip(session, run.stdout.split("\0")):
+                environment = {**os.environ, "PATH": made + ":" + os.environ["PATH"]}
+                ran = run(["bash", "-c", script], TOP, seconds=600, stderr=WITH_OUTPUT, text=True, env=environment)
+                for (command, wanted), found in zip(session, ran.stdout.split("\0")):
                     passed, failed = passed + (found == wanted), failed + (found != wanted)
                     if found != wanted:
-                        print("%s: %s: printed %r in place of %r" % (page, command, found, wanted))
+                        print("%s: %s: printed %r instead of %r" % (page, command, found, wanted))
     print("pages: %d passed, %d failed" % (passed, failed))
     return 1 if failed else 0
 

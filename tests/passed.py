@@ -9,19 +9,18 @@ there is no such commit.
 """
 import argparse
 import os
-import subprocess
 import sys
 
 sys.dont_write_bytecode = True
-sys.path.insert(0, os.path.dirname(os.path.realpath(__file__)))
 from gate import kit_folder
+import program
 from mutation.store import Store, digest, store_folder
 
 PARTS = ("src", "specs", "proofs")
 
 
 def git(*arguments):
-    ran = subprocess.run(["git", *arguments], stdout=subprocess.PIPE, stderr=subprocess.DEVNULL, text=True)
+    ran = program.run(["git", *arguments], stderr=program.NOWHERE, text=True)
     return ran.stdout if ran.returncode == 0 else ""
 
 

@@ -1,12 +1,12 @@
 #!/usr/bin/env python3
-"""Lists what the gate would still have to prove and try on this machine, with the time that docs/GATE.md has for each.
+"""Lists what the gate would still have to prove and try on this machine, with the times of docs/GATE.md.
 
 usage: pending.py
 
 Run at the top of the repository. A crate is listed if `rt ci` keeps no proof of its present files over the present libraries below it,
-its tests if no proof of them is kept, and its mutants if no verdict on them is. Times are in seconds of processor time, from
-the table of docs/GATE.md; a crate that the table lacks is counted by its lines. The last line has the sum, and what it takes by
-the clock on the processors of this machine.
+its tests if no proof of them is kept, and its mutants if no verdict on them is. Times are in seconds of CPU time, from the table of
+docs/GATE.md; a crate that the table lacks is counted by its lines. The last line has the sum, and the minutes on the processors
+of this machine.
 """
 import hashlib
 import json
@@ -15,7 +15,6 @@ import re
 import sys
 
 sys.dont_write_bytecode = True
-sys.path.insert(0, os.path.dirname(os.path.realpath(__file__)))
 import mutants
 from kit import load_rt
 
@@ -91,7 +90,7 @@ def main():
     for name, seconds in found:
         print(f"{name}, {seconds:.0f} s")
     whole, lanes = sum(it for _, it in found), rt.processors()
-    print(f"pending: {whole / 60:.0f} minutes of processor time, some {whole / 60 / lanes:.0f} by the clock on {lanes} processors")
+    print(f"pending: {whole / 60:.0f} minutes of CPU time, some {whole / 60 / lanes:.0f} minutes on {lanes} processors")
     return 0
 
 

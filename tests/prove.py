@@ -10,9 +10,10 @@ here before. The exit status is 0 if all crates are proved, their tests pass, an
 """
 import os
 import shutil
-import subprocess
 import sys
 import tempfile
+
+from program import PIPE, WITH_OUTPUT, run, start
 
 HERE = os.path.dirname(os.path.realpath(__file__))
 PARTS = ("src", "specs", "proofs", "c", "mutants")
@@ -34,8 +35,8 @@ def copy_crates(room):
 def start_mutants(room, anew, said):
     """Starts the trials of mutants, which go on until their standard input ends and no more are ready."""
     words = [sys.executable, f"{HERE}/mutants.py", "--as-built", "--follow", *anew]
-    how = {"stdin": subprocess.PIPE, "stdout": said, "stderr": subprocess.STDOUT, "cwd": room}
-    return subprocess.Popen(words, preexec_fn=lambda: os.nice(NICE), **how)
+    how = {"stdin": PIPE, "stdout": said, "stderr": WITH_OUTPUT, "folder": room}
+    return start(words, preexec_fn=lambda: os.nice(NICE), **how)
 
 
 def main(arguments):
@@ -45,7 +46,7 @@ def main(arguments):
         copy_crates(room)
         mutants = start_mutants(room, arguments, said)
         try:
-            status = subprocess.run(["rt", "ci", *arguments], stdin=subprocess.DEVNULL).returncode
+            status = run(["rt", "ci", *arguments], seconds=None, stdout=None, stderr=None).returncode
         finally:
             mutants.stdin.close()
             tried = mutants.wait()
@@ -54,7 +55,7 @@ def main(arguments):
         print(text, end="", flush=True)
     if UNTRIED in text and not status:
         # (where `rt ci` keeps nothing, its libraries lie in out/ now)
-        tried = subprocess.run([sys.executable, f"{HERE}/mutants.py", "--as-built"], stdin=subprocess.DEVNULL).returncode
+        tried = run([sys.executable, f"{HERE}/mutants.py", "--as-built"], seconds=None, stdout=None, stderr=None).returncode
     return 1 if status or tried else 0
 
 

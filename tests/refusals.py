@@ -1,12 +1,12 @@
 #!/usr/bin/env python3
-"""refusals.py [--compare]: writes docs/REFUSALS.md, all refusals in words, from the tables of crates/fx_words/src.
+"""refusals.py [--compare]: writes docs/REFUSALS.md, an explanation of each refusal, from the tables of crates/fx_words/src.
 
-Each number stands there with its constant (crates/fx_base/src/refusals.rt), what is wrong, the usual causes, what to do and
-where to read on, and with an example or a row of tests/rows that is answered so, where there is one.
+Each number has its constant (crates/fx_base/src/refusals.rt), what is wrong, the usual causes, what to do and where to read on,
+and an example or a row of tests/rows with this answer, if there is one.
 
-  --compare  writes nothing: says where docs/REFUSALS.md isn't what it should be, which numbers have no words or
-             more than one row of them, which words have no number or aren't plain ASCII, and which numbers README.md has in a
-             table that are no refusal's; the exit status is then 1
+  --compare  writes nothing: reports where docs/REFUSALS.md is out of date, which numbers have no texts or more than one
+             row of them, which texts have no number or are not plain ASCII, and which numbers in a table of README.md are not
+             refusals; the exit status is then 1
 """
 import glob
 import os
@@ -19,11 +19,9 @@ TABLES = os.path.join(TOP, "crates", "fx_words", "src")
 
 HEAD = """# Refusals
 
-What each number says that the program answers, what it usually comes of, and what to do. `refused N PLACE`, `no N PLACE`,
-`unknown N`, `memory N` and `device N` are such answers; behind the number stands the place, where one is told: a JSON
-Pointer (RFC 6901) into a document, a line of a text, or an octet. FORMATS is `docs/FORMATS.md`.
+What each number means that the program answers, its usual causes, and what to do. Answers are `refused N PLACE`, `no N PLACE`, `unknown N`, `memory N` and `device N`; the place, if there is one, is a JSON Pointer (RFC 6901) into a document, a line of a text, or an octet. [FORMATS](FORMATS.md) describes each text. An example is a folder with this answer.
 
-This page is written by `tests/refusals.py` from the tables of `crates/fx_words/src`, which the program prints.
+`tests/refusals.py` writes this page from the tables of `crates/fx_words/src`, which `once explain` prints.
 
 """
 
@@ -56,34 +54,30 @@ def tables():
 
 
 def answers():
-    """Answers by their number, with the folder that has them: examples first, then rows, short names first."""
+    """The folder that has an answer of each number: examples first, then rows, short names first."""
     found = {}
     for kind, names in (("examples", r"answer.*\.txt"), ("tests/rows", r"stdout")):
         for folder in sorted(glob.glob(f"{TOP}/{kind}/*/"), key=lambda name: (len(name), name)):
             for name in sorted(os.listdir(folder)):
                 if re.fullmatch(names, name):
                     with open(os.path.join(folder, name), encoding="utf-8", errors="replace") as file:
-                        answer = re.match(r"(?:refused|no|unknown|memory|device) (\d+)\b.*", file.readline())
+                        answer = re.match(r"(?:refused|no|unknown|memory|device) (\d+)\b", file.readline())
                     if answer:
-                        found.setdefault(int(answer[1]), (os.path.relpath(folder, TOP), answer[0].strip()))
+                        found.setdefault(int(answer[1]), os.path.relpath(folder, TOP))
     return found
-
-
-def anchor(number, name):
-    return f"[{number}](#{number}-{name.lower()})"
 
 
 def section(number, row, answered):
     """The lines of a number."""
     name, wrong, cause, cure, place = row
     yield f"### {number} {name}\n\n{wrong}\n\n"
-    yield f"- Usually: {cause}\n"
-    yield f"- What to do: {cure}\n"
-    if place:
-        yield f"- See: {place}\n"
+    yield f"- Causes: {cause}\n"
+    yield f"- Fix: {cure}\n"
+    sources = [it for it in place.split("; ") if it and not it.startswith("FORMATS")]
+    if sources:
+        yield f"- See: {'; '.join(sources)}\n"
     if number in answered:
-        folder, answer = answered[number]
-        yield f"- Example: `{folder}` is answered `{answer}`\n"
+        yield f"- Example: `{answered[number]}`\n"
     yield "\n"
 
 
@@ -97,11 +91,8 @@ def page(named):
             hundreds.append((rows[0][0] // 100, title, rows))
     text, answered = HEAD, answers()
     for hundred, title, rows in sorted(hundreds):
-        text += f"- {hundred}xx, {title}: {', '.join(anchor(number, row[0]) for number, row in rows)}\n"
-    for hundred, title, rows in sorted(hundreds):
-        text += f"\n## {hundred}xx: {title}\n\n" + "".join(line for row in rows for line in section(*row, answered))
-        text = text.rstrip("\n") + "\n"
-    return text
+        text += f"## {hundred}xx: {title}\n\n" + "".join(line for row in rows for line in section(*row, answered))
+    return text.rstrip("\n") + "\n"
 
 
 def faults(named):
@@ -109,14 +100,14 @@ def faults(named):
     worded = [row[0] for _, rows in tables() for row in rows]
     for number, name in named.items():
         if worded.count(name) != 1:
-            yield f"{number} {name}: {'no words' if name not in worded else 'words more than once'} in crates/fx_words"
+            yield f"{number} {name}: {'no texts' if name not in worded else 'texts more than once'} in crates/fx_words"
     for _, rows in tables():
         for name, *texts in rows:
             if any(not " " <= character <= "~" for text in texts for character in text):
                 yield f"{name}: a character that isn't plain ASCII"
     for name in worded:
         if name not in named.values():
-            yield f"{name}: words of a number that isn't in crates/fx_base/src/refusals.rt"
+            yield f"{name}: texts of a number that isn't in crates/fx_base/src/refusals.rt"
     for cell in re.findall(r"^\| *((?:\d{3}(?:, )?)+) *\|", read("README.md"), re.M):
         for number in map(int, re.findall(r"\d+", cell)):
             if number not in named:
@@ -131,7 +122,7 @@ def main():
         with open(PAGE, "w", encoding="utf-8") as file:
             file.write(text)
     elif not os.path.exists(PAGE) or read("docs", "REFUSALS.md") != text:
-        wrong.append("docs/REFUSALS.md isn't what it should be: tests/refusals.py")
+        wrong.append("docs/REFUSALS.md is out of date: run tests/refusals.py")
     for line in wrong:
         print(line)
     print(f"refusals: {len(named)} numbers, {len(wrong)} wrong")

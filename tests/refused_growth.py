@@ -1,21 +1,21 @@
 #!/usr/bin/env python3
 """refused_growth.py PROGRAM: runs the program with growths of its memory refused, by refused_growth.c, which `cc` builds.
 
-Of each row the first growth is refused with all behind it, then the second with all behind it, and so on until a run
-meets no refusal: each must print `memory 900` alone and end with status 4, but the last, which prints what the row does.
-Then the same with each growth refused alone. What a refused run has put on a link is the beginning of what it should be,
-of whole messages. Last, of certificates of one leaf and of 1,000,000 lines: as many growths are asked for; none is asked
-for from the first read of the certificate on; and where all from there on would be refused the answer is the same.
-Prints a line for each run and ends with 1 where one fails.
+Of each row the first growth is refused with all later ones, then the second with all later ones, and so on until a run meets no
+refusal: each must print `memory 900` alone and end with status 4, except the last, which prints what the row does. Then the same with
+each growth refused alone. What a refused run has put on a link is the beginning of what it should be, of whole messages. Last, of
+certificates of one leaf and of 1,000,000 lines: as many growths are asked for; none is asked for from the first read of the
+certificate on; and if all from there on would be refused the answer is the same. Prints a line for each run and ends with 1 if one
+fails.
 """
 import os
 import re
 import shutil
-import subprocess
 import sys
 import tempfile
 
 from long_certificates import ROW, write_certificate
+from program import run, succeed
 
 HERE = os.path.dirname(os.path.abspath(__file__))
 ROWS = os.path.dirname(ROW)
@@ -54,7 +54,7 @@ class Shim:
         self.program, self.name, self.tells = program, name, tells
         self.library, self.told = os.path.join(folder, name + ".so"), os.path.join(folder, name + ".txt")
         source = os.path.join(HERE, name + ".c")
-        subprocess.run(["cc", "-O2", "-Wall", "-shared", "-fPIC", "-o", self.library, source], check=True)
+        succeed(["cc", "-O2", "-Wall", "-shared", "-fPIC", "-o", self.library, source])
 
     def run(self, words, given=b"", folder=None, **asked):
         """What is printed, the status, and the numbers that the library tells; what is asked of it are its variables."""
@@ -62,7 +62,7 @@ class Shim:
         how = {**os.environ, **asked, "LD_PRELOAD": self.library, self.tells: self.told}
         if os.path.exists(self.told):
             os.remove(self.told)
-        done = subprocess.run([self.program] + words, input=given, capture_output=True, cwd=folder, env=how, timeout=120)
+        done = run([self.program] + words, folder, given, env=how)
         try:
             with open(self.told) as file:
                 told = list(map(int, file.read().split()))
@@ -125,7 +125,7 @@ def lengths(shim, folder):
         for watched in ("", path):
             said, status, told = shim.run(words, GROWTH_WATCHED=watched)
             if (said, status, told[1], told[2]) != (b"yes\n", 0, 0, int(watched == path)):
-                return False, "%d splits: status %d, printed %r, told %r" % (splits, status, said[:200], told)
+                return False, "%d splits: status %d, printed %r, counted %r" % (splits, status, said[:200], told)
             counts.append(told[0])
     return len(set(counts)) == 1 and counts[0] > 0, "%s growths, none once it is read" % " and ".join(map(str, sorted(set(counts))))
 
@@ -146,7 +146,7 @@ def main(program):
         runs = [
             (row + end, lambda row=row, behind=behind: sweep(shim, row, behind))
             for row in SWEPT
-            for behind, end in ((True, ", and all behind"), (False, ", alone"))
+            for behind, end in ((True, ", and all later ones"), (False, ", alone"))
         ]
         runs.append(("certificates of one leaf and of 1,000,000 lines", lambda: lengths(shim, folder)))
         failed = sum(not is_right(name, way()) for name, way in runs)

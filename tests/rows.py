@@ -1,31 +1,31 @@
 #!/usr/bin/env python3
 """rows.py PROGRAM [ROW..]: runs the program over the worked rows, each a folder of tests/rows.
 
-  words    the program's words, in one line; the files that they name stand beside it (no file: no words)
+  words    the program's arguments, in one line; the files that they name are beside it (no file: no arguments)
   stdin    what it gets on standard input (no file: nothing)
-  stdout   what it must print, octet for octet (no file: not looked at)
-  told     what stands behind that with `--words`, but for what is said of each refusal of its number (rows_in_words.py)
+  stdout   what it must print, octet for octet (no file: not compared)
+  told     what follows that with `--words`, except what is said of each refusal of its number (rows_in_words.py)
   output   the file that its standard output is, as /dev/full (no file: it is read)
   status   its exit status
-  refutes  stands there where it must print a refutation that `confirm` accepts, over the same documents; with a
-           number: one of so many steps
+  refutes  is there if it must print a refutation that `confirm` accepts, over the same documents; with a number: one of that many
+           steps
   linkN.hex, linkN.len, nolink.N
-           the octets that must stand in the file linkN, how many they must be, or that it must not be there; the
-           program runs in a copy of the folder
+           the octets that must be in the file linkN, how many they must be, or that it must not exist; the program runs in a
+           copy of the folder
   cuts     the name of a file that is cut to each of the lengths of cuts.txt: a line has the length, the exit status and
-           what must be printed, with `\n` for the ends of lines
+           what must be printed, with `\\n` for the ends of lines
 
-Prints a line for each row that fails, and last `N passed, M failed`. The exit status is 1 where a row failed.
+Prints a line for each row that fails, and last `N passed, M failed`. The exit status is 1 if a row failed.
 """
 import contextlib
 import os
 import shlex
 import shutil
-import subprocess
 import sys
 import tempfile
 
-from verdict import told
+from program import PIPE, run
+from verdict import report_named
 
 ROWS = os.path.join(os.path.dirname(os.path.abspath(__file__)), "rows")
 
@@ -58,10 +58,10 @@ def faults_of_cuts(program, folder):
         length, status, text = line.split(" ", 2)
         with open(os.path.join(folder, name), "wb") as file:
             file.write(whole[: int(length)])
-        run = subprocess.run([program] + words, cwd=folder, stdout=subprocess.PIPE, stderr=subprocess.PIPE, timeout=120)
+        ran = run([program] + words, folder)
         wanted = text.replace("\\n", "\n").encode()
-        if run.returncode != int(status) or run.stdout != wanted or run.stderr:
-            yield "cut to %s octets: status %d and %r" % (length, run.returncode, run.stdout[:300])
+        if ran.returncode != int(status) or ran.stdout != wanted or ran.stderr:
+            yield "cut to %s octets: status %d and %r" % (length, ran.returncode, ran.stdout[:300])
 
 
 def faults_of_links(folder):
@@ -70,48 +70,47 @@ def faults_of_links(folder):
         if kind == "hex":
             wanted, found = bytes.fromhex(octets_of(folder, name).decode()), octets_of(folder, link)
             if found != wanted:
-                yield "%s has %s in place of %s" % (link, found.hex()[:300], wanted.hex()[:300])
+                yield "%s has %s instead of %s" % (link, found.hex()[:300], wanted.hex()[:300])
         elif kind == "len" and len(octets_of(folder, link)) != int(octets_of(folder, name)):
-            yield "%s has %d octets in place of %d" % (link, len(octets_of(folder, link)), int(octets_of(folder, name)))
+            yield "%s has %d octets instead of %d" % (link, len(octets_of(folder, link)), int(octets_of(folder, name)))
         elif link == "nolink" and os.path.exists(os.path.join(folder, "link" + kind)):
-            yield "link%s is there" % kind
+            yield "link%s must not exist" % kind
 
 
 def faults_in(program, row):
     words = shlex.split(octets_of(row, "words").decode())
     output = octets_of(row, "output").decode().strip()
     with contextlib.ExitStack() as files:
-        to = files.enter_context(open(output, "wb")) if output else subprocess.PIPE
-        how = {"stdout": to, "stderr": subprocess.PIPE, "timeout": 120}
-        run = subprocess.run([program] + words, cwd=row, input=octets_of(row, "stdin"), **how)
+        to = files.enter_context(open(output, "wb")) if output else PIPE
+        ran = run([program] + words, row, octets_of(row, "stdin"), stdout=to)
     wanted, status = octets_of(row, "stdout", None), int(octets_of(row, "status"))
-    if wanted is not None and run.stdout != wanted:
-        yield "printed %r in place of %r" % (run.stdout[:300], wanted[:300])
-    if run.returncode != status:
-        yield "status %d in place of %d" % (run.returncode, status)
-    if run.stderr:
-        yield "printed %r on standard error" % run.stderr[:300]
+    if wanted is not None and ran.stdout != wanted:
+        yield "printed %r instead of %r" % (ran.stdout[:300], wanted[:300])
+    if ran.returncode != status:
+        yield "status %d instead of %d" % (ran.returncode, status)
+    if ran.stderr:
+        yield "printed %r on standard error" % ran.stderr[:300]
     steps = octets_of(row, "refutes", None)
     if steps is not None:
-        yield from unconfirmed(program, row, words[1:], run.stdout, steps.decode().strip())
+        yield from unconfirmed(program, row, words[1:], ran.stdout, steps.decode().strip())
 
 
 def unconfirmed(program, row, documents, refutation, steps):
     """Says why the printed refutation isn't what is wanted: the lines of its steps stand between two lines and `end`."""
     lines = refutation.decode().splitlines()
     if steps and len(lines) - 3 != int(steps):
-        yield "printed %d steps in place of %s" % (len(lines) - 3, steps)
+        yield "printed %d steps instead of %s" % (len(lines) - 3, steps)
     with tempfile.NamedTemporaryFile() as file:
         file.write(refutation)
         file.flush()
-        run = subprocess.run([program, "confirm", *documents, file.name], cwd=row, stdout=subprocess.PIPE, timeout=120)
-    if run.returncode != 0 or not run.stdout.startswith(b"refuted\n"):
-        yield "printed what `confirm` answers with %r" % run.stdout[:200]
+        ran = run([program, "confirm", *documents, file.name], row)
+    if ran.returncode != 0 or not ran.stdout.startswith(b"refuted\n"):
+        yield "printed what `confirm` answers with %r" % ran.stdout[:200]
 
 
 def main(program, names, faults=faults):
     program = os.path.abspath(program)
-    return told((name, faults(program, os.path.join(ROWS, name))) for name in names)
+    return report_named((name, faults(program, os.path.join(ROWS, name))) for name in names)
 
 
 if __name__ == "__main__":

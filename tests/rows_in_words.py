@@ -1,19 +1,19 @@
 #!/usr/bin/env python3
-"""rows_in_words.py PROGRAM [ROW..]: runs the worked rows with `--words`, in front of their other words and behind them.
+"""rows_in_words.py PROGRAM [ROW..]: runs the worked rows with `--words`, before their other arguments and after them.
 
-What stands first on standard output must be what the row prints without it, with the row's status, and nothing may
-stand on standard error. Behind a refusal, an answer of no and `unknown 601` must stand what is wrong and what to do; and in
-front of that the lines of the row's file `told`, where it has one.
+Standard output must begin with what the row prints without it, with the row's status, and nothing may be on standard error. A
+refusal, an answer of no and `unknown 601` must be followed by what is wrong and what to do; and before that by the lines of the row's
+file `told`, if it has one.
 
-Prints a line for each row that fails, and last `N passed, M failed`. The exit status is 1 where a row failed.
+Prints a line for each row that fails, and last `N passed, M failed`. The exit status is 1 if a row failed.
 """
 import os
 import re
 import shlex
-import subprocess
 import sys
 
 import rows
+from program import run
 from rows import ROWS, octets_of
 
 # A line after which a person has to do something.
@@ -34,22 +34,20 @@ def faults(program, row):
     words = shlex.split(octets_of(row, "words").decode())
     wanted, status = octets_of(row, "stdout", None), int(octets_of(row, "status"))
     for way in ways(words):
-        run = subprocess.run(
-            [program] + way, cwd=row, input=octets_of(row, "stdin"), stdout=subprocess.PIPE, stderr=subprocess.PIPE, timeout=120
-        )
-        if run.returncode != status:
-            yield "status %d in place of %d" % (run.returncode, status)
-        if wanted is not None and not run.stdout.startswith(wanted):
-            yield "printed %r in front, in place of %r" % (run.stdout[:200], wanted[:200])
-        if run.stderr:
-            yield "printed %r on standard error" % run.stderr[:200]
+        ran = run([program] + way, row, octets_of(row, "stdin"))
+        if ran.returncode != status:
+            yield "status %d instead of %d" % (ran.returncode, status)
+        if wanted is not None and not ran.stdout.startswith(wanted):
+            yield "printed %r first instead of %r" % (ran.stdout[:200], wanted[:200])
+        if ran.stderr:
+            yield "printed %r on standard error" % ran.stderr[:200]
         if wanted is not None and ASKS.match(wanted):
-            behind = run.stdout[len(wanted) :]
-            if b"\nwrong: " not in b"\n" + behind or b"\nwhat to do: " not in behind:
-                yield "printed no words behind %r: %r" % (wanted, behind[:200])
+            rest = ran.stdout[len(wanted) :]
+            if b"\nwrong: " not in b"\n" + rest or b"\nwhat to do: " not in rest:
+                yield "printed no explanation after %r: %r" % (wanted, rest[:200])
         told = octets_of(row, "told", None)
-        if told is not None and (b"\n" + told) not in b"\n" + run.stdout:
-            yield "told %r, which lacks %r" % (run.stdout, told)
+        if told is not None and (b"\n" + told) not in b"\n" + ran.stdout:
+            yield "explained %r, which lacks %r" % (ran.stdout, told)
 
 
 def is_read(name):

@@ -1,14 +1,13 @@
 #!/usr/bin/env python3
-"""schemas.py PROGRAM: holds the schemas of docs/schemas against what the program takes and refuses.
+"""schemas.py PROGRAM: compares the schemas of docs/schemas with what the program accepts and refuses.
 
-Of each network and traffic document of tests/rows and examples, and of the cases of tests/schema_cases: what the
-program takes the schema takes. What the program refuses the schema refuses, where the table of docs/schemas/README.md
-says that it sees the number; of a case it refuses what the case says, and the cases hold the table: only such as are
-seen, none, or both where a number is seen in part. Rows tell by what they expect which documents are taken; of the
-others and of the cases `lint` tells.
+Of each network and traffic document of tests/rows and examples, and of the cases of tests/schema_cases: what the program accepts the
+schema accepts. What the program refuses the schema refuses, if the table of docs/schemas/README.md says that it sees the number; of
+a case it refuses what the case says, and the cases check the table: only such as are seen, none, or both if a number is seen in
+part. Rows show by what they expect which documents are accepted; `lint` is asked about the others and about the cases.
 
-It needs Python's `jsonschema`, of version 4 or later; where that isn't there, nothing is held. Prints a line for each fault, and last
-`N passed, M failed`. The exit status is 1 where something failed.
+It needs Python's `jsonschema`, version 4 or later; without it nothing is compared. Prints a line for each fault, and last
+`N passed, M failed`. The exit status is 1 if something failed.
 """
 import concurrent.futures
 import glob
@@ -18,8 +17,8 @@ import re
 import sys
 import tempfile
 
-from schema_cases import reading, told
-from verdict import not_run, told_each
+from schema_cases import reading, verdicts
+from verdict import not_run, report_each
 
 TOP = os.path.dirname(os.path.dirname(os.path.abspath(__file__)))
 SCHEMAS = os.path.join(TOP, "docs", "schemas")
@@ -62,7 +61,7 @@ def judged(validator, said, octets, seen):
     except (ValueError, UnicodeDecodeError):
         return None
     fault = first_fault(validator, document)
-    if said == told.TAKEN and fault:
+    if said == verdicts.TAKEN and fault:
         return "is taken by the program and refused by the schema at " + fault
     if isinstance(said, int) and seen.get(said) == "yes" and not fault:
         return "is refused with %d and taken by the schema" % said
@@ -76,16 +75,16 @@ def stored(program):
     with tempfile.TemporaryDirectory() as made:
         for folder in folders:
             is_row = folder.startswith(TOP + "/tests/")
-            network, traffic = told.documents_of(folder) if is_row else (
-                told.octets_of(folder, "network.json"), told.octets_of(folder, "traffic.json"))
+            network, traffic = verdicts.documents_of(folder) if is_row else (
+                verdicts.octets_of(folder, "network.json"), verdicts.octets_of(folder, "traffic.json"))
             if not network or (network, traffic) in known:
                 continue
             known.add((network, traffic))
-            said = told.told(folder) if is_row else (told.TAKEN, told.TAKEN)
-            if told.ASK in said:
-                said = told.asked(program, made, network, traffic)
+            said = verdicts.of_row(folder) if is_row else (verdicts.TAKEN, verdicts.TAKEN)
+            if verdicts.ASK in said:
+                said = verdicts.asked(program, made, network, traffic)
             for kind, octets, word in zip(("network", "traffic"), (network, traffic), said):
-                if octets and word != told.UNREAD:
+                if octets and word != verdicts.UNREAD:
                     yield os.path.relpath(folder, TOP), kind, octets, word
 
 
@@ -105,7 +104,7 @@ def answer(program, kind, document):
             files.append(os.path.join(folder, name))
             with open(files[-1], "w", encoding="utf-8") as file:
                 json.dump(text, file)
-        return told.lint(program, *files)
+        return verdicts.lint(program, *files)
 
 
 def faults_of_cases(program, schemas, counts):
@@ -115,7 +114,7 @@ def faults_of_cases(program, schemas, counts):
         answers = pool.map(lambda case: answer(program, *case[3:]), cases)
         for (line, wanted, seen, kind, document), said in zip(cases, answers):
             fault = first_fault(schemas[kind], document)
-            if wanted != told.TAKEN:
+            if wanted != verdicts.TAKEN:
                 counts.setdefault(int(wanted), set()).add(seen)
             if str(said) != wanted:
                 yield "%s: the program says %s" % (line, said)
@@ -158,7 +157,7 @@ def main(program):
     found += faults_of_cases(program, schemas, counts)
     found += faults_of_table(seen, counts)
     found += faults_of_shared(schemas)
-    return told_each(found)
+    return report_each(found)
 
 
 if __name__ == "__main__":

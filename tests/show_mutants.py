@@ -13,7 +13,6 @@ import argparse
 import os
 import re
 import shutil
-import subprocess
 import sys
 import tempfile
 from concurrent.futures import ThreadPoolExecutor
@@ -21,24 +20,24 @@ from concurrent.futures import ThreadPoolExecutor
 sys.dont_write_bytecode = True
 HERE = os.path.dirname(os.path.realpath(__file__))
 TOP = os.path.dirname(HERE)
-sys.path[:0] = [HERE, f"{TOP}/packaging"]
-import build_unproved
 import rows
+import unproved
 from mutation.edits import IN_PLACE, TWIN, Edit, read
+from program import DidNotEnd, succeed
 
 SWITCH = "fx_mutant_switch"
-LIBRARY = f"""\
+LIBRARY = """\
 //! Which mutant is on.
 #![tactic(auto)]
 
-unsafe extern "C" {{
+unsafe extern "C" {
     safe fn once_mutant(number: u32) -> u32;
-}}
+}
 
 /// Returns whether the mutant of this number is on.
-pub fn is_on(number: u32) -> bool {{
+pub fn is_on(number: u32) -> bool {
     once_mutant(number) != 0
-}}
+}
 """
 CODE = """\
 #include <stdio.h>
@@ -105,7 +104,7 @@ def write_switched(room, mutants):
         shutil.copy(f"{TOP}/{name}", room)
     leave = shutil.ignore_patterns("out", "mutants", "__pycache__")
     shutil.copytree(f"{TOP}/crates", f"{room}/crates", ignore=leave)
-    subprocess.run(["git", "init", "-q", room], check=True)
+    succeed(["git", "init", "-q", room])
     os.makedirs(f"{room}/crates/{SWITCH}/c")
     for part in ("src", "specs", "proofs"):
         os.makedirs(f"{room}/crates/{SWITCH}/{part}")
@@ -149,7 +148,7 @@ def build(to):
             it.branches = []
         with tempfile.TemporaryDirectory(prefix="switched-") as room:
             write_switched(room, mutants)
-            is_built, said = build_unproved.build(room, to)
+            is_built, said = unproved.build(room, to)
         if is_built:
             return mutants
         errors = {(crate, path, int(line)) for crate, path, line in ERROR.findall(said)}
@@ -195,7 +194,7 @@ class Program:
         """Returns whether the row comes out otherwise than it must with this mutant."""
         try:
             return bool(list(rows.faults(self.with_mutant(number), f"{rows.ROWS}/{row}")))
-        except subprocess.TimeoutExpired:
+        except DidNotEnd:
             return True
 
     def reached(self, row):

@@ -1,13 +1,13 @@
 #!/usr/bin/env python3
-"""terminal.py PROGRAM: runs the program as a person does who is new to it.
+"""terminal.py PROGRAM: runs the program as a newcomer does.
 
-Without words on a terminal it must print its help and not wait. With words that don't parse it must end with status 6,
-and tell last what to do (`ADVICE`), without the tip that an option is a file's name. With `--words` it must not wait for
-a pipe that it has read to its end, and it must say of a directory that it is one and of standard input that it is closed,
-not write a link's file over one of a run's own. The lines of its help must have at most 100 columns, and it must take what
-stands there as an example: documents, certificate, refutation, run, schedule, totals and the lines for a shell.
+Without arguments on a terminal it must print its help and not wait. With arguments that don't parse it must end with status 6, and
+say last what to do (`ADVICE`), without the tip that an option is a file's name. With `--words` it must not wait for a pipe that it has read
+to its end, and it must say that a directory is one and that standard input is closed, and not write a link's file over one of
+the run's own. The lines of its help must have at most 100 columns, and it must accept the examples there: documents, certificate,
+refutation, run, schedule, totals and the lines for a shell.
 
-Prints a line for each fault, and last `N passed, M failed`. The exit status is 1 where something failed.
+Prints a line for each fault, and last `N passed, M failed`. The exit status is 1 if something failed.
 """
 import json
 import os
@@ -16,13 +16,13 @@ import shlex
 import shutil
 import socket
 import struct
-import subprocess
 import sys
 import tempfile
 import threading
 
 import rows
-from verdict import told
+from program import DidNotEnd, run
+from verdict import report_named
 
 FLAG = "Write %s once, without a value and in front of any --, behind which all words are files; it goes with %s."
 WORDS = FLAG % ("--words", "each command")
@@ -86,27 +86,25 @@ ADVICE = {
 def faults_on_terminal(program):
     own, other = pty.openpty()
     try:
-        wanted = subprocess.run([program, "--help"], stdout=subprocess.PIPE, timeout=60)
-        run = subprocess.run([program], stdin=other, stdout=subprocess.PIPE, stderr=subprocess.PIPE, timeout=60)
-    except subprocess.TimeoutExpired:
+        wanted = run([program, "--help"])
+        ran = run([program], stdin=other, seconds=60)
+    except DidNotEnd:
         yield "it waits"
         return
     finally:
         os.close(own)
         os.close(other)
-    if run.returncode != 0 or run.stderr:
-        yield "status %d, and %r on standard error" % (run.returncode, run.stderr[:200])
-    if not run.stdout or run.stdout != wanted.stdout:
-        yield "printed %r in place of its help" % run.stdout[:200]
+    if ran.returncode != 0 or ran.stderr:
+        yield "status %d, and %r on standard error" % (ran.returncode, ran.stderr[:200])
+    if not ran.stdout or ran.stdout != wanted.stdout:
+        yield "printed %r instead of its help" % ran.stdout[:200]
 
 
 def faults_of_words(program, words, advice):
-    run = subprocess.run(
-        [program, *shlex.split(words)], stdin=subprocess.DEVNULL, stdout=subprocess.PIPE, stderr=subprocess.PIPE, timeout=60
-    )
-    printed = run.stdout.decode()
-    if run.returncode != 6 or run.stderr:
-        yield "status %d, and %r on standard error" % (run.returncode, run.stderr[:200])
+    ran = run([program, *shlex.split(words)])
+    printed = ran.stdout.decode()
+    if ran.returncode != 6 or ran.stderr:
+        yield "status %d, and %r on standard error" % (ran.returncode, ran.stderr[:200])
     if not printed.startswith("error: ") or not printed.endswith("\n\nwhat to do: %s\n" % advice):
         yield "printed %r, which doesn't end in %r" % (printed, advice)
     if "to pass '" in printed or "\n\n\n" in printed:
@@ -123,35 +121,35 @@ def faults_of_pipe(program):
             feeder = threading.Thread(target=feed, args=(pipe, file.read()), daemon=True)
         feeder.start()
         try:
-            run = subprocess.run([program, "--words", *words[:-1], pipe], cwd=row, stdout=subprocess.PIPE, timeout=60)
-        except subprocess.TimeoutExpired:
-            yield "it waits for the pipe once more"
+            ran = run([program, "--words", *words[:-1], pipe], row, seconds=60)
+        except DidNotEnd:
+            yield "it waits for the pipe again"
             return
     wanted = rows.octets_of(row, "stdout") + (
         "%s can't be read once more, as a file can, so what stands there isn't told. Write it to a file first, and name that.\n"
         "what to do: `once explain NUMBER` tells what the number behind `no` means.\n" % pipe
     ).encode()
-    if run.stdout != wanted:
-        yield "printed %r in place of %r" % (run.stdout, wanted)
+    if ran.stdout != wanted:
+        yield "printed %r instead of %r" % (ran.stdout, wanted)
 
 
 def faults_of_directory(program):
     with tempfile.TemporaryDirectory() as folder:
-        run = subprocess.run([program, "lint", folder, "--words"], stdout=subprocess.PIPE, timeout=60)
+        ran = run([program, "lint", folder, "--words"])
         wanted = "device 901\nfile: %s: it is a directory\n" % folder
-        if run.returncode != 5 or not run.stdout.decode().startswith(wanted):
-            yield "status %d, printed %r, which doesn't begin with %r" % (run.returncode, run.stdout, wanted)
+        if ran.returncode != 5 or not ran.stdout.decode().startswith(wanted):
+            yield "status %d, printed %r, which doesn't begin with %r" % (ran.returncode, ran.stdout, wanted)
 
 
 def faults_of_closed_input(program):
-    run = subprocess.run([program, "--words"], preexec_fn=lambda: os.close(0), stdout=subprocess.PIPE, timeout=60)
+    ran = run([program, "--words"], preexec_fn=lambda: os.close(0))
     wanted = b"device 901\nfile: standard input: it is closed, it is a directory, or a read of it failed\n"
-    if run.returncode != 5 or not run.stdout.startswith(wanted):
-        yield "status %d, printed %r, which doesn't begin with %r" % (run.returncode, run.stdout, wanted)
+    if ran.returncode != 5 or not ran.stdout.startswith(wanted):
+        yield "status %d, printed %r, which doesn't begin with %r" % (ran.returncode, ran.stdout, wanted)
 
 
 def help_of(program, *command):
-    return subprocess.run([program, "help", *command], stdout=subprocess.PIPE, timeout=60).stdout.decode()
+    return run([program, "help", *command]).stdout.decode()
 
 
 def faults_of_width(program):
@@ -175,14 +173,14 @@ def write(folder, name, octets):
 
 def printed_by(program, folder, *words):
     """What the program prints in a folder."""
-    return subprocess.run([program, *words], cwd=folder, stdout=subprocess.PIPE, timeout=60).stdout.decode()
+    return run([program, *words], folder).stdout.decode()
 
 
 def faults_of_help_documents(program):
     """The documents that the help of `lint` shows must be accepted as they stand there, and counted once."""
     found = help_documents(program)
     if len(found) != 4:
-        yield "the help has %d documents in place of 4" % len(found)
+        yield "the help has %d documents instead of 4" % len(found)
         return
     for network, traffic in (found[:2], found[2:]):
         with tempfile.TemporaryDirectory() as folder:
@@ -234,7 +232,7 @@ def faults_of_help_lines(program):
             write(folder, "lines", text)
             said = printed_by(program, folder, *words, "lines")
             if said != wanted:
-                yield "%s printed %r of the lines in its help, in place of %r" % (words[0], said, wanted)
+                yield "%s printed %r of the lines in its help, instead of %r" % (words[0], said, wanted)
 
 
 def faults_of_help_commands(program):
@@ -254,12 +252,9 @@ def faults_of_help_commands(program):
             ("".join(bundled), "once-certificate 1\nclass 1 path 1\nL 1 1 1\nend\n"),
             (help_example(program, "sum"), wanted),
         ):
-            run = subprocess.run(
-                ["sh", "-c", lines], cwd=folder, env={**os.environ, "PATH": folder + ":" + os.environ["PATH"]},
-                stdout=subprocess.PIPE, stderr=subprocess.PIPE, timeout=60,
-            )
-            if run.stdout.decode() != wanted or run.stderr:
-                yield "%r printed %r and %r in place of %r" % (lines, run.stdout, run.stderr, wanted)
+            ran = run(["sh", "-c", lines], folder, env={**os.environ, "PATH": folder + ":" + os.environ["PATH"]})
+            if ran.stdout.decode() != wanted or ran.stderr:
+                yield "%r printed %r and %r instead of %r" % (lines, ran.stdout, ran.stderr, wanted)
         if os.listdir(os.path.join(folder, "refused")) != ["cut"]:
             yield "the stream that is refused isn't kept apart"
 
@@ -272,10 +267,10 @@ def faults_of_links_over_input(program):
             shutil.copy(os.path.join(row, name), folder)
         shutil.copy(os.path.join(row, "schedule"), os.path.join(folder, "link1"))
         words = ["run", "network.json", "traffic.json", "capture.pcap", "link1", "--links", "link", "--words"]
-        run = subprocess.run([program, *words], cwd=folder, stdout=subprocess.PIPE, timeout=60)
+        ran = run([program, *words], folder)
         wanted = b"device 902\nfile: link1: the command reads this file, and doesn't write over it\n"
-        if run.returncode != 5 or not run.stdout.startswith(wanted):
-            yield "status %d, printed %r, which doesn't begin with %r" % (run.returncode, run.stdout, wanted)
+        if ran.returncode != 5 or not ran.stdout.startswith(wanted):
+            yield "status %d, printed %r, which doesn't begin with %r" % (ran.returncode, ran.stdout, wanted)
         with open(os.path.join(folder, "link1"), "rb") as file:
             if file.read() != rows.octets_of(row, "schedule"):
                 yield "the schedule was written over"
@@ -303,4 +298,4 @@ def cases(program):
 if __name__ == "__main__":
     if len(sys.argv) != 2:
         sys.exit(__doc__)
-    sys.exit(told(cases(os.path.abspath(sys.argv[1]))))
+    sys.exit(report_named(cases(os.path.abspath(sys.argv[1]))))

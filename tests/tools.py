@@ -1,5 +1,5 @@
 #!/usr/bin/env python3
-"""tools.py PROGRAM: runs `once-import table` and `once-import exporter`, and has the program look at what they write.
+"""tools.py PROGRAM: runs `once-import table` and `once-import exporter`, and has the program read what they write.
 
 Each folder of tests/tools is a case, run in a copy:
 
@@ -11,19 +11,20 @@ Each folder of tests/tools is a case, run in a copy:
                 the documents that it must write as made.json and made-traffic.json (no file: none)
   expects       another case, whose documents these are
 
-Documents are compared as values. Each must be in order for `lint`; an audit of what the tables of tools/examples
-describe must answer with a certificate to which `check` says yes. What a network of pmacctd totals, of the stream that pmacctd
-has sent and of the capture that it was sent for, must be what the rows of tests/rows with that stream want. Prints a
-line for each fault, and last `N passed, M failed`.
+Documents are compared as values. Each must be accepted by `lint`; an audit of what the tables of tools/examples describe must answer
+with a certificate to which `check` says yes. What a network of pmacctd totals, of the stream that pmacctd sent and of the capture that
+it was sent for, must be what the rows of tests/rows with that stream expect. Prints a line for each fault, and last
+`N passed, M failed`.
 """
 import glob
 import json
 import os
 import shlex
 import shutil
-import subprocess
 import sys
 import tempfile
+
+from program import run
 
 TOP = os.path.dirname(os.path.dirname(os.path.abspath(__file__)))
 TOOLS = os.path.join(TOP, "tools")
@@ -45,14 +46,14 @@ def value_of(text):
     return json.loads(text) if text else None
 
 
-def run(words, folder):
-    return subprocess.run(words, cwd=folder, stdout=subprocess.PIPE, stderr=subprocess.PIPE, text=True, timeout=60)
+def run_in(words, folder):
+    return run(words, folder, text=True)
 
 
 def tool(words, folder):
     """Runs a command of once-import; Python keeps no compiled files beside it."""
     words = [word.replace("TABLES", TABLES) for word in words]
-    return run([sys.executable, "-B", os.path.join(TOOLS, "once-import"), *words], folder)
+    return run_in([sys.executable, "-B", os.path.join(TOOLS, "once-import"), *words], folder)
 
 
 def faults_of(program, case, folder):
@@ -74,7 +75,7 @@ def faults_of(program, case, folder):
         if (text or wanted is None) and found != value_of(text):
             yield "wrote %s as %s" % (json.dumps(found)[:2000], name)
     files = [made for made in MADE.values() if os.path.exists(os.path.join(folder, made))]
-    if files and run([program, "lint", *files], folder).stdout != "ok\n":
+    if files and run_in([program, "lint", *files], folder).stdout != "ok\n":
         yield "`lint` doesn't say ok of what it wrote"
 
 
@@ -85,10 +86,10 @@ def faults_of_table(program, table, folder):
     if ran.returncode or ran.stderr:
         yield "status %d and %r" % (ran.returncode, ran.stderr[:2000])
         return
-    answer = run([program, "audit", *files], folder)
+    answer = run_in([program, "audit", *files], folder)
     with open(os.path.join(folder, "answer"), "w", encoding="utf-8") as file:
         file.write(answer.stdout)
-    if run([program, "check", *files, "answer"], folder).stdout != "yes\n":
+    if run_in([program, "check", *files, "answer"], folder).stdout != "yes\n":
         yield "audited with %r" % answer.stdout[:200]
 
 
@@ -103,11 +104,11 @@ def faults_of_stream(program, row, folder):
         with open(os.path.join(folder, name), "w", encoding="utf-8") as file:
             file.write(text)
     wanted = text_of(row, "stdout")
-    collected = run([program, "collect", "network.json", os.path.join(row, "stream.ipfix")], folder).stdout
+    collected = run_in([program, "collect", "network.json", os.path.join(row, "stream.ipfix")], folder).stdout
     if collected != wanted:
         yield "collected %r" % collected[:2000]
     capture = os.path.join(TOP, "tests", "rows", "stream-of-pmacctd", "capture.pcap")
-    metered = run([program, "run", "network.json", "traffic.json", capture, "/dev/null"], folder).stdout
+    metered = run_in([program, "run", "network.json", "traffic.json", capture, "/dev/null"], folder).stdout
     sums = [text.partition("gaps ")[0].partition("skipped ")[0] for text in (metered, wanted)]
     if sums[0] != sums[1]:
         yield "metered %r" % metered[:2000]

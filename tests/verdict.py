@@ -1,26 +1,26 @@
 """What the test scripts end with: a line for each fault, a line for each test that cannot run, and how many passed."""
 
 
-def told(cases):
-    """Prints the faults of cases, each a name with its faults, and last how many passed; returns the exit status."""
+def report(cases):
+    """Prints the faults of cases, each a list of faults, and last how many cases passed; returns the exit status."""
     passed = failed = 0
-    for name, faults in cases:
-        found = list(faults)
+    for case in cases:
+        found = list(case)
         passed, failed = passed + (not found), failed + bool(found)
         for fault in found:
-            print("%s: %s" % (name, fault))
+            print(fault)
     print("%d passed, %d failed" % (passed, failed))
     return 1 if failed else 0
 
 
-def told_each(faults):
+def report_named(cases):
+    """The same of cases that are a name with its faults each: the name precedes each fault."""
+    return report(["%s: %s" % (name, fault) for fault in faults] for name, faults in cases)
+
+
+def report_each(faults):
     """The same of cases that have a fault or none each."""
-    faults = list(faults)
-    failed = [fault for fault in faults if fault]
-    for fault in failed:
-        print(fault)
-    print("%d passed, %d failed" % (len(faults) - len(failed), len(failed)))
-    return 1 if failed else 0
+    return report([fault] if fault else [] for fault in faults)
 
 
 def not_run(what, why):

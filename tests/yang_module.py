@@ -1,23 +1,22 @@
 #!/usr/bin/env python3
-"""yang_module.py: has yanglint (Debian's package `libyang-tools`) look at docs/schemas/once-audit.yang.
+"""yang_module.py: has yanglint (Debian's package `libyang-tools`) check docs/schemas/once-audit.yang.
 
-The module itself must be right; the documents of examples must be data of it, the configuration of each of their devices
-must be data of RFC 6728's module with its augmentation, and some documents with a fault must not. What the module imports,
-`ietf-ipfix-psamp` of RFC 6728, is looked for in the folders of the variable YANG_MODPATH, with colons between them. Where that
-variable is not set, tests/yang has a transcription of the nodes that the profile reads. Where there is no yanglint, a line
-`not run:` says so. Prints last `N passed, M failed`.
+The module itself must be right; the documents of examples must be data of it, the configuration of each of their devices must be data of
+RFC 6728's module with its augmentation, and some documents with a fault must not. What the module imports, `ietf-ipfix-psamp` of
+RFC 6728, is looked for in the folders of the variable YANG_MODPATH, with colons between them; if it is not set, tests/yang has a
+transcription of the nodes that the profile reads. Without yanglint, a line `not run:` says so. Prints last `N passed, M failed`.
 """
 import copy
 import glob
 import json
 import os
 import shutil
-import subprocess
 import sys
 import tempfile
 
 from schema_cases import reading
-from verdict import not_run, told_each
+from program import WITH_OUTPUT, run
+from verdict import not_run, report_each
 
 TOP = os.path.dirname(os.path.dirname(os.path.abspath(__file__)))
 MODULE = os.path.join(TOP, "docs", "schemas", "once-audit.yang")
@@ -49,9 +48,8 @@ def lint(*words):
     folders = []
     for folder in filter(None, os.environ.get("YANG_MODPATH", TRANSCRIBED).split(":")):
         folders += ["-p", folder]
-    how = {"stdout": subprocess.PIPE, "stderr": subprocess.STDOUT, "text": True, "timeout": 60}
-    run = subprocess.run(["yanglint", *folders, *FEATURES, MODULE, *words], **how)
-    return run.returncode, run.stdout
+    ran = run(["yanglint", *folders, *FEATURES, MODULE, *words], stderr=WITH_OUTPUT, text=True)
+    return ran.returncode, ran.stdout
 
 
 def data_of(network, traffic):
@@ -104,7 +102,7 @@ def main():
         not_run("docs/schemas/once-audit.yang", "there is no yanglint (Debian's package libyang-tools)")
         print("0 passed, 0 failed")
         return 0
-    return told_each(faults())
+    return report_each(faults())
 
 
 if __name__ == "__main__":

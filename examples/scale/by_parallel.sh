@@ -1,7 +1,7 @@
 #!/usr/bin/env bash
-# by_parallel.sh FOLDER WORKERS [PARTS]: has GNU parallel answer the parts that lack an answer, by so many workers at a time,
-# each called for so many parts (1). A worker that dies is tried again, up to three times in all. Ends with 0 where each part
-# has an answer; call it again where not.
+# by_parallel.sh FOLDER WORKERS [PARTS]: has GNU parallel answer the parts that lack an answer, by WORKERS workers at a time, each
+# called for PARTS parts (1). A worker that dies is tried again, up to three times in all. Ends with 0 if each part has an
+# answer; if not, call it again.
 set -eu
 # shellcheck source-path=SCRIPTDIR source=common.sh
 . "$(dirname "$0")/common.sh"

@@ -1,7 +1,7 @@
 #!/usr/bin/env bash
-# by_slurm.sh FOLDER WORKERS [PARTS]: has an array job of Slurm answer the parts that lack an answer, at most so many tasks
-# at a time, each of so many parts (1). What lacks then, as its worker has died, is submitted again, three times in all. Ends
-# with 0 where each part has an answer; call it again where not.
+# by_slurm.sh FOLDER WORKERS [PARTS]: has an array job of Slurm answer the parts that lack an answer, at most WORKERS
+# tasks at a time, each of PARTS parts (1). What is missing then, as its worker died, is submitted again, three times in all.
+# Ends with 0 if each part has an answer; if not, call it again.
 set -eu
 # shellcheck source-path=SCRIPTDIR source=common.sh
 . "$(dirname "$0")/common.sh"

@@ -16,7 +16,7 @@ find_once() {
   export ONCE
 }
 
-# Prints the comment at the top of the script that calls it, and ends as for wrong words.
+# Prints the comment at the top of the script that calls it, and ends as for wrong arguments.
 usage() {
   sed -n '2,/^[^#]/s/^# \{0,1\}//p' "$0" >&2
   exit 6

@@ -1,11 +1,11 @@
 #!/usr/bin/env bash
-# cut.sh FOLDER CLASSES: cuts FOLDER/traffic.json into FOLDER/parts/0001.json and so on, of so many classes each, in order.
+# cut.sh FOLDER CLASSES: cuts FOLDER/traffic.json into FOLDER/parts/0001.json and so on, of CLASSES classes each, in order.
 set -eu
 # shellcheck source-path=SCRIPTDIR source=common.sh
 . "$(dirname "$0")/common.sh"
 
 { [ $# -eq 2 ] && [ -f "$1/traffic.json" ]; } || usage
-# Answers are of the parts as they stood.
+# Answers are of the parts as they were.
 [ ! -e "$1/answers" ] || { echo "$1/answers is there: remove it first" >&2; exit 6; }
 rm -rf "$1/parts"
 mkdir "$1/parts"

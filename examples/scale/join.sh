@@ -1,8 +1,8 @@
 #!/usr/bin/env bash
 # join.sh FOLDER: joins the answers of all parts. Of traffic it prints a line for each part and one for all classes; of
-# streams the sum of the totals. Ends as the program does: 0 where all parts are certified, or the totals stand there; 1
-# where a part is refuted; else 2 or 3 as the first part that is neither. It ends with 7, and prints no answer, where a part
-# has no answer, an answer no part, or an answer is of another network or another part than stand there now.
+# streams the sum of the totals. Ends as the program does: 0 if all parts are certified, or the totals are printed; 1 if a part
+# is refuted; else 2 or 3 as the first part that is neither. It ends with 7, and prints no answer, if a part has no
+# answer, an answer no part, or an answer is of another network or another part than are there now.
 set -eu
 # shellcheck source-path=SCRIPTDIR source=common.sh
 . "$(dirname "$0")/common.sh"

@@ -12,7 +12,7 @@ import os
 
 
 def shares(filters):
-    """The destinations, cut into so many prefixes, a power of two."""
+    """Yields the destinations, cut into this many prefixes, a power of two."""
     bits = filters.bit_length() - 1
     if filters != 1 << bits or not 1 <= bits <= 7:
         raise SystemExit("--filters takes 2, 4, 8 .. 128")

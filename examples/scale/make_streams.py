@@ -2,7 +2,7 @@
 """make_streams.py FOLDER [--streams N] [--records N] [--sources N] [--seed N]
 
 Writes FOLDER/parts/0001.ipfix and so on, each a stream of IPFIX messages (RFC 7011) of an observation domain of its own
-with so many flow records, whose sources and counts are drawn with the seed; FOLDER/network.json, whose report is by source;
+with the given number of flow records, whose sources and counts are drawn with the seed; FOLDER/network.json, whose report is by source;
 and FOLDER/expected.txt, the totals of all of them as they were added up while they were made.
 """
 import argparse

@@ -1,8 +1,7 @@
 #!/usr/bin/env bash
-# measure.sh NAME FOLDER turn|parallel|slurm ROUNDS [PARTS]: has all parts of FOLDER answered by 1, 2 and 4 workers in turn (by
-# one where they come one after another), each called for so many parts (1), in so many rounds. Prints a line for each run:
-# NAME, the engine, the workers, the parts of a call, the seconds that it took by the clock, those of processor time that
-# the parts took together, and the machine's load before it.
+# measure.sh NAME FOLDER turn|parallel|slurm ROUNDS [PARTS]: has all parts of FOLDER answered by 1, 2 and 4 workers (by one for
+# `turn`), each called for PARTS parts (1), in ROUNDS rounds. Prints a line for each run: NAME, the engine, the workers, the
+# parts of a call, the seconds elapsed, those of CPU time that the parts took together, and the machine's load before it.
 set -eu
 # shellcheck source-path=SCRIPTDIR source=common.sh
 . "$(dirname "$0")/common.sh"

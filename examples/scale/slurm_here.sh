@@ -1,5 +1,5 @@
 #!/usr/bin/env bash
-# slurm_here.sh start FOLDER NODES: starts a Slurm of its own on this machine, with so many nodes of one processor each, and
+# slurm_here.sh start FOLDER NODES: starts a Slurm of its own on this machine, with NODES nodes of one processor each, and
 # prints the line that has sbatch find it. FOLDER holds all that it writes, and its whole path has at most 80 characters.
 # slurm_here.sh stop FOLDER: ends what was started, and removes FOLDER.
 set -eu
@@ -19,7 +19,7 @@ SlurmctldHost=$(hostname -s)(127.0.0.1)
 SlurmUser=$(id -un)
 SlurmdUser=$(id -un)
 AuthType=auth/munge
-# A task that was running on a node that died waits so many seconds before it starts again (120 otherwise).
+# A task that was running on a node that died waits this many seconds before it starts again (120 otherwise).
 AuthInfo=socket=$folder/munge.socket,cred_expire=10
 StateSaveLocation=$folder/state
 SlurmctldPidFile=$folder/slurmctld.pid

@@ -1,8 +1,8 @@
 #!/usr/bin/env bash
-# worker.sh FOLDER [NUMBER..]: answers these parts of FOLDER/parts, or all, one after another, but for those that have an
+# worker.sh FOLDER [NUMBER..]: answers these parts of FOLDER/parts, or all, one after another, except those that have an
 # answer. Of a traffic document (NUMBER.json) it has a certificate made and checked, or a refutation made and confirmed;
-# of a stream (NUMBER.ipfix) totals. Ends with 0 where each part has an answer, whatever it says; else with the status of
-# the program that gave none: 4 for want of memory, 5 for a device, 128 and the signal's number where it was killed.
+# of a stream (NUMBER.ipfix) totals. Ends with 0 if each part has an answer, whatever it is; else with the status of the
+# program that gave none: 4 out of memory, 5 an I/O error, 128 and the signal's number if it was killed.
 set -eu
 # shellcheck source-path=SCRIPTDIR source=common.sh
 . "$(dirname "$0")/common.sh"

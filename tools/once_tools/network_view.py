@@ -5,7 +5,7 @@ import ipaddress
 from dataclasses import dataclass, field
 from typing import Iterator, Mapping, Sequence
 
-from once_tools.elements import ADDRESSES, PREFIXES, axis_of, number_of
+from once_tools.elements import PREFIXES, axis_of, number_of
 from once_tools.keys import KeyField, missing
 from once_tools.model import Place
 from once_tools.origin import AGGREGATION, ORIGIN

@@ -2,7 +2,6 @@
 from __future__ import annotations
 
 import os
-import random
 import re
 import shutil
 import struct

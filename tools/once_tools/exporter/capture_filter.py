@@ -65,7 +65,7 @@ def matches_of(expression: str, lost: list[str]) -> list[Entry]:
         properties = part(one)
         if properties is None:
             lost.append("the filter %r: it isn't an element with one value or prefix; the document meters all packets "
-                        "in its place" % one)
+                        "instead" % one)
         else:
             found += [each for each in properties if each not in found]
     return found

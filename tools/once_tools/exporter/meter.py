@@ -118,7 +118,7 @@ def links_of(meter: Meter) -> Iterator[Entry]:
 
 
 def key_of(meter: Meter, ipfix: Entry) -> list[Entry]:
-    """The address that is reported by where no key is asked for, or what records have in its place."""
+    """The address that is reported by where no key is asked for, or what records have instead."""
     axes = [field["name"] for cache in ipfix["cache"] for kind in cache if kind.endswith("Cache")
             for field in cache[kind]["cacheLayout"]["cacheField"] if field["name"] in elements.AXES]
     if not axes:
@@ -146,11 +146,11 @@ def check_names(meter: Meter) -> None:
             raise Unusable("%r is no name; write 1 to 255 octets without white space at either end" % name)
     for name in names:
         if names.count(name) > 1:
-            raise Unusable("plugin %s stands twice; give each a name of its own, as nfprobe[one]" % name)
+            raise Unusable("plugin %s occurs twice; give each a name of its own, as nfprobe[one]" % name)
     for plugin in meter.plugins:
         for where in plugin.destinations:
             if plugin.destinations.count(where) > 1:
-                raise Unusable("destination %s port %s stands twice; take one of them out" % where[:2])
+                raise Unusable("destination %s port %s occurs twice; remove one of them" % where[:2])
 
 
 def network_of(meter: Meter, key: list[Entry] | None) -> Entry:

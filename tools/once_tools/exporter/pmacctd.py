@@ -184,7 +184,7 @@ def plugin_of(settings: Settings, name: str, meter: Meter) -> Plugin:
 def interface_of(settings: Settings, meter: Meter) -> str:
     """The interface that is metered."""
     if settings.get("pcap_interfaces_map"):
-        meter.lost.append("pcap_interfaces_map: its interfaces stand in another file; name them in ifName")
+        meter.lost.append("pcap_interfaces_map: its interfaces are in another file; name them in ifName")
         return "of the map"
     name = settings.get("pcap_interface")
     if name == "any":

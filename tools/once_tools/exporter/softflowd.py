@@ -86,7 +86,7 @@ def tell(options: dict[str, str], meter: Meter) -> None:
     """What an audit can't be told, option by option."""
     meter.lost.append("softflowd sends counters of 4 octets, which once refuses (110 in a document, 618 in a stream): "
                       "the document has them in 8, so it speaks of records whose sums stay below 4,294,967,296")
-    meter.lost.append("softflowd counts what a frame has behind its link header, padding too: on Ethernet a packet of "
+    meter.lost.append("softflowd counts what a frame has after its link header, padding included: on Ethernet a packet of "
                       "less than 46 octets counts as 46; the document counts the packet")
     if "-s" in options and options["-s"] not in ("0", "1"):
         meter.lost.append("-s %s: sampling. A total over a sample isn't exact (108); the document meters all packets"
@@ -137,5 +137,5 @@ def read(words: list[str]) -> Meter:
         destinations=list(destinations(options["-n"], transport))))
     tell(options, meter)
     if set(PORTS) <= set(axes):
-        meter.told.append("records of ICMP have icmpTypeCode in place of ports: a report by ports can't read them")
+        meter.told.append("records of ICMP have icmpTypeCode instead of ports: a report by ports can't read them")
     return meter

@@ -46,7 +46,7 @@ def _path(trace: Mapping[str, Any], topology: Topology, place: Place) -> Path:
         raise Unusable(place, "has a trace that goes in a circle", "correct the routes, and ask again")
     if disposition not in ENDS:
         topology.findings.append(Finding(Grade.NOT_CARRIED_OVER, place, f"a trace ends by '{disposition}', which is not known: "
-                                         "its path is taken as it stands", "look at this trace"))
+                                         "its path is taken as it is", "look at this trace"))
     path: Path = ()
     for hop in trace["hops"]:
         node = hop["node"]

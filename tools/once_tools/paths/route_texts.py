@@ -76,7 +76,7 @@ def _ios(source: Source, tables: Tables) -> None:
             _ios_hop(line.strip(), route[2])
         elif " via " in line and not line.startswith(("Codes", " ")):
             tables.note(Grade.NOT_CARRIED_OVER, source.place(number), "is no route that can be read",
-                        "give `show ip cef` in its place")
+                        "give `show ip cef` instead")
     for route in routes:
         tables.add(*route)
 

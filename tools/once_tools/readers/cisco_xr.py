@@ -4,7 +4,7 @@ from __future__ import annotations
 import difflib
 import ipaddress
 import re
-from dataclasses import dataclass, field, replace
+from dataclasses import dataclass, field
 from typing import Mapping
 
 from once_tools.model import Cache, Destination, Device, Direction, Exporter, Interface, Place, Point, Topic, Unusable

@@ -6,7 +6,7 @@ import re
 from typing import Mapping
 
 from once_tools.boxes import TooManyBoxes
-from once_tools.model import (Cache, Destination, Device, Direction, Exporter, Interface, Place, Point, Selection, Topic,
+from once_tools.model import (Cache, Destination, Device, Direction, Exporter, Interface, Point, Selection, Topic,
                               Unusable)
 from once_tools.readers import filters
 from once_tools.readers.command_line import Command, commands_of, variables_of

@@ -1,8 +1,9 @@
-"""What the program says of documents: as rows tell it by what they expect, or as `lint` answers where they don't."""
+"""What the program says of documents: what rows expect, or what `lint` answers if that does not show it."""
 import os
 import re
 import shlex
-import subprocess
+
+from program import run
 
 TAKEN, UNREAD, ASK = "ok", "unread", "ask"
 WITH_TRAFFIC = ("audit", "check", "confirm", "replay", "run")
@@ -17,7 +18,7 @@ def octets_of(folder, name):
 
 
 def documents_of(row):
-    """The octets of a row's network and of its traffic, empty where it has none."""
+    """Returns the octets of a row's network and traffic, empty if it has none."""
     bundle = octets_of(row, "stdin").split(b"\n%%\n")
     if len(bundle) > 2:
         return bundle[0].partition(b"\n")[2], bundle[1]
@@ -29,8 +30,8 @@ def documents_of(row):
     return texts[0], texts[1]
 
 
-def told(row):
-    """What a row tells of its network and of its traffic: taken, a number, unread, or that the program has to tell."""
+def of_row(row):
+    """Returns what a row shows of its network and its traffic: taken, a number, unread, or that the program has to be asked."""
     answer = octets_of(row, "stdout").decode(errors="replace")
     status = octets_of(row, "status").decode().strip()
     refused = re.match(r"refused ([123]\d\d) ?(.*)", answer)
@@ -45,16 +46,16 @@ def told(row):
 
 
 def lint(program, *files):
-    """What `lint` says: taken, or the number of the refusal."""
-    run = subprocess.run([program, "lint", *files], stdout=subprocess.PIPE, timeout=60, text=True)
-    refused = re.match(r"refused (\d+)", run.stdout)
+    """Returns what `lint` says: taken, or the number of the refusal."""
+    ran = run([program, "lint", *files], text=True)
+    refused = re.match(r"refused (\d+)", ran.stdout)
     if refused:
         return int(refused[1])
-    return TAKEN if run.stdout == "ok\n" else "status %d and %r" % (run.returncode, run.stdout[:80])
+    return TAKEN if ran.stdout == "ok\n" else "status %d and %r" % (ran.returncode, ran.stdout[:80])
 
 
 def asked(program, folder, network, traffic):
-    """What the program says of a network and of a traffic declaration, which are written into the folder."""
+    """Returns what the program says of a network and of a traffic declaration, which are written into the folder."""
     files = []
     for name, octets in (("network.json", network), ("traffic.json", traffic)):
         if octets:
