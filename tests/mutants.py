@@ -9,7 +9,8 @@ Run at the top of the repository. The mutants are crates/NAME/mutants/*.edit, of
   in: FUNCTION           or TYPE::FUNCTION: where `old` occurs more than once in the file (optional)
   old: TEXT              a text that occurs there once
   new: TEXT              its replacement
-  goal: NAME             a goal to try without its stored answer at once (optional: it saves a second check)
+  goal: NAME [ARGUMENT]..  the goal that refuses the mutant, which is then left to two tactics at once, with or without a stored
+                         answer (optional: it saves time); the arguments of one without an answer are `c` if none is given
   refused: FUNCTION      of a constant that functions of other files name: the function that must be refused
   shows: row NAME        an input on which the mutant changes what a user sees: a row of tests/rows, `test CRATE::NAME`,
                          or a sentence that describes one
@@ -22,7 +23,8 @@ function's contract. Constants are changed in place, several in one check, with 
 Functions that no mutant changes are taken by their contracts if the crate's own library is built of the same text.
 
 A mutant is refused if each function that it changes (of a constant: one that names it) has a goal that the tactics do not prove. Where
-an answer that is stored for a goal no longer fits, the goal is tried anew without it before it counts. A mutant is a BAD EDIT if it
+an answer that is stored for a goal no longer fits, the goal is tried anew by two tactics (tests/mutation/answers.py) before it counts.
+Where an edit names a goal without a stored answer, the same two must prove that goal of the function's own body. A mutant is a BAD EDIT if it
 cannot be applied or does not compile, if it changes a contract, if its function is refused only because a proof file names something
 that the mutant removed, or if it has no line `shows:` and is not in tests/unshown.txt.
 
@@ -58,6 +60,8 @@ from mutation.store import Digests, Store, store_folder
 from shown import faults_of
 
 FOLDER = "mutants"
+# The seconds by the clock from which a mutant's time is shown.
+LONG = 20
 # How often it is looked for crates that `rt ci` has proved meanwhile.
 FOLLOW_SECONDS = 5
 
@@ -130,7 +134,8 @@ def try_crate(rt, mutants, arguments, may_keep):
 
 def write_goals(edit, file):
     """Writes the goals that had to be tried anew into the edit, those that refused it alone if they are known."""
-    goals = [goal for part in edit.parts for _, name, goal in part.without if name == "Answers" and goal not in edit.goals]
+    known = [goal for goal, _ in edit.goals]
+    goals = [goal for part in edit.parts for _, name, goal in part.without if name == "Answers" and goal not in known]
     goals = [it for it in goals if f"`{it}`" in edit.verdict.text] or goals
     if goals and edit.verdict.is_refused:
         with open(file, "a", encoding="utf-8") as it:
@@ -140,6 +145,8 @@ def write_goals(edit, file):
 def report(mutants, edits, trial, seconds):
     name = mutants.crate.name
     rows = [f"{name}/{it.name}: {it.verdict.text}" for it in edits]
+    took = {it.name: sum(trial.took_for(part) for part in it.parts) for it in edits}
+    rows += [f"{name}/{it}: took {seconds:.0f} s" for it, seconds in took.items() if seconds > LONG]
     twins = sum(it.kind == TWIN for it in edits)
     rows.append(
         f"{name}: {len(edits)} mutants tried, {twins} of them on twins, in {trial.checks} checks, {len(mutants.known)} known; "

@@ -20,8 +20,9 @@ class Part:
         self.edit, self.path, self.function, self.body = edit, path, function, body
         # (no two twins have one name)
         self.number, self.lines, self.verdict = next(Part.numbers), (0, 0), None
-        # (the goals that are tried without their stored answers, with their files)
-        self.without = []
+        # (the goals that are left to two tactics: those that have a stored answer, with their files, and those that have none, with
+        # the names of their arguments)
+        self.without, self.given = [], []
 
     def has_twin(self):
         return self.edit.kind == TWIN
@@ -44,9 +45,9 @@ class Edit:
         text = read(file)
         self.refused = re.findall(r"(?m)^refused: *(\S+)", text)
         self.shows = re.findall(r"(?m)^shows: *(\S.*)", text)
-        self.goals = re.findall(r"(?m)^goal: *(\S+)", text)
-        # (what a verdict rests on: `shows:` is for readers, and `goal:` only says what to try first)
-        self.sum = "\n".join(line for line in text.split("\n") if not line.startswith(("shows:", "goal:"))).strip()
+        self.goals = [(it[0], it[1:] or ["c"]) for it in map(str.split, re.findall(r"(?m)^goal: *(\S.*)", text))]
+        # (what a verdict rests on: `shows:` is for readers)
+        self.sum = "\n".join(line for line in text.split("\n") if not line.startswith("shows:")).strip()
         self.texts, why = edited(text, folder)
         for path, text in self.texts.items():
             why = why or self.compare(path, read(f"{folder}/{path}"), text)

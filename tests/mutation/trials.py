@@ -1,17 +1,19 @@
 """Tries the mutants of one crate on copies of it, over the work that its checks keep."""
 import os
+import re
 import subprocess
 import tempfile
 import time
 
 from mutation import answers
 from mutation.copies import MARK, Copies
-from mutation.edits import BAD, CONSTANT, IN_PLACE, TWIN, proof_paths, read, sources
+from mutation.edits import BAD, CONSTANT, IN_PLACE, TWIN, Part, proof_paths, read, sources
 from mutation.texts import functions
 from mutation.verdicts import ENDED, FRONT, Verdict, first_lines, judged, lines_of
 
 # How often goals are tried anew, each time without one more stored answer, and the last time without any that does not fit.
 ROUNDS = 5
+CHECKED = re.compile(r"checked (\S+), \d+ of \d+")
 
 
 class Trial:
@@ -22,6 +24,8 @@ class Trial:
         self.rtlib, self.crate, self.kept, self.jobs, self.shown = rtlib, crate, kept, jobs, shown
         self.copies = Copies(rtlib, crate, proved)
         self.seconds, self.checks, self.peak, self.anew = 0.0, 0, 0, 0
+        # (the seconds by the clock that a check took for each function, by the last of its names)
+        self.took = {}
 
     def judge(self, edits, with_own_bodies=False):
         """Gives each edit its verdict: those on twins in one check, which those in place share where no function has two."""
@@ -51,13 +55,14 @@ class Trial:
         """Checks the functions of these names in a copy of the crate; returns what is printed and the status. A caller of a function
         that is refused, or that has a hole for a proof, is judged over that function's statement."""
         names = [argument for it in only for argument in ("--only", it)]
-        words = self.crate.words(["--jobs", str(self.jobs), "--allow-holes", *names], keeps=False)
+        words = self.crate.words(["--jobs", str(self.jobs), "--allow-holes", "--progress", *names], keeps=False)
         how = {"cwd": room, "stdin": subprocess.DEVNULL, "stdout": subprocess.PIPE, "stderr": subprocess.STDOUT}
         whole = [*self.rtlib.guarded(), self.rtlib.RATTLE, "check", *words, "--incremental", self.kept]
         began, lines = time.monotonic(), []
         with subprocess.Popen(whole, **how) as ran:
             for line in ran.stdout:
                 lines.append((time.monotonic() - began, line.decode(errors="replace")))
+                self.note_checked(lines)
             _, status, used = os.wait4(ran.pid, 0)
             ran.returncode = os.waitstatus_to_exitcode(status)
         self.seconds += used.ru_utime + used.ru_stime
@@ -68,13 +73,30 @@ class Trial:
                 it.writelines("%6.1f %s" % line for line in lines)
         return "".join(text for _, text in lines), ran.returncode
 
+    def note_checked(self, lines):
+        """Adds what the last line says of the time that a function took."""
+        found = CHECKED.match(lines[-1][1])
+        if found:
+            last = next((at for at, text in reversed(lines[:-1]) if CHECKED.match(text)), lines[0][0])
+            name = re.split(r"::|\.", found[1])[-1]
+            self.took[name] = self.took.get(name, 0.0) + lines[-1][0] - last
+
+    def took_for(self, part):
+        """Returns the seconds that checks took for the part's twin, or for the function in place."""
+        return self.took.get(part.twin_name(MARK) if part.has_twin() else part.function.name, 0.0)
+
     def judge_parts(self, parts, with_own_bodies=False):
         """Judges these parts in one check, each on a twin of its function or in place; once more without those that do not
         compile, and then those that only stored answers refuse, with their goals tried anew."""
-        if not with_own_bodies:
-            for it in parts:
-                it.without = [(folder, "Answers", goal) for goal in it.edit.goals for folder in self.proof_folders(it)]
-        parts = self.judge_once(parts, with_own_bodies)
+        for it in parts:
+            self.leave_to_tactics(it, with_own_bodies)
+        controls = {} if with_own_bodies else {it: self.control_of(it) for it in parts if it.given}
+        compiled = self.judge_once([*parts, *controls.values()], with_own_bodies)
+        for it, control in controls.items():
+            if not control.verdict.text.startswith("NOT REFUSED"):
+                why = f"the tactics do not prove {it.given[0][1]} of the function's own body: {control.verdict.text[:160]}"
+                it.verdict = Verdict(False, f"BAD EDIT: {why}")
+        parts = [it for it in compiled if it in parts]
         for round in range(ROUNDS):
             parts = [it for it in parts if it.verdict.misfits and not it.verdict.is_refused]
             if with_own_bodies or not parts:
@@ -82,8 +104,28 @@ class Trial:
             self.anew += len(parts)
             for it in parts:
                 errors = it.verdict.misfits[:1] if round < ROUNDS - 1 else it.verdict.misfits
-                it.without += [(error.folder, error.file, error.goal) for error in errors]
+                it.without += [error.place for error in errors]
             parts = self.judge_once(parts)
+
+    def leave_to_tactics(self, part, with_own_bodies):
+        """Notes which goals that the part's edit names are left to the tactics: those without a stored answer, and with a wrong body
+        those with one, too."""
+        stored = {goal for goal, _ in part.edit.goals if any(self.is_stored(at, goal) for at in part.folders())}
+        folders = self.proof_folders(part)
+        part.without = [] if with_own_bodies else [(it, "Answers", goal) for goal in sorted(stored) for it in folders]
+        home = [*self.home_of(part.path, part.function)[:-1], folders[0][-1]]
+        part.given = [(home, *it) for it in part.edit.goals if it[0] not in stored]
+
+    def is_stored(self, at, goal):
+        folder = f"{self.crate.folder}/proofs"
+        return any(answers.is_stored("/".join([folder, *it]), goal) for it in (at, [*at[:-1], f"+{at[-1]}"]))
+
+    def control_of(self, part):
+        """Returns a twin of the part's function with its own body, and with the same goals left to the tactics."""
+        text = read(f"{self.crate.folder}/{part.path}")
+        control = Part(part.edit, part.path, part.function, text[part.function.opens : part.function.end])
+        self.leave_to_tactics(control, with_own_bodies=True)
+        return control
 
     def proof_folders(self, part):
         """Returns the folders below proofs/ in which a check looks for proof files of the part."""
@@ -97,14 +139,19 @@ class Trial:
         while parts:
             with tempfile.TemporaryDirectory(prefix="mutants-") as room:
                 self.copies.write(room, parts, [], with_own_bodies)
-                lasting = [it for part in parts for it in part.without if not answers.remove(room, *it)]
+                for it in parts:
+                    for place in it.without:
+                        answers.try_anew(room, *place)
+                    for folder, goal, names in it.given:
+                        answers.answer(room, self.crate.name, folder, goal, names)
                 said, status = self.check(room, [self.symbol_of(it) for it in parts])
             if ENDED.search(said):
                 found = lines_of(said)
                 for it in parts:
-                    it.verdict = verdict_on(said, found, it, self.symbol_of(it))
-                    # (an answer that cannot be removed cannot be tried without, either)
-                    it.verdict.misfits = [error for error in it.verdict.misfits if place_of(error) not in lasting]
+                    anew = [*it.without, *((folder, "Answers", goal) for folder, goal, _ in it.given)]
+                    it.verdict = verdict_on(said, found, it, self.symbol_of(it), anew)
+                    # (what was tried anew is not tried so once more)
+                    it.verdict.misfits = [error for error in it.verdict.misfits if error.place not in anew]
                 return parts
             refuse_unread(said, parts)
             left = [it for it in parts if it.verdict is None]
@@ -126,9 +173,12 @@ class Trial:
 
     def symbol(self, path, function):
         """Returns the function's name as a check prints it."""
+        return "::".join([self.crate.name, *self.home_of(path, function)])
+
+    def home_of(self, path, function):
+        """Returns the folder below proofs/ of the function's own proof files, as a list of names."""
         paths = proof_paths(self.crate.folder, path, function)
-        at = next((it for it in paths if it in self.copies.proved), paths[0])
-        return "::".join([self.crate.name, *at])
+        return next((it for it in paths if it in self.copies.proved), paths[0])
 
     def judge_constants(self, edits):
         """Judges edits of constants, several in one check if no function that is asked for names constants of two: of each
@@ -142,7 +192,7 @@ class Trial:
                 if not together:
                     break
                 self.anew += len(together)
-                removed += [place_of(error) for it in together for error in it.verdict.misfits]
+                removed += [error.place for it in together for error in it.verdict.misfits]
 
     def judge_constants_once(self, together, removed):
         found = {it: self.functions_asked(it) for it in together}
@@ -151,17 +201,18 @@ class Trial:
             self.copies.write(room, [], [(path, it.key) for path, it in asked])
             for it in together:
                 change_constants(room, it)
-            lasting = [it for it in removed if not answers.remove(room, *it)]
+            for place in removed:
+                answers.try_anew(room, *place)
             said, status = self.check(room, [self.symbol(*it) for it in asked]) if asked else ("", 0)
         for it in together:
-            it.verdict = self.verdict_on_constant(said, status, found[it])
-            it.verdict.misfits = [error for error in it.verdict.misfits if place_of(error) not in lasting]
+            it.verdict = self.verdict_on_constant(said, status, found[it], removed)
+            it.verdict.misfits = [error for error in it.verdict.misfits if error.place not in removed]
 
-    def verdict_on_constant(self, said, status, asked):
+    def verdict_on_constant(self, said, status, asked, anew):
         if not ENDED.search(said):
             return Verdict(False, f"BAD EDIT: the check ended with status {status}: {first_lines(said)}")
         symbols = {self.symbol(*it) for it in asked}
-        verdicts = [judged(said, it) for it in lines_of(said) if it.symbol in symbols and not it.is_proved]
+        verdicts = [judged(said, it, anew=anew) for it in lines_of(said) if it.symbol in symbols and not it.is_proved]
         verdicts = sorted((it for it in verdicts if not it.waits), key=lambda it: (not it.is_refused, not it.misfits))
         return verdicts[0] if verdicts else Verdict(False, "NOT REFUSED: each function that was asked for is proved")
 
@@ -184,10 +235,6 @@ class Trial:
     def all_functions(self):
         folder = self.crate.folder
         return [(path, it) for path in sources(folder) for it in functions(read(f"{folder}/{path}"))]
-
-
-def place_of(error):
-    return error.folder, error.file, error.goal
 
 
 def change_constants(room, edit):
@@ -220,8 +267,8 @@ def apart(edits, keys_of):
     return [there for there, _ in found]
 
 
-def verdict_on(said, found, part, symbol):
-    """Returns the verdict on a part: on its twin, or on its function in place."""
+def verdict_on(said, found, part, symbol, anew):
+    """Returns the verdict on a part: on its twin, or on its function in place, with these goals left to the tactics."""
     if part.has_twin():
         own = [it for it in found if it.symbol.endswith(f"::{symbol}")]
         inner = [it for it in found if f"::{symbol}::" in it.symbol]
@@ -230,7 +277,7 @@ def verdict_on(said, found, part, symbol):
         inner = []
     if not own:
         return Verdict(False, "BAD EDIT: the check printed no line for the changed function")
-    verdict = judged(said, own[0], inner, part.path, part.lines)
+    verdict = judged(said, own[0], inner, part.path, part.lines, anew)
     if part.has_twin():
         verdict.text = verdict.text.replace(symbol, part.function.name)
     return verdict

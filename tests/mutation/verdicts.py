@@ -21,6 +21,8 @@ GONE = re.compile(
 )
 QUOTED = re.compile(r"`[^`]*`")
 GOAL = re.compile(r"`([^`\s]+)`: ")
+# What the tactics say of a goal that they do not prove.
+OPEN = re.compile(r"`[^`\s]+`: `(?:search|grind|omega|first_of)`")
 
 
 @dataclass
@@ -50,6 +52,15 @@ class AnswerError:
     line: int
     goal: str
     message: str
+
+    @property
+    def place(self):
+        return self.folder, self.file, self.goal
+
+    @property
+    def is_open(self):
+        """Whether the error says that a tactic does not prove the goal."""
+        return bool(OPEN.match(self.message))
 
     @property
     def is_gone(self):
@@ -113,8 +124,9 @@ def lies_in(note, path, lines):
     return bool(found) and found[1] == path and lines[0] <= int(found[2]) <= lines[1]
 
 
-def reasons_of(said, own, inner=(), path=None, lines=None):
-    """Returns why the function of the line `own`, and its closures `inner`, are refused."""
+def reasons_of(said, own, inner=(), path=None, lines=None, anew=()):
+    """Returns why the function of the line `own`, and its closures `inner`, are refused; `anew` are the places of the goals that
+    were left to the tactics."""
     reasons, errors = Reasons(), answer_errors(said)
     for line in [own, *inner]:
         if line.is_proved:
@@ -125,16 +137,19 @@ def reasons_of(said, own, inner=(), path=None, lines=None):
             reasons.goals.append(f"`search` did not prove {unproved[1]}")
         at = line.symbol.split("::")[1:]
         for error in errors:
-            if error.folder == at:
+            if error.folder == at and error.place in anew and error.is_open:
+                reasons.goals.append(error.message)
+            elif error.folder == at:
                 (reasons.gone if error.is_gone else reasons.misfits).append(error)
     return reasons
 
 
-def judged(said, own, inner=(), path=None, lines=None):
-    """Returns the verdict on the function of the line `own`, with its closures, and with the lines of its text if they are known."""
+def judged(said, own, inner=(), path=None, lines=None, anew=()):
+    """Returns the verdict on the function of the line `own`, with its closures, with the lines of its text if they are known, and
+    with the places of the goals that were left to the tactics."""
     if own.is_proved:
         return Verdict(False, f"NOT REFUSED: {own.symbol} is proved with this body")
-    reasons, name = reasons_of(said, own, inner, path, lines), own.symbol.partition("::")[2]
+    reasons, name = reasons_of(said, own, inner, path, lines, anew), own.symbol.partition("::")[2]
     if reasons.goals:
         return Verdict(True, f"refused at {name}: {reasons.goals[0][:170]}")
     if reasons.misfits:

@@ -124,7 +124,7 @@ def test_nothing_is_tried_again_if_nothing_changed(repository):
 
 
 def test_what_a_mutant_shows_does_not_bear_on_its_verdict(repository):
-    text = "file: src/lib.rt\nold:     value\nnew:     value + 1\nshows: row version\ngoal: returns\n"
+    text = "file: src/lib.rt\nold:     value\nnew:     value + 1\nshows: row version\n"
     assert repository.tried_again_after(lambda: repository.write("crates/top/mutants/changed.edit", text)) == set()
 
 

@@ -1,8 +1,9 @@
-"""How a trial settles what a check leaves open: goals whose stored answers do not fit are tried anew without them."""
+"""How a trial settles what a check leaves open: goals whose stored answers do not fit are left to two tactics."""
 import os
 from types import SimpleNamespace
 
 import pytest
+from mutation.answers import TACTICS
 from mutation.edits import Edit
 from mutation.trials import ROUNDS, Trial
 
@@ -11,11 +12,12 @@ ANSWERS = "pub returns : goal.returns\nreturns c = refl\n\npub bound : goal.boun
 ENDED = "only=1\n"
 PROOF = "./proofs/kept_twin_%d/Answers.antt:2:3: error: `%s`: %s\n"
 MISFIT = "the two types differ only where one has `a` (expected) and the other has `b` (found)"
+UNPROVED = "`search`: no proof of `R.a` was found"
 GONE = "record `R.Lts.After-x`\n  has no field `y`"
 
 
 class Checks:
-    """Stands for the prover: a list of what each check prints, by the twin's number, and what it found in the answers."""
+    """Stands for the prover: a list of what each check prints, by the first twin's number, and what it found in the answers."""
 
     def __init__(self, *said):
         self.said, self.answers = list(said), []
@@ -67,7 +69,12 @@ def verdict_of(trial, *said):
 def test_a_goal_that_holds_without_its_answer_does_not_refuse(trial):
     edit, checks = verdict_of(trial, refused(("returns", MISFIT)), proved)
     assert edit.verdict.text.startswith("NOT REFUSED")
-    assert "returns" not in checks.answers[1] and "bound" in checks.answers[1]
+    assert f"returns c = {TACTICS}\n" in checks.answers[1] and "bound c = refl\n" in checks.answers[1]
+
+
+def test_a_goal_that_the_tactics_leave_open_refuses(trial):
+    edit, _ = verdict_of(trial, refused(("returns", MISFIT)), refused(("returns", UNPROVED)))
+    assert edit.verdict.is_refused
 
 
 def test_a_goal_that_stays_open_without_its_answer_refuses(trial):
@@ -75,10 +82,20 @@ def test_a_goal_that_stays_open_without_its_answer_refuses(trial):
     assert edit.verdict.is_refused
 
 
-def test_one_answer_after_another_is_left_out(trial):
+def test_what_a_tactic_says_of_a_goal_not_left_to_it_does_not_refuse(trial):
+    edit, _ = verdict_of(trial, refused(("returns", UNPROVED)), proved)
+    assert edit.verdict.text.startswith("NOT REFUSED")
+
+
+def test_an_error_that_is_no_tactic_s_does_not_refuse(trial):
+    edit, _ = verdict_of(trial, refused(("returns", MISFIT)), refused(("returns", MISFIT)))
+    assert edit.verdict.text.startswith("BAD EDIT")
+
+
+def test_one_goal_after_another_is_left_to_the_tactics(trial):
     edit, checks = verdict_of(trial, refused(("returns", MISFIT), ("bound", MISFIT)), refused(("bound", MISFIT)), proved)
     assert edit.verdict.text.startswith("NOT REFUSED")
-    assert "bound" in checks.answers[1] and checks.answers[2].strip() == ""
+    assert f"bound c = {TACTICS}\n" not in checks.answers[1] and f"bound c = {TACTICS}\n" in checks.answers[2]
 
 
 def test_an_answer_that_names_what_is_gone_is_not_left_out(trial):
@@ -102,8 +119,31 @@ def test_trials_end(trial):
     assert not edit.verdict.is_refused
 
 
-def test_a_goal_named_by_the_edit_is_tried_without_its_answer_at_once(trial):
+def name_goal(trial, line):
     with open(f"{trial.crate.folder}/mutants/more.edit", "a", encoding="utf-8") as it:
-        it.write("goal: returns\n")
-    edit, checks = verdict_of(trial, open_goal)
-    assert edit.verdict.is_refused and "returns" not in checks.answers[0]
+        it.write(f"goal: {line}\n")
+
+
+def test_a_goal_named_by_the_edit_is_left_to_the_tactics_at_once(trial):
+    name_goal(trial, "returns")
+    edit, checks = verdict_of(trial, refused(("returns", UNPROVED)))
+    assert edit.verdict.is_refused and f"returns c = {TACTICS}\n" in checks.answers[0]
+
+
+def with_control(said, control):
+    """Returns what a check prints of a twin, and of the twin after it, which has the function's own body."""
+    return lambda number: said(number) + control(number + 1)
+
+
+def test_a_goal_without_an_answer_that_the_edit_names_is_left_to_the_tactics(trial):
+    name_goal(trial, "loop-preserved g c")
+    edit, checks = verdict_of(trial, with_control(refused(("loop-preserved", UNPROVED)), proved))
+    assert edit.verdict.is_refused
+    assert f"pub loop-preserved : goal.loop-preserved\nloop-preserved g c = {TACTICS}\n" in checks.answers[0]
+
+
+def test_the_tactics_must_prove_such_a_goal_of_the_function_s_own_body(trial):
+    name_goal(trial, "loop-preserved g c")
+    unproved = refused(("loop-preserved", UNPROVED))
+    edit, _ = verdict_of(trial, with_control(unproved, unproved))
+    assert edit.verdict.text.startswith("BAD EDIT: the tactics do not prove loop-preserved of the function's own body")

@@ -1,6 +1,6 @@
 """Verdicts on what checks print. The texts are shortened from what the kit's prover prints for mutants of this repository."""
 import pytest
-from mutation.answers import without
+from mutation.answers import with_tactics, without
 from mutation.verdicts import answer_errors, judged, lines_of
 
 # A long error that is broken before `has no field`.
@@ -98,6 +98,23 @@ def test_an_answer_is_removed_whole():
     text, found = without(ANSWERS, "returns-in-Ok")
     assert found and "returns-in-Ok" not in text and "exit x" not in text and "unfolding" not in text
     assert text.startswith("use Rattle") and "-- a remark\npub returns : goal.returns\nreturns c = refl" in text
+
+
+def test_an_answer_of_one_case_gives_way_to_the_tactics():
+    text = with_tactics(ANSWERS, "returns-in-Ok")
+    assert "pub returns-in-Ok : goal.returns-in-Ok\nunfolding f g\nreturns-in-Ok c = first_of (" in text
+    assert "exit x" not in text and "returns c = refl" in text
+    assert "use Rattle.std.proofs.Common.{arith, rules}\n" in text
+
+
+def test_what_a_file_names_of_the_lemmas_is_not_named_again():
+    text = with_tactics("use Rattle.std.proofs.Common.{rules, ◌≡◌}\n" + ANSWERS, "returns")
+    assert "use Rattle.std.proofs.Common.{arith}\n" in text
+
+
+def test_an_answer_of_two_cases_does_not():
+    assert with_tactics("pub found : goal.found\nfound c (inl x) = x\nfound c (inr y) = y\n", "found") is None
+    assert with_tactics("pub found : goal.found\nfound c None = x\nfound c (Some y) = y\n", "found") is None
 
 
 def test_only_the_named_answer_is_removed():
