@@ -72,7 +72,7 @@ line_listed line number old at to e going (inr (asked, asks, refuses)) = action_
 
 close_listed : (old : RunningNetwork) (at to : CaptureState) (e : Fault) → at.stopped ≡ None → RefusesClose old at to e → is_refusal_number e.number ≡ true
 close_listed old at to e going (capture_cut mid (frames, gone) refuses) = capture_listed mid to e (goes_on at mid frames gone going) refuses
-close_listed old at to e going (none_holds is gone class) = ap (λ (f : Fault). is_refusal_number f.number) is
+close_listed old at to e going (none_holds mid is gone at_frame class) = ap (λ (f : Fault). is_refusal_number f.number) is
 
 -- ---- a run over a capture, by a schedule whose reader hadn't stopped before
 
@@ -85,14 +85,14 @@ capture_run_listed old at to from last before e capture text (not_read mid behin
 capture_run_listed old at to from last before e capture text (rest_refused mid on behind put obeyed end refuses) =
     close_listed mid on to e (capture_goes obeyed.lines old mid at on from behind before put obeyed.obeyed capture) refuses
 
-pub over_listed : (network : NetworkDocument) (classes : List Class) (left : Option (List ℕ)) (asked : ℕ) (unread : Type 0) (from last : Lines) (before : Put) (e : Fault) → from.stopped ≡ None
-    → IsRefusedOver network classes left asked unread from last before e → is_refusal_number e.number ≡ true
-over_listed network classes left asked unread from last before e text (inl opening) = opening_listed left unread e opening
-over_listed network classes left asked unread from last before e text (inr (at, to, opened, refuses)) =
+pub over_listed : (network : NetworkDocument) (classes : List Class) (left : Option (List ℕ)) (asked : ℕ) (unread : Type 0) (HoldsAtEnd : CaptureState → Type 0) (from last : Lines) (before : Put) (e : Fault) → from.stopped ≡ None
+    → IsRefusedOver network classes left asked unread HoldsAtEnd from last before e → is_refusal_number e.number ≡ true
+over_listed network classes left asked unread HoldsAtEnd from last before e text (inl opening) = opening_listed left unread e opening
+over_listed network classes left asked unread HoldsAtEnd from last before e text (inr (at, to, opened, refuses, stands)) =
     capture_run_listed (begun network classes) at to from last before e opened.going text refuses
 
-pub metering_refusal_listed : (network_octets traffic_octets : List ℕ) (left : Option (List ℕ)) (asked : ℕ) (unread : Type 0) (from last : Lines) (before : Put) (e : Fault) → from.stopped ≡ None
-    → IsRefusedMetering network_octets traffic_octets left asked unread from last before e → is_refusal_number e.number ≡ true
-metering_refusal_listed network_octets traffic_octets left asked unread from last before e text is =
-    refused_in_listed (λ network classes. IsRefusedOver network classes left asked unread from last before e) network_octets traffic_octets e
-    (λ network classes refused. over_listed network classes left asked unread from last before e text refused) is
+pub metering_refusal_listed : (network_octets traffic_octets : List ℕ) (left : Option (List ℕ)) (asked : ℕ) (unread : Type 0) (HoldsAtEnd : CaptureState → Type 0) (from last : Lines) (before : Put) (e : Fault) → from.stopped ≡ None
+    → IsRefusedMetering network_octets traffic_octets left asked unread HoldsAtEnd from last before e → is_refusal_number e.number ≡ true
+metering_refusal_listed network_octets traffic_octets left asked unread HoldsAtEnd from last before e text is =
+    refused_in_listed (λ network classes. IsRefusedOver network classes left asked unread HoldsAtEnd from last before e) network_octets traffic_octets e
+    (λ network classes refused. over_listed network classes left asked unread HoldsAtEnd from last before e text refused) is

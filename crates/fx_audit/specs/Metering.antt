@@ -1,5 +1,5 @@
 -- What a run over a capture prints, and why it is refused.
-use Rattle.std.specs.Prelude.{◌≡◌, ◌⊎◌, ℕ, List, ◌++◌, codes, Option, IsPermutation}
+use Rattle.std.specs.Prelude.{◌≡◌, ◌⊎◌, ℕ, Bool, List, ◌++◌, codes, Option, IsPermutation}
 use Rattle.std.specs.Fmt.{decimal}
 use Rattle.fx_base.specs.declared.fault.Fault.{Fault}
 use Rattle.fx_base.specs.Lines.{Lines}
@@ -48,11 +48,16 @@ pub record IsMeteredIn (network : NetworkDocument) (classes : List Class) (left 
   pub ran : IsRun network classes left asked from last before after totals skipped
   pub text_is : IsMeteredText totals skipped.other skipped.malformed text
 
--- the capture isn't opened, since its source can't be read or for its header, or the run over it is refused
-abbrev pub IsRefusedOver : NetworkDocument → List Class → Option (List ℕ) → ℕ → Type 0 → Lines → Lines → Put → Fault → Type 0
-IsRefusedOver network classes left asked unread from last before e =
+-- the capture's state is that of a source: whether its last call failed, and how many calls were made
+abbrev pub IsStateOfSource : {C : Type 0} → (C → ℕ) → (C → Bool) → CaptureState → Type 0
+IsStateOfSource {C} calls failed to = (last : C) × (failed last ≡ to.failed) × (calls last ≡ to.asked)
+
+-- the capture isn't opened, since its source can't be read or for its header, or the run over it is refused and leaves the
+-- capture in a state of which the premise holds
+abbrev pub IsRefusedOver : NetworkDocument → List Class → Option (List ℕ) → ℕ → Type 0 → (CaptureState → Type 0) → Lines → Lines → Put → Fault → Type 0
+IsRefusedOver network classes left asked unread HoldsAtEnd from last before e =
     IsRefusedCapture left unread e
-    ⊎ ((at : CaptureState) × (to : CaptureState) × IsOpened left asked at × RefusesRun (begun network classes) at to from last before e)
+    ⊎ ((at : CaptureState) × (to : CaptureState) × IsOpened left asked at × RefusesRun (begun network classes) at to from last before e × HoldsAtEnd to)
 
 -- ---- the same in the network and traffic that two documents say
 
@@ -66,6 +71,6 @@ pub record IsMetered (network_octets traffic_octets : List ℕ) (left : Option (
   pub complete : IsRunOf (net_of network) classes metered.ran.at metered.ran.to from last before after metered.totals
 
 -- the first refusal: that of the documents, then the capture's file header's, then the run's
-abbrev pub IsRefusedMetering : List ℕ → List ℕ → Option (List ℕ) → ℕ → Type 0 → Lines → Lines → Put → Fault → Type 0
-IsRefusedMetering network_octets traffic_octets left asked unread from last before e =
-    IsRefusedIn (λ network classes. IsRefusedOver network classes left asked unread from last before e) network_octets traffic_octets e
+abbrev pub IsRefusedMetering : List ℕ → List ℕ → Option (List ℕ) → ℕ → Type 0 → (CaptureState → Type 0) → Lines → Lines → Put → Fault → Type 0
+IsRefusedMetering network_octets traffic_octets left asked unread HoldsAtEnd from last before e =
+    IsRefusedIn (λ network classes. IsRefusedOver network classes left asked unread HoldsAtEnd from last before e) network_octets traffic_octets e

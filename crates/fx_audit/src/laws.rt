@@ -38,7 +38,7 @@ pub fn refusals_are_listed()
     ensures metering { (network : List ℕ) (traffic : List ℕ) (left : Option (List ℕ)) (asked : ℕ)
         (from : Lines) (last : Lines) (before : Put) (e : faults.Fault)
         → from.stopped ≡ None
-        → IsRefusedMetering network traffic left asked (Unit {0}) from last before e
+        → IsRefusedMetering network traffic left asked (Unit {0}) (λ _. Unit {0}) from last before e
         → is_refusal_number e.number ≡ true }
     ensures sum { (network : List ℕ) (lines : Lines) (e : faults.Fault)
         → IsRefusedSum network lines e → is_refusal_number e.number ≡ true }

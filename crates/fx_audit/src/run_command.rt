@@ -7,7 +7,7 @@ ghost use Rattle.fx_pcap.specs.Captures.{IsUnreadable};
 ghost use Rattle.fx_pcap.specs.Records.{format_of};
 ghost use Rattle.fx_net.specs.Running.{FailsOutside};
 ghost use Rattle.fx_audit.specs.Documents.{BothMayHaveLeft, CannotRead, IfDocumentsRefused, IfNetworkRefused};
-ghost use Rattle.fx_audit.specs.Metering.{IsMetered, IsMeteredIn, IsMeteredText, IsRun, skipped_line, IsRefusedOver, IsRefusedMetering};
+ghost use Rattle.fx_audit.specs.Metering.{IsMetered, IsMeteredIn, IsMeteredText, IsRun, skipped_line, IsRefusedOver, IsRefusedMetering, IsStateOfSource};
 ghost use Rattle.fx_audit.specs.Outputs.{AnswersWith, FailsQuietly, Prints};
 ghost use Rattle.fx_audit.specs.Texts.{IsRunText};
 ghost use Rattle.fx_audit.specs.declared.answer.Answer.TheVariants.{Yes};
@@ -47,12 +47,12 @@ fn meter<C: Source, Q: Source, L: Links>(
     ensures err { IfErr result (λ e. FailsOutside (L.failed links.new) e
         ⊎ IsRefusedOver documents.now.plan documents.now.traffic (C.left capture) (C.calls capture)
         (IsUnreadable C.calls C.failed (C.left capture) (C.calls capture))
-        schedule.old schedule.new (L.put_on links.old) e) }
+        (IsStateOfSource C.calls C.failed) schedule.old schedule.new (L.put_on links.old) e) }
     ensures untouched { IfSome (C.left capture) (λ c. (e : Fault)
         → format_of c ≡ Err e → (schedule.new ≡ schedule.old) × (links.new ≡ links.old)) }
 {
     let mut capture = Capture::new(alloc, capture)?;
-    let totals = run(
+    let outcome = run(
         alloc,
         seed,
         &documents.plan,
@@ -60,7 +60,10 @@ fn meter<C: Source, Q: Source, L: Links>(
         &mut capture,
         schedule,
         links,
-    )?;
+    );
+    // For the prover alone: the contract speaks of the source after the run.
+    capture.get_ref();
+    let totals = outcome?;
     Ok(Metered {
         totals,
         skipped: capture.skipped(),
@@ -117,7 +120,7 @@ fn run_capture<C: Source, Q: Source, L: Links, S: Sink>(
         ⊎ (IsWriteFault (S.failed sink.new) e
         ⊎ IsRefusedOver documents.now.plan documents.now.traffic (C.left capture) (C.calls capture)
         (IsUnreadable C.calls C.failed (C.left capture) (C.calls capture))
-        schedule.old schedule.new (L.put_on links.old) e)) }
+        (IsStateOfSource C.calls C.failed) schedule.old schedule.new (L.put_on links.old) e)) }
     ensures untouched { IfSome (C.left capture) (λ c. (e : Fault)
         → format_of c ≡ Err e → (schedule.new ≡ schedule.old) × (links.new ≡ links.old)) }
     ensures quiet { FailsQuietly S.failed sink.old sink.new result }
@@ -134,21 +137,22 @@ fn run_capture<C: Source, Q: Source, L: Links, S: Sink>(
 /// Fails with the first refusal: 101 and those of [`fx_plan::read_plan`] for the network, with nothing of the traffic
 /// read before; 101 and those of [`fx_traffic::read_traffic`] for the traffic; then those of [`Capture::new`] for the
 /// capture's file header, with nothing of the schedule read and nothing put on the links before; then those of
-/// [`fx_net::run`]. 901 comes where a read fails or a reader hasn't ended after 4,294,967,296 calls, 900 for want of
-/// memory, 902 where a write fails. Nothing is written on the sink for a fault other than 902.
+/// [`fx_net::run`]. 901 comes where a read fails or a reader hasn't ended after 4,294,967,296 calls, 900 where memory
+/// runs out, 902 where a write fails. Nothing is written on the sink for a fault other than 902. If a document is refused,
+/// nothing is read of the capture and the schedule, and nothing is put on the links.
 pub fn run_bytes<N: Source, T: Source, C: Source, Q: Source, L: Links, S: Sink>(
     alloc: Global,
     seed: Seed,
     network: &mut N,
     traffic: &mut T,
-    capture: C,
+    capture: &mut C,
     schedule: &mut LineReader<Q>,
     links: &mut L,
     sink: &mut S,
 ) -> Result<Answer, Fault>
     ensures ok { IfOk result (λ answer. (answer ≡ Yes)
         × BothMayHaveLeft (N.left network.old) (T.left traffic.old) (λ n t.
-        Prints (IsMetered n t (C.left capture) (C.calls capture) schedule.old schedule.new
+        Prints (IsMetered n t (C.left capture.old) (C.calls capture.old) schedule.old schedule.new
         (L.put_on links.old) (L.put_on links.new)) (S.taken sink.old) (S.taken sink.new))) }
     ensures links_going { OnOk result (KeepsGoing (L.failed links.old) (L.failed links.new)) }
     ensures err { IfErr result (λ e. FailsOutside (L.failed links.new) e
@@ -156,13 +160,14 @@ pub fn run_bytes<N: Source, T: Source, C: Source, Q: Source, L: Links, S: Sink>(
         ⊎ (CannotRead T.left T.calls T.failed traffic.old traffic.new e
         ⊎ (IsWriteFault (S.failed sink.new) e
         ⊎ BothMayHaveLeft (N.left network.old) (T.left traffic.old) (λ n t. IsRefusedMetering n t
-        (C.left capture) (C.calls capture) (IsUnreadable C.calls C.failed (C.left capture)
-        (C.calls capture)) schedule.old schedule.new (L.put_on links.old) e))))) }
+        (C.left capture.old) (C.calls capture.old) (IsUnreadable C.calls C.failed
+        (C.left capture.old) (C.calls capture.old)) (IsStateOfSource C.calls C.failed)
+        schedule.old schedule.new (L.put_on links.old) e))))) }
     ensures answers { AnswersWith S.taken S.failed IsRunText sink.old sink.new result }
     ensures order { IfNetworkRefused (N.left network.old) (traffic.new ≡ traffic.old) }
     ensures untouched { IfDocumentsRefused (N.left network.old) (T.left traffic.old)
-        ((schedule.new ≡ schedule.old) × (links.new ≡ links.old)) }
-    ensures unopened { IfSome (C.left capture) (λ c. (e : Fault)
+        ((capture.new ≡ capture.old) × (schedule.new ≡ schedule.old) × (links.new ≡ links.old)) }
+    ensures unopened { IfSome (C.left capture.old) (λ c. (e : Fault)
         → format_of c ≡ Err e → (schedule.new ≡ schedule.old) × (links.new ≡ links.old)) }
 {
     let documents = read_documents(alloc, network, traffic)?;

@@ -64,12 +64,12 @@ module _ (net : Net) (classes : List Class) (begin : Put) where
       → Conforms net classes begin after (after_finishing c) packets steps s
   finished before after c packets steps s history a st written puts = record {
     history = λ link. history link ++ to_put_on c.second (slice_get c.links link);
-    written = λ link. writes_join (begin (suc link)) (before (suc link)) (after (suc link)) (history link) (to_put_on c.second (slice_get c.links link)) (written link) (puts link).1;
+    written = λ link. writes_join (begin (suc link)) (before (suc link)) (after (suc link)) (history link) (to_put_on c.second (slice_get c.links link)) (written link) (puts.1 link).1;
     run_is = a.run_is;
     crossed = a.coming_is;
     as_many = a.as_many;
     stores = st;
-    links = finishing_rests c.second history (put_by_run net classes packets steps) c.links s.carried a.second a.links (λ link. (puts link).0);
+    links = finishing_rests c.second history (put_by_run net classes packets steps) c.links s.carried a.second a.links (λ link. (puts.1 link).0);
     chosen = a.chosen;
     totals = a.totals;
     second = a.second;

@@ -1,5 +1,6 @@
 -- What the closing phase leaves, worked out by the definitions.
 use Rattle.std.proofs.Common.{◌≡◌, inl, inr, ℕ, zero, suc, ◌<◌, true, List, [], ◌∷◌, Option, Some, None, refl, arith, slice_get}
+use Rattle.fx_base.specs.Device.{Writes}
 use Rattle.fx_tables.specs.declared.holder_name.HolderName.TheVariants.{Cache}
 use Rattle.fx_tables.specs.Network.{Net}
 use Rattle.fx_machine.proofs.ClaimExamples.{net, in_parallel, source}
@@ -12,7 +13,7 @@ use Rattle.fx_ranks.specs.Ranks.{IsWhole, is_in}
 use Rattle.fx_net.specs.Arriving.{after_carrying, queued_on}
 use Rattle.fx_net.specs.Contents.{Contents}
 use Rattle.fx_net.specs.Doings.{CarriesWhole, Empties, EmptiesNetwork, Ended}
-use Rattle.fx_net.specs.Finishing.{PutsAll, after_finishing}
+use Rattle.fx_net.specs.Finishing.{HasRoom, PutsAll, after_finishing, to_put_on}
 use Rattle.fx_net.specs.Leaving.{after_emptying}
 use Rattle.fx_net.specs.Stores.{Stored}
 use Rattle.fx_conform.specs.Closing.{NothingIsStored, OnlyNamedHold}
@@ -54,14 +55,20 @@ received c = after_carrying meter 0 (queued_on (slice_get (put_out c).links 0)) 
 abbrev closed : Contents → Contents
 closed c = after_finishing (received c)
 
+each_first : (others : List (Option Stored)) (link : ℕ) → HasRoom (slice_get (emptied (sending others)).links link) × Writes (untold (suc link)) (untold (suc link)) (to_put_on (emptied (sending others)).second (slice_get (emptied (sending others)).links link))
+each_first others zero = (refl, refl)
+each_first others (suc link) = (tt, refl)
+
 puts_first : (others : List (Option Stored)) → PutsAll untold untold (emptied (sending others)).second (emptied (sending others)).links
-puts_first others zero = (refl, refl)
-puts_first others (suc link) = (tt, refl)
+puts_first others = (refl, each_first others)
+
+each_last : (others : List (Option Stored)) (link : ℕ) → HasRoom (slice_get (received (sending others)).links link) × Writes (untold (suc link)) (untold (suc link)) (to_put_on (received (sending others)).second (slice_get (received (sending others)).links link))
+unfolding read_all read_in
+each_last others zero = (refl, refl)
+each_last others (suc link) = (tt, refl)
 
 puts_last : (others : List (Option Stored)) → PutsAll untold untold (received (sending others)).second (received (sending others)).links
-unfolding read_all read_in
-puts_last others zero = (refl, refl)
-puts_last others (suc link) = (tt, refl)
+puts_last others = (refl, each_last others)
 
 empties : (others : List (Option Stored)) → Ended (Empties meter 0) untold (sending others) untold (put_out (sending others))
 empties others = record { done = emptied (sending others); made = refl; put = puts_first others; new_is = refl }

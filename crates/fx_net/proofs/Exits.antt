@@ -38,12 +38,12 @@ err_weaker (Ok x) P Q f p = tt
 err_weaker (Err e) P Q f p = f e p
 
 -- a frame that is left is of no class
-pub close_refused : (old mid : RunningNetwork) (at to : captures.CaptureState) (failed : Bool) (s : Stop)
-    → FailsOutside failed (fault_of s) ⊎ ((s ≡ stop.Bare 804) × IsOfNone mid.classes to.seen) → HasGoneOn at to → mid ≡ record old { contents = mid.contents }
+pub close_refused : (old mid : RunningNetwork) (at on to : captures.CaptureState) (failed : Bool) (s : Stop)
+    → FailsOutside failed (fault_of s) ⊎ ((s ≡ stop.Bare 804) × IsOfNone mid.classes to.seen) → HasGoneOn at on → captures.AtFrame on to → mid ≡ record old { contents = mid.contents }
     → FailsOutside failed (fault_of s) ⊎ RefusesClose old at to (fault_of s)
-close_refused old mid at to failed s (inl outside) gone rest = inl outside
-close_refused old mid at to failed s (inr h) gone rest =
-    inr (none_holds (ap fault_of h.0) gone (subst (λ (r : RunningNetwork). IsOfNone r.classes to.seen) rest h.1))
+close_refused old mid at on to failed s (inl outside) gone frame rest = inl outside
+close_refused old mid at on to failed s (inr h) gone frame rest =
+    inr (none_holds on (ap fault_of h.0) gone frame (subst (λ (r : RunningNetwork). IsOfNone r.classes to.seen) rest h.1))
 
 -- what is refused in the closing phase is refused behind all lines
 pub run_refused : (old mid : RunningNetwork) (at on to : captures.CaptureState) (from last : Lines) (before put : Put) (failed : Bool) (e : Fault)

@@ -48,9 +48,12 @@ pub puts_more : (before mid after : Put) (time n : ℕ) (links : List Ongoing) (
     → HasRoom (Some (get_or links n d)) → PutsAll before after time (take (n + 1) links)
 unfolding PutsTo
 puts_more before mid after time n links d lt p h room =
-    subst (λ m. PutsAll before after time (take m links)) (sym (add-one n)) (λ link. (
-      rooms_more n links d lt (λ k. (p k).0) room link,
-      next_put (λ k. before (suc k)) (λ k. mid (suc k)) (λ k. after (suc k)) time n links d lt (λ k. (p k).1)
-          (subst (λ m. Writes (mid m) (after m) (to_put time (get_or links n d))) (add-one n) h.here)
-          (λ k ne. h.others (suc k) (λ e. ne (omega (arith, e)))) link,
-    ))
+    subst (λ m. PutsAll before after time (take m links)) (sym (add-one n)) (
+      h.others 0 (λ e. omega (arith, e)) ∙ p.0,
+      λ link. (
+        rooms_more n links d lt (λ k. (p.1 k).0) room link,
+        next_put (λ k. before (suc k)) (λ k. mid (suc k)) (λ k. after (suc k)) time n links d lt (λ k. (p.1 k).1)
+            (subst (λ m. Writes (mid m) (after m) (to_put time (get_or links n d))) (add-one n) h.here)
+            (λ k ne. h.others (suc k) (λ e. ne (omega (arith, e)))) link,
+      ),
+    )

@@ -20,8 +20,9 @@ abbrev pub HasRoom : Option Ongoing → Type 0
 HasRoom None = Unit {0}
 HasRoom (Some o) = has_room_for o.outgoing.batch o.outgoing.sender ≡ true
 
--- each link, on which there is room for what waits, is given its messages; links have numbers from 1
+-- each link, on which there is room for what waits, is given its messages; links have numbers from 1, and nothing is put
+-- on number 0
 abbrev pub PutsAll : Put → Put → ℕ → List Ongoing → Type 0
 PutsAll before after time links =
-    (link : ℕ)
-    → HasRoom (slice_get links link) × Writes (before (suc link)) (after (suc link)) (to_put_on time (slice_get links link))
+    (after 0 ≡ before 0)
+    × ((link : ℕ) → HasRoom (slice_get links link) × Writes (before (suc link)) (after (suc link)) (to_put_on time (slice_get links link)))

@@ -198,7 +198,7 @@ HasGoneOn at to = (frames : List captures.Seen) × GoesOnToFrames at to frames
 -- a frame that is left is of no class, or the capture is refused behind some frames
 pub data RefusesClose (old : RunningNetwork) (at to : captures.CaptureState) (e : Fault) : Type 0 where
   capture_cut : (mid : captures.CaptureState) → HasGoneOn at mid → captures.RefusesCapture mid to e → RefusesClose old at to e
-  none_holds : e ≡ fault_at in_no_class places.None → HasGoneOn at to → IsOfNone old.classes to.seen → RefusesClose old at to e
+  none_holds : (mid : captures.CaptureState) → e ≡ fault_at in_no_class places.None → HasGoneOn at mid → captures.AtFrame mid to → IsOfNone old.classes to.seen → RefusesClose old at to e
 
 -- ---- a whole run
 

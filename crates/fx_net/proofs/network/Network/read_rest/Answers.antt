@@ -31,8 +31,8 @@ returns-in_err-read_one-clause-err g c =
     exit_with c.from_residual-in_err-read_one.result c.in_err-read_one.field-0.0
     (λ (s : Stop). FailsOutside (g.L.Links.failed c.read_one.new.links) (fault_of s) ⊎ RefusesClose c.args.self.now c.args.capture.now c.advance.new.self (fault_of s))
     c.from_residual-in_err-read_one.ensures
-    (close_refused c.args.self.now c.loop-met.self c.args.capture.now c.advance.new.self (g.L.Links.failed c.read_one.new.links) c.in_err-read_one.field-0.0 c.in_err-read_one.ensures.err
-    (goes_more c.args.capture.now c.loop-met.capture c.advance.new.self c.loop-met.invariant.gone at) c.loop-met.invariant.rest)
+    (close_refused c.args.self.now c.loop-met.self c.args.capture.now c.loop-met.capture c.advance.new.self (g.L.Links.failed c.read_one.new.links) c.in_err-read_one.field-0.0 c.in_err-read_one.ensures.err
+    c.loop-met.invariant.gone at c.loop-met.invariant.rest)
 
 pub returns-clause-ok : goal.returns-clause-ok
 returns-clause-ok g c = record {
