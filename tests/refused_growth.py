@@ -26,6 +26,7 @@ SWEPT = (
     "certificate-of-one-leaf-as-bundle",
     "two-packets-in-one-record",
     "two-packets-in-one-record-as-bundle",
+    "run-with-a-malformed-line-after-its-steps",
     "stream-of-two-messages",
     "lint-of-a-network",
     "audit-that-finds-a-certificate",

@@ -40,7 +40,7 @@ abbrev pub HasMade : Net → List Class → List Packet → List Step → State 
 HasMade net classes packets steps told None =
     (last : State) × (run net classes packets steps (opening net classes packets) ≡ Ok last) × (told ≡ told_state last)
 HasMade net classes packets steps told (Some e) =
-    (e ≡ fault_at 900 places.None) ⊎ ((e.place ≡ places.None) × (run net classes packets steps (opening net classes packets) ≡ Err e.number))
+    (e.place ≡ places.None) × (run net classes packets steps (opening net classes packets) ≡ Err e.number)
 
 -- what making a step comes to
 abbrev pub StepsTo : Net → List Class → List Packet → Step → State → State → Type 0
@@ -49,25 +49,20 @@ StepsTo net classes packets step told now =
 
 abbrev pub RefusesStep : Net → List Class → List Packet → Step → State → Fault → Type 0
 RefusesStep net classes packets step told e =
-    (e.place ≡ places.None) × ((e.number ≡ 900) ⊎ ((s : State) → told ≡ told_state s → after net classes packets step s ≡ Err e.number))
+    (e.place ≡ places.None) × ((s : State) → told ≡ told_state s → after net classes packets step s ≡ Err e.number)
 
 made_more : (net : Net) (classes : List Class) (packets : List Packet) (steps : List Step) (step : Step) (told now : State) → HasMade net classes packets steps told None → StepsTo net classes packets step told now → HasMade net classes packets (steps ++ step ∷ []) now None
 made_more net classes packets steps step told now (last, is, tells) made =
     let next = made last tells in
     (next.0, one_more net classes packets steps step (opening net classes packets) ∙ ap (λ o. then_run o (after net classes packets step)) is ∙ next.1, next.2)
 
-fault_is : (e : Fault) → e.place ≡ places.None → e.number ≡ 900 → e ≡ fault_at 900 places.None
-fault_is e place number = rw (← place, ← number) refl
-
 refused_now : (net : Net) (classes : List Class) (packets : List Packet) (steps : List Step) (step : Step) (told now : State) (e : Fault) → HasMade net classes packets steps told None → RefusesStep net classes packets step told e → HasMade net classes packets (steps ++ step ∷ []) now (Some e)
-refused_now net classes packets steps step told now e (last, is, tells) (place, inl memory) = inl (fault_is e place memory)
-refused_now net classes packets steps step told now e (last, is, tells) (place, inr refused) =
-    inr (place, one_more net classes packets steps step (opening net classes packets) ∙ ap (λ o. then_run o (after net classes packets step)) is ∙ refused last tells)
+refused_now net classes packets steps step told now e (last, is, tells) (place, refused) =
+    (place, one_more net classes packets steps step (opening net classes packets) ∙ ap (λ o. then_run o (after net classes packets step)) is ∙ refused last tells)
 
 refused_before : (net : Net) (classes : List Class) (packets : List Packet) (steps : List Step) (step : Step) (told now : State) (e : Fault) → HasMade net classes packets steps told (Some e) → HasMade net classes packets (steps ++ step ∷ []) now (Some e)
-refused_before net classes packets steps step told now e (inl memory) = inl memory
-refused_before net classes packets steps step told now e (inr (place, is)) =
-    inr (place, one_more net classes packets steps step (opening net classes packets) ∙ ap (λ o. then_run o (after net classes packets step)) is)
+refused_before net classes packets steps step told now e (place, is) =
+    (place, one_more net classes packets steps step (opening net classes packets) ∙ ap (λ o. then_run o (after net classes packets step)) is)
 
 -- ---- steps that are read and made
 
@@ -115,8 +110,7 @@ pub comes_to : (net : Net) (classes : List Class) (first : Lines) (version : Tex
 comes_to net classes first version packets lines told (steps, read, (last, is, tells)) = (last, (record { packets = packets; steps = steps }, read, is), tells)
 
 pub cannot : (net : Net) (classes : List Class) (first : Lines) (version : TextVersion) (packets : List Packet) (lines : Lines) (told : State) (e : Fault) (F : Fault → Type 0) → IsUnderWay net classes first version packets lines None told (Some e) → (e ≡ fault_at 900 places.None) ⊎ (F e ⊎ CannotReplay net classes first e)
-cannot net classes first version packets lines told e F (steps, read, inl memory) = inl memory
-cannot net classes first version packets lines told e F (steps, read, inr refused) = inr (inr (inr (record { packets = packets; steps = steps }, read, inr refused)))
+cannot net classes first version packets lines told e F (steps, read, refused) = inr (inr (inr (record { packets = packets; steps = steps }, read, inr refused)))
 
 -- ---- what its last state tells
 

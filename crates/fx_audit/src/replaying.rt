@@ -4,7 +4,6 @@ ghost use Rattle.fx_base.specs.Device.{IsWriteFault, PutsText};
 ghost use Rattle.fx_base.specs.Fault.{IsMemory};
 ghost use Rattle.fx_base.specs.Lines.{Fails};
 ghost use Rattle.fx_base.specs.declared.fault.Place.TheVariants as places;
-ghost use Rattle.fx_base.specs.Refusals.{want_of_memory};
 ghost use Rattle.fx_machine.specs.States as states;
 ghost use Rattle.fx_machine.specs.Steps as stepping;
 ghost use Rattle.fx_collect.specs.Totals.{Totals, totals_of, totals_in};
@@ -15,7 +14,7 @@ ghost use Rattle.fx_audit.specs.Replay.{complete_line, CannotReplay, ComesTo, Is
 ghost use Rattle.fx_audit.specs.declared.answer.Answer.TheVariants.{Yes};
 
 use crate::answer::Answer;
-use fx_base::{Fault, LineReader, Sink, Source, put_text};
+use fx_base::{Fault, LineReader, Sink, Source, put_text, refusals};
 use fx_collect::Totals;
 use fx_layout::Seed;
 use fx_machine::State;
@@ -23,34 +22,49 @@ use fx_run_text::{RunBeginning, Step, read_next_step, read_packets};
 use fx_tables::{Classes, Net};
 use std::alloc::Global;
 
-/// Makes the step unless one before it was refused, and gives the first refusal, if there is one.
+/// Makes the step unless one before it was refused, and returns the first refusal, if there is one.
+///
+/// Fails with 900, at no place, where memory runs out.
 #[inline(always)]
-fn make_step(state: &mut State<'_>, step: &Step, refused: Option<Fault>) -> Option<Fault>
+fn make_step(
+    state: &mut State<'_>,
+    step: &Step,
+    refused: Option<Fault>,
+) -> Result<Option<Fault>, Fault>
     ensures tables { (state.new.net ≡ state.old.net) × (state.new.classes ≡ state.old.classes)
         × (state.new.packets ≡ state.old.packets) }
-    ensures before { IfSome refused (λ e. result ≡ Some e) }
-    ensures made { refused ≡ None → result ≡ None → (s : states.State)
+    ensures before { IfOk result (λ r. IfSome refused (λ e. r ≡ Some e)) }
+    ensures made { IfOk result (λ r. refused ≡ None → r ≡ None → (s : states.State)
         → state.old.state ≡ states.told_state s
         → (next : states.State)
         × (stepping.after state.old.net state.old.classes state.old.packets step.now s ≡ Ok next)
-        × (state.new.state ≡ states.told_state next) }
-    ensures refused { refused ≡ None → IfSome result (λ e. (e.place ≡ places.None)
-        × ((e.number ≡ want_of_memory) ⊎ ((s : states.State)
-        → state.old.state ≡ states.told_state s
+        × (state.new.state ≡ states.told_state next)) }
+    ensures refused { IfOk result (λ r. refused ≡ None → IfSome r (λ e. (e.place ≡ places.None)
+        × ((s : states.State) → state.old.state ≡ states.told_state s
         → stepping.after state.old.net state.old.classes state.old.packets step.now s
         ≡ Err e.number))) }
+    ensures err { IfErr result IsMemory }
 {
-    match refused {
-        Some(fault) => Some(fault),
-        None => state.step(step).err(),
+    if refused.is_some() {
+        return Ok(refused);
+    }
+    match state.step(step) {
+        Ok(()) => Ok(None),
+        Err(fault) => {
+            if fault.number == refusals::WANT_OF_MEMORY {
+                Err(fault)
+            } else {
+                Ok(Some(fault))
+            }
+        }
     }
 }
 
-/// Makes the steps of the run that the lines say, each when it is read, and gives the state behind the last. Behind a
-/// step that is refused the lines are read to their end, since what is wrong in them goes before the refusal.
+/// Makes the steps of the run that the lines say, each when it is read, and returns the state after the last. After a step
+/// that is refused the lines are read to their end, since what is wrong in them goes before the refusal.
 ///
 /// Fails, where the lines say no run, as [`fx_run_text::read_run`]; else, at no place, with the number of the first step
-/// that is refused (851, 853, 852), and with 900 for want of memory.
+/// that is refused (851, 853, 852); and with 900 as soon as memory runs out.
 fn last_state<'a, R: Source>(
     alloc: Global,
     net: &'a Net,
@@ -75,7 +89,7 @@ fn last_state<'a, R: Source>(
         let Some(step) = next else {
             break;
         };
-        refused = make_step(&mut state, &step, refused);
+        refused = make_step(&mut state, &step, refused)?;
         drop(step);
         next = read_next_step(alloc, version, lines)?;
     }

@@ -31,10 +31,10 @@ steps-preserved g c =
       classes = search rules;
       going = c.in_ok-next.ensures.going;
       on = goes_on_next c.args.lines.now c.steps.lines c.read_next_step.new.lines c.in_ok-next.next on c.in_ok-next.ensures.on;
-      made = rw (c.make_step-refused.ensures.tables.2) (goes_on c.args.net.now c.args.classes.now c.args.lines.now c.in_ok-version.field-0.version c.steps.state.packets c.steps.lines c.read_next_step.new.lines c.in-Some.step c.in_ok-next.next c.steps.state.state c.make_step-refused.new.state.state c.steps.refused c.make_step-refused.result c.steps.state.net c.steps.state.classes c.steps.invariant.net c.steps.invariant.classes made (record {
-        before = c.make_step-refused.ensures.before;
-        made = c.make_step-refused.ensures.made;
-        refuses = c.make_step-refused.ensures.refused;
+      made = rw (c.in_ok-refused.ensures.tables.2) (goes_on c.args.net.now c.args.classes.now c.args.lines.now c.in_ok-version.field-0.version c.steps.state.packets c.steps.lines c.read_next_step.new.lines c.in-Some.step c.in_ok-next.next c.steps.state.state c.make_step.new.state.state c.steps.refused c.in_ok-refused.refused c.steps.state.net c.steps.state.classes c.steps.invariant.net c.steps.invariant.classes made (record {
+        before = c.in_ok-refused.ensures.before;
+        made = c.in_ok-refused.ensures.made;
+        refuses = c.in_ok-refused.ensures.refused;
       }) c.in_ok-next.ensures.ok);
     }
 
