@@ -14,9 +14,10 @@ use Rattle.fx_audit.specs.declared.bundle.Command.TheVariants.{Audit, Replay, Ch
 use Rattle.fx_audit.specs.Audits.{IsAuditedIn}
 use Rattle.fx_audit.specs.Checks.{IsAnswered}
 use Rattle.fx_audit.specs.Commands.{IsDone, IsReplayedIn}
-use Rattle.fx_audit.specs.Confirms.{IsConfirmedIn}
+use Rattle.fx_audit.specs.Confirms.{IsConfirmedIn, RefutesNothing, printed_refusal}
 use Rattle.fx_audit.specs.Outputs.{Prints}
 use Rattle.fx_audit.specs.Texts.{IsAuditText, IsBundleText, IsCheckText, IsConfirmText, IsReplayText}
+use Rattle.fx_audit.proofs.Confirms.{same_number}
 
 pub check_text : (network : NetworkDocument) (classes : List Class) (lines : Lines) (answer : Answer) (text : List ℕ) → IsAnswered network classes lines answer text → IsCheckText answer text
 check_text network classes lines Yes text h = h.text_is
@@ -25,7 +26,7 @@ check_text network classes lines Unknown text h = absurd h
 
 pub confirm_text : (network : NetworkDocument) (classes : List Class) (lines : Lines) (answer : Answer) (text : List ℕ) → IsConfirmedIn network classes lines answer text → IsConfirmText answer text
 confirm_text network classes lines Yes text h = (h.ran, h.plain, h.text_is)
-confirm_text network classes lines No text h = (h.fault, h.means_no, h.text_is)
+confirm_text network classes lines No text h = (printed_refusal h.fault, subst (λ (n : ℕ). RefutesNothing n) (sym (same_number h.fault)) h.means_no, h.text_is)
 confirm_text network classes lines Unknown text h = absurd h
 
 pub audit_text : (network : NetworkDocument) (classes : List Class) (limit : ℕ) (answer : Answer) (text : List ℕ) → IsAuditedIn network classes limit answer text → IsAuditText answer text

@@ -1,8 +1,10 @@
 -- What a refutation is answered with, and what is printed.
-use Rattle.std.specs.Prelude.{◌≡◌, ◌⊎◌, ℕ, List, ◌++◌, codes, Some, Ok, Err, IsPermutation}
+use Rattle.std.specs.Prelude.{◌≡◌, ◌⊎◌, ◌==◌, ℕ, List, ◌++◌, codes, Some, Ok, Err, IsPermutation, if◌then◌else◌}
 use Rattle.fx_base.specs.declared.fault.Fault.{Fault}
+use Rattle.fx_base.specs.declared.fault.Place.TheVariants as places
+use Rattle.fx_base.specs.Fault.{fault_at}
 use Rattle.fx_base.specs.Lines.{Lines}
-use Rattle.fx_base.specs.Refusals.{refutation_first, refutation_last}
+use Rattle.fx_base.specs.Refusals.{refutation_first, refutation_form, refutation_last}
 use Rattle.fx_tables.specs.Classes.{Class}
 use Rattle.fx_topology.specs.declared.network.NetworkDocument.{NetworkDocument}
 use Rattle.fx_plan.specs.Tables.{net_of}
@@ -22,6 +24,10 @@ refuted_text ran plain =
     codes "refuted\nrun\n" ++ (totals_text ran ++ (codes "plain\n" ++ totals_text plain))
 
 -- ---- what is answered
+
+-- a refusal as the answer prints it: a text that is no refutation has no place
+abbrev pub printed_refusal : Fault → Fault
+printed_refusal e = if e.number == refutation_form then fault_at e.number places.None else e
 
 -- a refusal with this number makes the answer no
 abbrev pub RefutesNothing : ℕ → Type 0
@@ -63,7 +69,7 @@ pub record IsNo (network : NetworkDocument) (classes : List Class) (lines : Line
   pub fault : Fault
   pub means_no : RefutesNothing fault.number
   pub refused : (lines.stopped ≡ Some fault) ⊎ IsRefusedRefutation network classes lines fault
-  pub text_is : text ≡ no_line fault
+  pub text_is : text ≡ no_line (printed_refusal fault)
 
 -- the answer to a refutation, in this network and traffic, and the text that it prints
 abbrev pub IsConfirmedIn : NetworkDocument → List Class → Lines → Answer → List ℕ → Type 0

@@ -8,7 +8,7 @@ ghost use Rattle.fx_plan.specs.Tables.{net_of};
 ghost use Rattle.fx_refute.specs.RefutationReading.{MayReadRefutation};
 ghost use Rattle.fx_refute.specs.Refutations.{AreTotals, Refutation, Refutes};
 ghost use Rattle.fx_audit.specs.Commands.{IsConfirmed, IsRefusedConfirm};
-ghost use Rattle.fx_audit.specs.Confirms.{IsConfirmedIn, IsInOrder, IsRefusedOtherwise, IsRefusedRefutation, IsRefuted, refuted_text};
+ghost use Rattle.fx_audit.specs.Confirms.{IsConfirmedIn, IsInOrder, IsRefusedOtherwise, IsRefusedRefutation, IsRefuted, printed_refusal, refuted_text};
 ghost use Rattle.fx_audit.specs.Documents.{BothMayHaveLeft, CannotRead, IfDocumentsRefused, IfNetworkRefused};
 ghost use Rattle.fx_audit.specs.Outputs.{AnswersWith, FailsBy, FailsQuietly, Prints};
 ghost use Rattle.fx_audit.specs.Texts.{IsConfirmText};
@@ -93,6 +93,17 @@ fn answer_refuted<S: Sink>(sink: &mut S, ran: &Totals, plain: &Totals) -> Result
     Ok(Answer::Yes)
 }
 
+/// Returns the refusal as the answer prints it: 501 without its line.
+fn without_place_of_form(fault: Fault) -> Fault
+    ensures { result ≡ printed_refusal fault }
+{
+    if fault.number == refusals::REFUTATION_FORM {
+        Fault::bare(fault.number)
+    } else {
+        fault
+    }
+}
+
 /// Confirms the refutation that a reader's lines say, and writes the answer.
 fn confirm_lines<C: Source, S: Sink>(
     alloc: Global,
@@ -113,17 +124,17 @@ fn confirm_lines<C: Source, S: Sink>(
         Ok((ran, plain)) => answer_refuted(sink, &ran, &plain),
         Err(fault) => answer_refusal(
             sink,
-            fault,
+            without_place_of_form(fault),
             refusals::REFUTATION_FIRST,
             refusals::REFUTATION_LAST,
         ),
     }
 }
 
-/// Reads a network document, a traffic declaration and the text of a refutation, and confirms the refutation. Where its
-/// run shows a wrong total, `refuted` is written, then, behind the line `run`, the totals of the run and, behind the
-/// line `plain`, the plain sums over its packet. Where it is refused by a number from 501 to 505, `no` is written with
-/// that number and its place.
+/// Reads a network document, a traffic declaration and the text of a refutation, and confirms the refutation. If its run
+/// shows a wrong total, `refuted` is written, then, after the line `run`, the totals of the run and, after the line `plain`, the
+/// plain sums over its packet. If it is refused by a number from 501 to 505, `no` is written with that number, and for 502
+/// and 503 with the line.
 ///
 /// Fails with the first other refusal: 101 and those of [`fx_plan::read_plan`] for the network, with nothing of the
 /// traffic read before; 101 and those of [`fx_traffic::read_traffic`] for the traffic; then, with nothing of the

@@ -10,6 +10,7 @@ use crate::text_again::TextAgain;
 use fx_audit::{Answer, audit_bytes, check_bytes, confirm_bytes};
 use fx_base::{Fault, LineReader, Octets, Outside, Place, Source, refusals};
 use fx_command_line::Call;
+use fx_refute::read_refutation;
 use fx_search::Unwatched;
 use fx_stories::{
     put_capture_words, put_certificate_words, put_collection_words, put_document_words,
@@ -266,6 +267,25 @@ fn put_denied_certificate<R: AllocGlobal + Files>(
     }
 }
 
+/// Returns the refusal of a refutation, that of a wrong form with its line, which the answer does not print.
+fn with_line_of_form<R: AllocGlobal + Files>(
+    rt: &R,
+    refutation: LinesAt<'_>,
+    fault: Fault,
+    words: &mut Words,
+) -> Fault {
+    if fault.number != refusals::REFUTATION_FORM {
+        return fault;
+    }
+    let Some(mut lines) = lines_or_words(rt, refutation, words) else {
+        return fault;
+    };
+    match read_refutation(rt.alloc(), &mut lines) {
+        Ok(_) => fault,
+        Err(found) => found,
+    }
+}
+
 /// Writes what is wrong with a refutation that was denied.
 fn put_denied_refutation<R: AllocGlobal + Files>(
     rt: &R,
@@ -278,6 +298,7 @@ fn put_denied_refutation<R: AllocGlobal + Files>(
     };
     match confirm_again(rt.alloc(), question, lines) {
         Ok(Some(fault)) => {
+            let fault = with_line_of_form(rt, refutation, fault, words);
             put_text_name(rt, refutation, words);
             put_step_words(rt, refutation, question, &fault, words);
             put_reason_words(fault.number, words);

@@ -56,7 +56,7 @@ fn refuses_other_shapes(rt: HostRuntime) {
 #[test]
 fn answers_bundles(rt: HostRuntime) {
     let (alloc, traffic, yes) = (rt.alloc(), TRAFFIC.as_bytes(), Ok(Answer::Yes));
-    let no = b"no 501 line 1\n";
+    let no = b"no 501\n";
     assert!(rt;
         ends_over_network(&rt, alloc, [b"replay\n", traffic, RUN], yes, TOTALS)
             & ends_over_network(

@@ -73,7 +73,7 @@ const OF_EXEMPT: &[Confirmed] = &[(COUNTED, 0, Ok(Answer::Yes), COUNTED_TOTALS)]
 const OF_COUNTED: &[Confirmed] = &[
     (COUNTED, 0, Ok(Answer::No), b"no 505\n"),
     (LOST, 0, Ok(Answer::No), b"no 503 line 4\n"),
-    (b"x\n", 0, Ok(Answer::No), b"no 501 line 1\n"),
+    (b"x\n", 0, Ok(Answer::No), b"no 501\n"),
 ];
 
 #[test]
