@@ -1,1 +1,2 @@
 pub mod CallOutputs
+pub mod CallRefusals

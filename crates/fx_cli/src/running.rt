@@ -1,13 +1,12 @@
 //! A command, from its words to its exit status.
-ghost use Rattle.std.specs.Prelude.{◌≡◌, ◌⊎◌, ◌≤◌, ◌<◌, length, map, string_bytes, true, false};
+ghost use Rattle.std.specs.Prelude.{◌≡◌, ◌⊎◌, ◌≤◌, ◌<◌, IfErr, length, map, string_bytes, true, false};
 ghost use Rattle.fx_audit.specs.Outputs.{AnswersWith};
-ghost use Rattle.fx_audit.specs.Texts.{IsBundleText};
 ghost use Rattle.fx_cli.specs.Ending.{IsExitStatus};
-ghost use Rattle.fx_cli.specs.Running.{EndsAs, EndsInWords, HasFailedInWords, HasFailedToWrite, IsCallText};
+ghost use Rattle.fx_cli.specs.Running.{EndsAs, EndsInWords, HasFailedInWords, HasFailedToWrite, IsBundleRefusal, IsBundleOutput, IsCallRefusal, IsCallText, IsRefusal};
 ghost use Rattle.fx_command_line.specs.Words.{Names, NamesNoCall};
 ghost use Rattle.fx_command_line.specs.declared.words.Call.{Call};
 ghost use Rattle.fx_cli.specs.WordsEnding.{IsWordsStatus};
-ghost use Rattle.fx_base.specs.Device.{KeepsGoing};
+ghost use Rattle.fx_base.specs.Device.{IsWriteFault, KeepsGoing};
 
 use crate::commands::answer_call;
 use crate::ending::{WRITE_FAILED, finish, finish_with};
@@ -31,7 +30,9 @@ fn answer_input<R: AllocGlobal + Input + RandomSource, S: Sink>(
     notes: &mut Notes,
     sink: &mut S,
 ) -> Result<Answer, Fault>
-    ensures { AnswersWith S.taken S.failed IsBundleText sink.old sink.new result }
+    ensures answers { AnswersWith S.taken S.failed IsBundleOutput sink.old sink.new result }
+    ensures refused { IfErr result (λ e. IsWriteFault (S.failed sink.new) e
+        ⊎ IsRefusal IsBundleRefusal e) }
 {
     let seed = seed_at_random(rt)?;
     let mut input = notes.source(Outside::new(rt.reader()));
@@ -42,7 +43,8 @@ fn answer_input<R: AllocGlobal + Input + RandomSource, S: Sink>(
 
 /// Answers the bundle on standard input. Gives the exit status.
 fn finish_input<R: AllocGlobal + Input + RandomSource, S: Sink>(rt: &R, sink: &mut S) -> u8
-    ensures ended { EndsAs IsBundleText (S.taken sink.old) (S.taken sink.new)
+    ensures ended { EndsAs IsBundleOutput (IsRefusal IsBundleRefusal) (S.taken sink.old)
+        (S.taken sink.new)
         (KeepsGoing (S.failed sink.old) (S.failed sink.new))
         (HasFailedToWrite S.taken S.failed sink.new) result }
     ensures exit { IsExitStatus result }
@@ -59,7 +61,8 @@ fn finish_call<R: AllocGlobal + Clock + Eprint + Files + RandomSource, S: Sink>(
     progress: bool,
     sink: &mut S,
 ) -> u8
-    ensures ended { EndsAs (IsCallText call.now) (S.taken sink.old) (S.taken sink.new)
+    ensures ended { EndsAs (IsCallText call.now) (IsCallRefusal call.now) (S.taken sink.old)
+        (S.taken sink.new)
         (KeepsGoing (S.failed sink.old) (S.failed sink.new))
         (HasFailedToWrite S.taken S.failed sink.new) result }
     ensures exit { IsExitStatus result }
@@ -79,11 +82,11 @@ fn answer_words<R: AllocGlobal + Clock + Eprint + Files + Input + RandomSource, 
     sink: &mut S,
 ) -> u8
     ensures bundle { length words.now < 2
-        → EndsAs IsBundleText (S.taken sink.old) (S.taken sink.new)
+        → EndsAs IsBundleOutput (IsRefusal IsBundleRefusal) (S.taken sink.old) (S.taken sink.new)
         (KeepsGoing (S.failed sink.old) (S.failed sink.new))
         (HasFailedToWrite S.taken S.failed sink.new) result }
     ensures call { (call : Call) → Names (map string_bytes words.now) call
-        → EndsAs (IsCallText call) (S.taken sink.old) (S.taken sink.new)
+        → EndsAs (IsCallText call) (IsCallRefusal call) (S.taken sink.old) (S.taken sink.new)
         (KeepsGoing (S.failed sink.old) (S.failed sink.new))
         (HasFailedToWrite S.taken S.failed sink.new) result }
     ensures no_call { 2 ≤ length words.now → NamesNoCall (map string_bytes words.now)
@@ -101,7 +104,8 @@ fn answer_words<R: AllocGlobal + Clock + Eprint + Files + Input + RandomSource, 
 
 /// Answers the bundle on standard input, and tells the answer in words behind it. Gives the exit status.
 fn tell_input<R: AllocGlobal + Files + Input + RandomSource, S: Sink>(rt: &R, sink: &mut S) -> u8
-    ensures ended { EndsInWords IsBundleText (S.taken sink.old) (S.taken sink.new)
+    ensures ended { EndsInWords IsBundleOutput (IsRefusal IsBundleRefusal) (S.taken sink.old)
+        (S.taken sink.new)
         (KeepsGoing (S.failed sink.old) (S.failed sink.new))
         (HasFailedInWords S.taken S.failed sink.new) result }
     ensures exit { IsExitStatus result }
@@ -119,7 +123,8 @@ fn tell_call<R: AllocGlobal + Clock + Eprint + Files + RandomSource, S: Sink>(
     progress: bool,
     sink: &mut S,
 ) -> u8
-    ensures ended { EndsInWords (IsCallText call.now) (S.taken sink.old) (S.taken sink.new)
+    ensures ended { EndsInWords (IsCallText call.now) (IsCallRefusal call.now) (S.taken sink.old)
+        (S.taken sink.new)
         (KeepsGoing (S.failed sink.old) (S.failed sink.new))
         (HasFailedInWords S.taken S.failed sink.new) result }
     ensures exit { IsExitStatus result }
@@ -138,11 +143,12 @@ fn answer_in_words<R: AllocGlobal + Clock + Eprint + Files + Input + RandomSourc
     sink: &mut S,
 ) -> u8
     ensures bundle { length words.now < 2
-        → EndsInWords IsBundleText (S.taken sink.old) (S.taken sink.new)
+        → EndsInWords IsBundleOutput (IsRefusal IsBundleRefusal) (S.taken sink.old)
+        (S.taken sink.new)
         (KeepsGoing (S.failed sink.old) (S.failed sink.new))
         (HasFailedInWords S.taken S.failed sink.new) result }
     ensures call { (call : Call) → Names (map string_bytes words.now) call
-        → EndsInWords (IsCallText call) (S.taken sink.old) (S.taken sink.new)
+        → EndsInWords (IsCallText call) (IsCallRefusal call) (S.taken sink.old) (S.taken sink.new)
         (KeepsGoing (S.failed sink.old) (S.failed sink.new))
         (HasFailedInWords S.taken S.failed sink.new) result }
     ensures no_call { 2 ≤ length words.now → NamesNoCall (map string_bytes words.now)
