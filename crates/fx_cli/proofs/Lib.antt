@@ -1,2 +1,3 @@
+pub mod AnswersGiven
 pub mod CallOutputs
 pub mod CallRefusals
