@@ -7,19 +7,19 @@ use Rattle.fx_command_line.specs.declared.words.Call.{Call}
 use Rattle.fx_cli.specs.Ending.{EndsWith}
 use Rattle.fx_cli.specs.Running.{EndsAs, EndsInWords, HasFailedInWords, HasFailedToWrite, IsBundleOutput, IsBundleRefusal, IsCallRefusal, IsCallText, IsRefusal}
 use Rattle.fx_cli.specs.WordFlag.{AddsHelp, RemovesOptions, wants_help}
-use Rattle.fx_cli.specs.WordsEnding.{IsWordsStatus, memory_line}
+use Rattle.fx_cli.specs.WordsEnding.{EndsWithoutCall, memory_line}
 
 -- the arguments after the name of the program name a call, which is answered; without any, the bundle on standard input is
 pub record EndsByArguments {A S : Type 0} (text_of : A → Text) (taken : S → Option (List ℕ)) (failed : S → Bool) (arguments : List A) (old new : S) (code : ℕ) : Type 0 where
   pub bundle : length arguments < 2 → EndsAs IsBundleOutput (IsRefusal IsBundleRefusal) (taken old) (taken new) (KeepsGoing (failed old) (failed new)) (HasFailedToWrite taken failed new) code
   pub call : (call : Call) → Names (map text_of arguments) call → EndsAs (IsCallText call) (IsCallRefusal call) (taken old) (taken new) (KeepsGoing (failed old) (failed new)) (HasFailedToWrite taken failed new) code
-  pub no_call : 2 ≤ length arguments → NamesNoCall (map text_of arguments) → IsWordsStatus (map text_of arguments) (failed new) code
+  pub no_call : 2 ≤ length arguments → NamesNoCall (map text_of arguments) → EndsWithoutCall taken failed (map text_of arguments) old new code
 
 -- the same with sentences after the answer
 pub record EndsByArgumentsInWords {A S : Type 0} (text_of : A → Text) (taken : S → Option (List ℕ)) (failed : S → Bool) (arguments : List A) (old new : S) (code : ℕ) : Type 0 where
   pub bundle : length arguments < 2 → EndsInWords IsBundleOutput (IsRefusal IsBundleRefusal) (taken old) (taken new) (KeepsGoing (failed old) (failed new)) (HasFailedInWords taken failed new) code
   pub call : (call : Call) → Names (map text_of arguments) call → EndsInWords (IsCallText call) (IsCallRefusal call) (taken old) (taken new) (KeepsGoing (failed old) (failed new)) (HasFailedInWords taken failed new) code
-  pub no_call : 2 ≤ length arguments → NamesNoCall (map text_of arguments) → IsWordsStatus (map text_of arguments) (failed new) code
+  pub no_call : 2 ≤ length arguments → NamesNoCall (map text_of arguments) → EndsWithoutCall taken failed (map text_of arguments) old new code
 
 abbrev pub EndsInWordsIf : Bool → {A S : Type 0} → (A → Text) → (S → Option (List ℕ)) → (S → Bool) → List A → S → S → ℕ → Type 0
 EndsInWordsIf false text_of taken failed arguments old new code = EndsByArguments text_of taken failed arguments old new code

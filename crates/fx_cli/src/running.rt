@@ -7,7 +7,7 @@ ghost use Rattle.fx_cli.specs.WordFlag.{AddsHelp, RemovesFlag, wants_help};
 ghost use Rattle.fx_cli.specs.Running.{EndsAs, EndsInWords, HasFailedInWords, HasFailedToWrite, IsBundleRefusal, IsBundleOutput, IsCallRefusal, IsCallText, IsRefusal};
 ghost use Rattle.fx_command_line.specs.Words.{Names, NamesNoCall};
 ghost use Rattle.fx_command_line.specs.declared.words.Call.{Call};
-ghost use Rattle.fx_cli.specs.WordsEnding.{IsWordsStatus, unread_status, unread_text};
+ghost use Rattle.fx_cli.specs.WordsEnding.{EndsWithoutCall, unread_status, unread_text};
 ghost use Rattle.std.specs.IoError.{error_kind};
 ghost use Rattle.fx_base.specs.Device.{IsWriteFault, KeepsGoing};
 
@@ -93,7 +93,8 @@ fn answer_words<R: AllocGlobal + Clock + Eprint + Files + Input + RandomSource, 
         (KeepsGoing (S.failed sink.old) (S.failed sink.new))
         (HasFailedToWrite S.taken S.failed sink.new) result }
     ensures no_call { 2 ≤ length words.now → NamesNoCall (map string_bytes words.now)
-        → IsWordsStatus (map string_bytes words.now) (S.failed sink.new) result }
+        → EndsWithoutCall S.taken S.failed (map string_bytes words.now) sink.old sink.new
+        result }
     ensures exit { IsExitStatus result }
 {
     if words.len() < 2 {
@@ -155,7 +156,8 @@ fn answer_in_words<R: AllocGlobal + Clock + Eprint + Files + Input + RandomSourc
         (KeepsGoing (S.failed sink.old) (S.failed sink.new))
         (HasFailedInWords S.taken S.failed sink.new) result }
     ensures no_call { 2 ≤ length words.now → NamesNoCall (map string_bytes words.now)
-        → IsWordsStatus (map string_bytes words.now) (S.failed sink.new) result }
+        → EndsWithoutCall S.taken S.failed (map string_bytes words.now) sink.old sink.new
+        result }
     ensures exit { IsExitStatus result }
 {
     if words.len() < 2 {
