@@ -1,1 +1,3 @@
+pub mod AnswersGiven
 pub mod CallOutputs
+pub mod CallRefusals

@@ -4,6 +4,7 @@ pub use Rattle.fx_command_line.specs.Words
 pub mod Drawing
 pub mod Ending
 pub mod Explaining
+pub mod Arguments
 pub mod Running
 pub mod WordFlag
 pub mod WordsEnding

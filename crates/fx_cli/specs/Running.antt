@@ -1,35 +1,161 @@
 -- What the program answers: the text that it prints with an answer, and the status with which it ends.
-use Rattle.std.specs.Prelude.{◌≡◌, ◌⊎◌, true, ℕ, Bool, List, ◌++◌, Ok, Option, string_bytes}
+use Rattle.std.specs.Prelude.{◌≡◌, ◌⊎◌, true, false, ℕ, Bool, List, ◌++◌, Ok, None, Option, is_some, string_bytes}
 use Rattle.fx_base.specs.Device.{Writes}
-use Rattle.fx_base.specs.Fault.{fault_at}
+use Rattle.fx_base.specs.Fault.{fault_at, IsMemory}
 use Rattle.fx_base.specs.declared.fault.Fault.{Fault}
 use Rattle.fx_base.specs.declared.fault.Place.TheVariants as places
-use Rattle.fx_base.specs.Refusals.{failed_write}
+use Rattle.fx_base.specs.Lines.{Lines, lines_in}
+use Rattle.fx_base.specs.Refusals.{failed_read, failed_write}
+use Rattle.fx_link.specs.Links.{Put}
 use Rattle.fx_audit.specs.declared.answer.Answer.{Answer}
-use Rattle.fx_audit.specs.Commands.{IsAudited}
-use Rattle.fx_audit.specs.Texts.{IsCheckText, IsCollectText, IsConfirmText, IsLintText, IsReplayText, IsRunText, IsSumText}
+use Rattle.fx_audit.specs.declared.answer.Answer.TheVariants.{Yes}
+use Rattle.fx_audit.specs.declared.bundle.Command.{Command}
+use Rattle.fx_audit.specs.Bundle.{IsBundle}
+use Rattle.fx_audit.specs.Commands.{AreLinted, IsAudited, IsChecked, IsCollected, IsConfirmed, IsDone, IsLinted, IsRefusedBundle, IsRefusedCheck, IsRefusedCollect, IsRefusedConfirm, IsRefusedReplay, IsReplayed}
+use Rattle.fx_audit.specs.Documents.{IsRefusedByDocuments, IsRefusedNetwork}
+use Rattle.fx_audit.specs.Metering.{IsMetered, IsRefusedMetering}
+use Rattle.fx_audit.specs.Sums.{IsRefusedSum, IsSummed}
 use Rattle.fx_cli.specs.Drawing.{IsDrawingText}
 use Rattle.fx_cli.specs.Explaining.{IsExplainText}
 use Rattle.fx_cli.specs.Ending.{refusal_line, refusal_status, status}
 use Rattle.fx_command_line.specs.declared.words.Call.{Call}
 use Rattle.fx_command_line.specs.declared.words.Call.TheVariants.{Audit, Check, Collect, Confirm, Draw, Explain, Lint, Replay, Run, Sum}
 
--- an audit of what the two files may have held, with at most so many split and leaf lines, answers this and prints this text
-abbrev pub IsTextWithin : ℕ → Answer → List ℕ → Type 0
-IsTextWithin limit answer text = (network : List ℕ) × (traffic : List ℕ) × IsAudited network traffic limit answer text
+-- ---- what the files of a command may have held
+
+-- a reader of lines that has read none
+abbrev pub IsAtBeginning : Lines → Type 0
+IsAtBeginning lines = (lines.stopped ≡ None) × (lines.number ≡ 0)
+
+-- some octets that the document of a network may have held, for which this holds
+abbrev pub ForSomeNetwork : (List ℕ → Type 0) → Type 0
+ForSomeNetwork P = (network : List ℕ) × P network
+
+-- some octets that two files may have held
+abbrev pub ForSomeDocuments : (List ℕ → List ℕ → Type 0) → Type 0
+ForSomeDocuments P = (network : List ℕ) × (traffic : List ℕ) × P network traffic
+
+-- some octets that two documents may have held, and a third text that is read line by line from its beginning
+abbrev pub ForSomeTexts : (List ℕ → List ℕ → Lines → Type 0) → Type 0
+ForSomeTexts P = (network : List ℕ) × (traffic : List ℕ) × (lines : Lines) × IsAtBeginning lines × P network traffic lines
+
+-- ---- what a command prints: the true answer for what its files may have held
+
+abbrev pub IsReplayOutput : Answer → List ℕ → Type 0
+IsReplayOutput answer text = (answer ≡ Yes) × ForSomeTexts (λ network traffic lines. IsReplayed network traffic lines text)
+
+abbrev pub IsCollectOutput : Answer → List ℕ → Type 0
+IsCollectOutput answer text = (answer ≡ Yes) × ForSomeDocuments (λ network stream. IsCollected network stream text)
+
+abbrev pub IsCheckOutput : Answer → List ℕ → Type 0
+IsCheckOutput answer text = ForSomeTexts (λ network traffic lines. IsChecked network traffic lines answer text)
+
+abbrev pub IsConfirmOutput : Answer → List ℕ → Type 0
+IsConfirmOutput answer text = ForSomeTexts (λ network traffic lines. IsConfirmed network traffic lines answer text)
+
+-- an audit within a limit on the split and leaf lines of a certificate
+abbrev pub IsAuditOutput : ℕ → Answer → List ℕ → Type 0
+IsAuditOutput limit answer text = ForSomeDocuments (λ network traffic. IsAudited network traffic limit answer text)
+
+-- a run over some capture, from some state of the links to another
+pub record IsMeteredCapture (network traffic : List ℕ) (from : Lines) (text : List ℕ) : Type 0 where
+  pub left : Option (List ℕ)
+  pub asked : ℕ
+  pub last : Lines
+  pub before : Put
+  pub after : Put
+  pub metered : IsMetered network traffic left asked from last before after text
+
+abbrev pub IsRunOutput : Answer → List ℕ → Type 0
+IsRunOutput answer text = (answer ≡ Yes) × ForSomeTexts (λ network traffic lines. IsMeteredCapture network traffic lines text)
+
+-- for the document of a network alone (`false`), or also for that of its traffic (`true`)
+abbrev pub IsLintOutput : Bool → Answer → List ℕ → Type 0
+IsLintOutput false answer text = (answer ≡ Yes) × ForSomeNetwork (λ network. IsLinted network text)
+IsLintOutput true answer text = (answer ≡ Yes) × ForSomeDocuments (λ network traffic. AreLinted network traffic text)
+
+abbrev pub IsSumOutput : Answer → List ℕ → Type 0
+IsSumOutput answer text = (answer ≡ Yes) × ForSomeNetwork (λ network. ((lines : Lines) × IsAtBeginning lines × IsSummed network lines text))
+
+-- what the command of a bundle prints, for octets that standard input may have held
+abbrev pub IsBundleOutput : Answer → List ℕ → Type 0
+IsBundleOutput answer text =
+    (octets : List ℕ) × (command : Command) × (network : List ℕ) × (traffic : List ℕ) × (third : List ℕ)
+    × IsBundle octets command network traffic third × IsDone command network traffic (lines_in third) answer text
 
 -- the text that a call prints with its answer
 abbrev pub IsCallText : Call → Answer → List ℕ → Type 0
-IsCallText (Replay network traffic run) answer text = IsReplayText answer text
-IsCallText (Collect network stream) answer text = IsCollectText answer text
-IsCallText (Check network traffic certificate) answer text = IsCheckText answer text
-IsCallText (Confirm network traffic refutation) answer text = IsConfirmText answer text
-IsCallText (Audit network traffic limit) answer text = IsTextWithin limit answer text
-IsCallText (Run network traffic capture schedule links) answer text = IsRunText answer text
-IsCallText (Lint network traffic) answer text = IsLintText answer text
+IsCallText (Replay network traffic run) answer text = IsReplayOutput answer text
+IsCallText (Collect network stream) answer text = IsCollectOutput answer text
+IsCallText (Check network traffic certificate) answer text = IsCheckOutput answer text
+IsCallText (Confirm network traffic refutation) answer text = IsConfirmOutput answer text
+IsCallText (Audit network traffic limit) answer text = IsAuditOutput limit answer text
+IsCallText (Run network traffic capture schedule links) answer text = IsRunOutput answer text
+IsCallText (Lint network traffic) answer text = IsLintOutput (is_some traffic) answer text
 IsCallText (Draw network traffic said) answer text = IsDrawingText answer text
-IsCallText (Sum network totals) answer text = IsSumText answer text
+IsCallText (Sum network totals) answer text = IsSumOutput answer text
 IsCallText (Explain number) answer text = IsExplainText (string_bytes number) answer text
+
+-- ---- what a command is refused for: a refusal that it has for what its files may have held
+
+abbrev pub IsReplayRefusal : Fault → Type 0
+IsReplayRefusal e = ForSomeTexts (λ network traffic lines. IsRefusedReplay network traffic lines e)
+
+abbrev pub IsCollectRefusal : Fault → Type 0
+IsCollectRefusal e = ForSomeDocuments (λ network stream. IsRefusedCollect network stream e)
+
+abbrev pub IsCheckRefusal : Fault → Type 0
+IsCheckRefusal e = ForSomeTexts (λ network traffic lines. IsRefusedCheck network traffic lines e)
+
+abbrev pub IsConfirmRefusal : Fault → Type 0
+IsConfirmRefusal e = ForSomeTexts (λ network traffic lines. IsRefusedConfirm network traffic lines e)
+
+-- an audit, and a lint of two documents
+abbrev pub IsDocumentsRefusal : Fault → Type 0
+IsDocumentsRefusal e = ForSomeDocuments (λ network traffic. IsRefusedByDocuments network traffic e)
+
+-- a run over some capture that could be read
+pub record IsCaptureRefusal (network traffic : List ℕ) (from : Lines) (e : Fault) : Type 0 where
+  pub left : Option (List ℕ)
+  pub asked : ℕ
+  pub last : Lines
+  pub before : Put
+  pub refused : IsRefusedMetering network traffic left asked ⊥ from last before e
+
+-- where the octets of the links go to files (`true`), one of these may also have failed
+abbrev pub IsRunRefusal : Bool → Fault → Type 0
+IsRunRefusal false e = ForSomeTexts (λ network traffic lines. IsCaptureRefusal network traffic lines e)
+IsRunRefusal true e = (e ≡ fault_at failed_write places.None) ⊎ ForSomeTexts (λ network traffic lines. IsCaptureRefusal network traffic lines e)
+
+-- for the document of a network alone (`false`), or also for that of its traffic (`true`)
+abbrev pub IsLintRefusal : Bool → Fault → Type 0
+IsLintRefusal false e = ForSomeNetwork (λ network. IsRefusedNetwork network e)
+IsLintRefusal true e = IsDocumentsRefusal e
+
+abbrev pub IsSumRefusal : Fault → Type 0
+IsSumRefusal e = ForSomeNetwork (λ network. ((lines : Lines) × IsAtBeginning lines × IsRefusedSum network lines e))
+
+abbrev pub IsBundleRefusal : Fault → Type 0
+IsBundleRefusal e = (octets : List ℕ) × IsRefusedBundle octets e
+
+-- out of memory, a device that can't be read, or a refusal of the command's own
+abbrev pub IsRefusal : (Fault → Type 0) → Fault → Type 0
+IsRefusal IsOwn e = IsMemory e ⊎ ((e ≡ fault_at failed_read places.None) ⊎ IsOwn e)
+
+-- the refusal of a call; a drawing may have any, and an explanation, which reads nothing, has none of its own
+abbrev pub IsCallRefusal : Call → Fault → Type 0
+IsCallRefusal (Replay network traffic run) e = IsRefusal IsReplayRefusal e
+IsCallRefusal (Collect network stream) e = IsRefusal IsCollectRefusal e
+IsCallRefusal (Check network traffic certificate) e = IsRefusal IsCheckRefusal e
+IsCallRefusal (Confirm network traffic refutation) e = IsRefusal IsConfirmRefusal e
+IsCallRefusal (Audit network traffic limit) e = IsRefusal IsDocumentsRefusal e
+IsCallRefusal (Run network traffic capture schedule links) e = IsRefusal (IsRunRefusal (is_some links)) e
+IsCallRefusal (Lint network traffic) e = IsRefusal (IsLintRefusal (is_some traffic)) e
+IsCallRefusal (Draw network traffic said) e = Unit {0}
+IsCallRefusal (Sum network totals) e = IsRefusal IsSumRefusal e
+IsCallRefusal (Explain number) e = IsMemory e
+
+-- ---- how the program ends
 
 -- Of what octets go to, in the end: its last call failed, or one failed and then the line that says so was taken.
 abbrev pub HasFailedToWrite : {S : Type 0} → (S → Option (List ℕ)) → (S → Bool) → S → Type 0
@@ -40,17 +166,18 @@ abbrev pub HasFailedInWords : {S : Type 0} → (S → Option (List ℕ)) → (S 
 HasFailedInWords {S} taken failed new =
     (failed new ≡ true) ⊎ ((then : S) × (words : List ℕ) × (failed then ≡ true) × Writes (taken then) (taken new) (refusal_line (fault_at failed_write places.None) ++ words))
 
--- How the program ends: with the text of an answer and that answer's status; with the line of a refusal, and nothing
--- else, and that refusal's status; or with 5 where a write failed. `Going` says that in the first two no write failed.
-abbrev pub EndsAs : (Answer → List ℕ → Type 0) → Option (List ℕ) → Option (List ℕ) → Type 0 → Type 0 → ℕ → Type 0
-EndsAs IsText old new Going Failed code =
+-- How the program ends: with the text of an answer and that answer's status; with the line of a refusal that is possible
+-- here, nothing else, and that refusal's status; or with 5 where a write failed. `Going` says that in the first two no write
+-- failed.
+abbrev pub EndsAs : (Answer → List ℕ → Type 0) → (Fault → Type 0) → Option (List ℕ) → Option (List ℕ) → Type 0 → Type 0 → ℕ → Type 0
+EndsAs IsText IsRefused old new Going Failed code =
     (Going × ((answer : Answer) × (text : List ℕ) × IsText answer text × Writes old new text × (code ≡ status (Ok answer))))
-    ⊎ ((Going × ((e : Fault) × Writes old new (refusal_line e) × (code ≡ refusal_status e)))
+    ⊎ ((Going × ((e : Fault) × IsRefused e × Writes old new (refusal_line e) × (code ≡ refusal_status e)))
     ⊎ ((code ≡ 5) × Failed))
 
 -- How it ends where words stand behind the answer's text or the line of the refusal.
-abbrev pub EndsInWords : (Answer → List ℕ → Type 0) → Option (List ℕ) → Option (List ℕ) → Type 0 → Type 0 → ℕ → Type 0
-EndsInWords IsText old new Going Failed code =
+abbrev pub EndsInWords : (Answer → List ℕ → Type 0) → (Fault → Type 0) → Option (List ℕ) → Option (List ℕ) → Type 0 → Type 0 → ℕ → Type 0
+EndsInWords IsText IsRefused old new Going Failed code =
     (Going × ((answer : Answer) × (text : List ℕ) × (words : List ℕ) × IsText answer text × Writes old new (text ++ words) × (code ≡ status (Ok answer))))
-    ⊎ ((Going × ((e : Fault) × (words : List ℕ) × Writes old new (refusal_line e ++ words) × (code ≡ refusal_status e)))
+    ⊎ ((Going × ((e : Fault) × (words : List ℕ) × IsRefused e × Writes old new (refusal_line e ++ words) × (code ≡ refusal_status e)))
     ⊎ ((code ≡ 5) × Failed))

@@ -1,5 +1,5 @@
 -- How a command ends whose words name no call, or can't be read.
-use Rattle.std.specs.Prelude.{◌≡◌, ◌⊎◌, Bool, true, ℕ, List, [], ◌∷◌, ◌++◌, codes}
+use Rattle.std.specs.Prelude.{◌≢◌, ◌⊎◌, Bool, Option, ℕ, List, [], ◌∷◌, ◌++◌, codes}
 use Rattle.std.specs.declared.io.ErrorKind.{ErrorKind as Failure}
 use Rattle.std.specs.declared.io.ErrorKind.TheVariants as failure
 use Rattle.clap.specs.declared.error.kind.ErrorKind.{ErrorKind}
@@ -9,7 +9,7 @@ use Rattle.fx_base.specs.declared.fault.Place.TheVariants as places
 use Rattle.fx_base.specs.Refusals.{failed_read, want_of_memory}
 use Rattle.clap.specs.Words.{IsAmong, Text, fault_of}
 use Rattle.fx_command_line.specs.CommandLine.{once_app}
-use Rattle.fx_cli.specs.Ending.{refusal_line}
+use Rattle.fx_cli.specs.Ending.{EndsWith, refusal_line}
 
 -- 0 where help was asked for, 4 where memory ran out
 abbrev pub words_status : ErrorKind → ℕ
@@ -33,7 +33,12 @@ unread_text failure.InvalidData = codes "error: a word is no UTF-8 text" ++ (10 
     (codes "what to do: Name each file in UTF-8: rename it, or name a link to it." ++ 10 ∷ []))
 unread_text _ = refusal_line (fault_at failed_read places.None)
 
--- a status with which words end that name no call: want of memory, a write that failed, or what their fault says
-abbrev pub IsWordsStatus : List Text → Bool → ℕ → Type 0
-IsWordsStatus words failed code =
-    (code ≡ 4) ⊎ (((code ≡ 5) × (failed ≡ true)) ⊎ ((kind : ErrorKind) × IsAmong kind (fault_of once_app words) × (code ≡ words_status kind)))
+-- some text, never an empty one, is written, and the program ends with this status
+abbrev pub EndsWithSomeText : {S : Type 0} → (S → Option (List ℕ)) → (S → Bool) → ℕ → S → S → ℕ → Type 0
+EndsWithSomeText taken failed wanted old new code = (text : List ℕ) × (text ≢ []) × EndsWith taken failed text wanted old new code
+
+-- arguments that name no call: memory runs out, or the program ends with the status of what is wrong with them
+abbrev pub EndsWithoutCall : {S : Type 0} → (S → Option (List ℕ)) → (S → Bool) → List Text → S → S → ℕ → Type 0
+EndsWithoutCall taken failed arguments old new code =
+    EndsWith taken failed memory_line 4 old new code
+    ⊎ ((kind : ErrorKind) × IsAmong kind (fault_of once_app arguments) × EndsWithSomeText taken failed (words_status kind) old new code)

@@ -1,11 +1,14 @@
 //! What each command opens, reads and answers.
-ghost use Rattle.std.specs.Prelude.{◌≡◌, ◌⊎◌, IfErr};
+ghost use Rattle.std.specs.Prelude.{◌≡◌, ◌⊎◌, IfErr, IfOk, is_some, true, false};
 ghost use Rattle.fx_base.specs.Fault.{fault_at, IsMemory};
 ghost use Rattle.fx_base.specs.Refusals.{failed_read};
 ghost use Rattle.fx_base.specs.declared.fault.Place.TheVariants as places;
-ghost use Rattle.fx_audit.specs.Outputs.{AnswersWith};
-ghost use Rattle.fx_audit.specs.Texts.{IsCheckText, IsCollectText, IsConfirmText, IsLintText, IsReplayText, IsRunText, IsSumText};
-ghost use Rattle.fx_cli.specs.Running.{IsCallText, IsTextWithin};
+ghost use Rattle.fx_audit.specs.Outputs.{AnswersWith, FailsQuietly, Prints};
+ghost use Rattle.fx_base.specs.Device.{IsWriteFault};
+ghost use Rattle.fx_audit.specs.Documents.{BothMayHaveLeft};
+ghost use Rattle.fx_audit.specs.Metering.{IsMetered, IsRefusedMetering};
+ghost use Rattle.fx_audit.specs.declared.answer.Answer.TheVariants.{Yes};
+ghost use Rattle.fx_cli.specs.Running.{IsDocumentsRefusal, IsAtBeginning, IsCallRefusal, IsCallText, IsCheckRefusal, IsCheckOutput, IsCollectRefusal, IsCollectOutput, IsConfirmRefusal, IsConfirmOutput, IsLintRefusal, IsLintOutput, IsRunOutput, IsRefusal, IsReplayRefusal, IsReplayOutput, IsRunRefusal, IsSumRefusal, IsSumOutput, IsAuditOutput};
 
 use crate::drawing::draw;
 use crate::explaining::explain_bytes;
@@ -22,7 +25,8 @@ use fx_audit::{
 use fx_base::{Fault, LineReader, Outside, Sink, Source};
 use fx_command_line::Call;
 use fx_layout::Seed;
-use fx_link::Nowhere;
+use fx_link::{Links, Nowhere};
+use std::alloc::Global;
 use std::random::RandomSource;
 use std::rt::{Clock, Files};
 
@@ -41,7 +45,8 @@ fn open_texts<R: AllocGlobal + Files>(
     third: &str,
     notes: &mut Notes,
 ) -> Result<Texts<R::File>, Fault>
-    ensures { IfErr result (λ e. (e ≡ fault_at failed_read places.None)
+    ensures ok { IfOk result (λ texts. IsAtBeginning texts.2) }
+    ensures err { IfErr result (λ e. (e ≡ fault_at failed_read places.None)
         ⊎ IsMemory e) }
 {
     let network = open(rt, network, notes)?;
@@ -60,7 +65,9 @@ fn replay<R: AllocGlobal + Files + RandomSource, S: Sink>(
     notes: &mut Notes,
     sink: &mut S,
 ) -> Result<Answer, Fault>
-    ensures { AnswersWith S.taken S.failed IsReplayText sink.old sink.new result }
+    ensures answers { AnswersWith S.taken S.failed IsReplayOutput sink.old sink.new result }
+    ensures refused { IfErr result (λ e. IsWriteFault (S.failed sink.new) e
+        ⊎ IsRefusal IsReplayRefusal e) }
 {
     let seed = seed_at_random(rt)?;
     let (mut network, mut traffic, mut lines) = open_texts(rt, network, traffic, run, notes)?;
@@ -84,7 +91,9 @@ fn collect<R: AllocGlobal + Clock + Eprint + Files + RandomSource, S: Sink>(
     notes: &mut Notes,
     sink: &mut S,
 ) -> Result<Answer, Fault>
-    ensures { AnswersWith S.taken S.failed IsCollectText sink.old sink.new result }
+    ensures answers { AnswersWith S.taken S.failed IsCollectOutput sink.old sink.new result }
+    ensures refused { IfErr result (λ e. IsWriteFault (S.failed sink.new) e
+        ⊎ IsRefusal IsCollectRefusal e) }
 {
     let seed = seed_at_random(rt)?;
     let network = open(rt, network, notes)?;
@@ -105,7 +114,9 @@ fn check<R: AllocGlobal + Files, S: Sink>(
     notes: &mut Notes,
     sink: &mut S,
 ) -> Result<Answer, Fault>
-    ensures { AnswersWith S.taken S.failed IsCheckText sink.old sink.new result }
+    ensures answers { AnswersWith S.taken S.failed IsCheckOutput sink.old sink.new result }
+    ensures refused { IfErr result (λ e. IsWriteFault (S.failed sink.new) e
+        ⊎ IsRefusal IsCheckRefusal e) }
 {
     let (mut network, mut traffic, mut lines) = open_texts(
         rt,
@@ -128,7 +139,9 @@ fn confirm<R: AllocGlobal + Files, S: Sink>(
     notes: &mut Notes,
     sink: &mut S,
 ) -> Result<Answer, Fault>
-    ensures { AnswersWith S.taken S.failed IsConfirmText sink.old sink.new result }
+    ensures answers { AnswersWith S.taken S.failed IsConfirmOutput sink.old sink.new result }
+    ensures refused { IfErr result (λ e. IsWriteFault (S.failed sink.new) e
+        ⊎ IsRefusal IsConfirmRefusal e) }
 {
     let (mut network, mut traffic, mut lines) = open_texts(
         rt, network, traffic, refutation, notes,
@@ -147,7 +160,9 @@ fn audit<R: AllocGlobal + Clock + Eprint + Files, S: Sink>(
     notes: &mut Notes,
     sink: &mut S,
 ) -> Result<Answer, Fault>
-    ensures { AnswersWith S.taken S.failed (IsTextWithin limit) sink.old sink.new result }
+    ensures answers { AnswersWith S.taken S.failed (IsAuditOutput limit) sink.old sink.new result }
+    ensures refused { IfErr result (λ e. IsWriteFault (S.failed sink.new) e
+        ⊎ IsRefusal IsDocumentsRefusal e) }
 {
     let network = open(rt, network, notes)?;
     let traffic = open(rt, traffic, notes)?;
@@ -166,6 +181,36 @@ fn audit<R: AllocGlobal + Clock + Eprint + Files, S: Sink>(
     answer
 }
 
+/// Runs a network over a capture, as a schedule says, and writes the octets of its links to `links`, which it returns.
+fn run_on_links<N: Source, T: Source, C: Source, Q: Source, L: Links, S: Sink>(
+    alloc: Global,
+    seed: Seed,
+    network: &mut N,
+    traffic: &mut T,
+    capture: C,
+    schedule: &mut LineReader<Q>,
+    mut links: L,
+    sink: &mut S,
+) -> (Result<Answer, Fault>, L)
+    ensures ok { IfOk result.0 (λ answer. (answer ≡ Yes)
+        × BothMayHaveLeft (N.left network.old) (T.left traffic.old) (λ n t.
+        Prints (IsMetered n t (C.left capture) (C.calls capture) schedule.old schedule.new
+        (L.put_on links) (L.put_on result.1)) (S.taken sink.old) (S.taken sink.new))) }
+    ensures err { IfErr result.0 (λ e. IsMemory e
+        ⊎ ((e ≡ fault_at failed_read places.None)
+        ⊎ (IsWriteFault (L.failed result.1) e
+        ⊎ (IsWriteFault (S.failed sink.new) e
+        ⊎ BothMayHaveLeft (N.left network.old) (T.left traffic.old) (λ n t. IsRefusedMetering n t
+        (C.left capture) (C.calls capture) ⊥ schedule.old
+        schedule.new (L.put_on links) e))))) }
+    ensures quiet { FailsQuietly S.failed sink.old sink.new result.0 }
+{
+    let answer = run_bytes(
+        alloc, seed, network, traffic, capture, schedule, &mut links, sink,
+    );
+    (answer, links)
+}
+
 /// Runs a network over a capture, as a schedule says, with the octets of each link in a file of its own, whose name begins
 /// with a prefix, and by which no file of the input was named.
 fn run_onto_files<R: AllocGlobal + Files, N: Source, T: Source, C: Source, Q: Source, S: Sink>(
@@ -180,14 +225,38 @@ fn run_onto_files<R: AllocGlobal + Files, N: Source, T: Source, C: Source, Q: So
     notes: &mut Notes,
     sink: &mut S,
 ) -> Result<Answer, Fault>
-    ensures { AnswersWith S.taken S.failed IsRunText sink.old sink.new result }
+    requires { IsAtBeginning schedule.old }
+    ensures answers { AnswersWith S.taken S.failed IsRunOutput sink.old sink.new result }
+    ensures refused { IfErr result (λ e. IsWriteFault (S.failed sink.new) e
+        ⊎ IsRefusal (IsRunRefusal true) e) }
 {
     let alloc = rt.alloc();
-    let mut files = LinkFiles::new(alloc, rt, prefix, inputs, notes.failing_files());
-    let answer = run_bytes(
-        alloc, seed, network, traffic, capture, schedule, &mut files, sink,
+    let files = LinkFiles::new(alloc, rt, prefix, inputs, notes.failing_files());
+    let (answer, files) = run_on_links(
+        alloc, seed, network, traffic, capture, schedule, files, sink,
     );
     notes.failed_file = files.into_failed_file();
+    answer
+}
+
+/// Runs a network over a capture, as a schedule says, and writes the octets of its links nowhere.
+fn run_onto_nowhere<N: Source, T: Source, C: Source, Q: Source, S: Sink>(
+    alloc: Global,
+    seed: Seed,
+    network: &mut N,
+    traffic: &mut T,
+    capture: C,
+    schedule: &mut LineReader<Q>,
+    sink: &mut S,
+) -> Result<Answer, Fault>
+    requires { IsAtBeginning schedule.old }
+    ensures answers { AnswersWith S.taken S.failed IsRunOutput sink.old sink.new result }
+    ensures refused { IfErr result (λ e. IsWriteFault (S.failed sink.new) e
+        ⊎ IsRefusal (IsRunRefusal false) e) }
+{
+    let (answer, _nowhere) = run_on_links(
+        alloc, seed, network, traffic, capture, schedule, Nowhere, sink,
+    );
     answer
 }
 
@@ -203,7 +272,9 @@ fn run_capture<R: AllocGlobal + Clock + Eprint + Files + RandomSource, S: Sink>(
     notes: &mut Notes,
     sink: &mut S,
 ) -> Result<Answer, Fault>
-    ensures { AnswersWith S.taken S.failed IsRunText sink.old sink.new result }
+    ensures answers { AnswersWith S.taken S.failed IsRunOutput sink.old sink.new result }
+    ensures refused { IfErr result (λ e. IsWriteFault (S.failed sink.new) e
+        ⊎ IsRefusal (IsRunRefusal (is_some links.entry)) e) }
 {
     let seed = seed_at_random(rt)?;
     let inputs = [network, traffic, capture, schedule];
@@ -229,14 +300,13 @@ fn run_capture<R: AllocGlobal + Clock + Eprint + Files + RandomSource, S: Sink>(
             notes,
             sink,
         ),
-        None => run_bytes(
+        None => run_onto_nowhere(
             alloc,
             seed,
             &mut network,
             &mut traffic,
             capture,
             &mut lines,
-            &mut Nowhere,
             sink,
         ),
     };
@@ -252,7 +322,10 @@ fn lint<R: AllocGlobal + Files, S: Sink>(
     notes: &mut Notes,
     sink: &mut S,
 ) -> Result<Answer, Fault>
-    ensures { AnswersWith S.taken S.failed IsLintText sink.old sink.new result }
+    ensures answers { AnswersWith S.taken S.failed (IsLintOutput (is_some traffic.entry)) sink.old
+        sink.new result }
+    ensures refused { IfErr result (λ e. IsWriteFault (S.failed sink.new) e
+        ⊎ IsRefusal (IsLintRefusal (is_some traffic.entry)) e) }
 {
     let network = open(rt, network, notes)?;
     let mut network = notes.source(network);
@@ -276,7 +349,9 @@ fn sum<R: AllocGlobal + Files + RandomSource, S: Sink>(
     notes: &mut Notes,
     sink: &mut S,
 ) -> Result<Answer, Fault>
-    ensures { AnswersWith S.taken S.failed IsSumText sink.old sink.new result }
+    ensures answers { AnswersWith S.taken S.failed IsSumOutput sink.old sink.new result }
+    ensures refused { IfErr result (λ e. IsWriteFault (S.failed sink.new) e
+        ⊎ IsRefusal IsSumRefusal e) }
 {
     let seed = seed_at_random(rt)?;
     let network = open(rt, network, notes)?;
@@ -299,7 +374,9 @@ pub(crate) fn answer_call<R: AllocGlobal + Clock + Eprint + Files + RandomSource
     notes: &mut Notes,
     sink: &mut S,
 ) -> Result<Answer, Fault>
-    ensures { AnswersWith S.taken S.failed (IsCallText call.now) sink.old sink.new result }
+    ensures answers { AnswersWith S.taken S.failed (IsCallText call.now) sink.old sink.new result }
+    ensures refused { IfErr result (λ e. IsWriteFault (S.failed sink.new) e
+        ⊎ IsCallRefusal call.now e) }
 {
     match call {
         Call::Replay {

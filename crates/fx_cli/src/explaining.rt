@@ -1,5 +1,6 @@
 //! The command that explains the numbers of refusals.
-ghost use Rattle.std.specs.Prelude.{◌≡◌, Some};
+ghost use Rattle.std.specs.Prelude.{◌≡◌, IfErr, Some};
+ghost use Rattle.fx_base.specs.Device.{IsWriteFault};
 ghost use Rattle.fx_audit.specs.Outputs.{AnswersWith};
 ghost use Rattle.fx_elements.specs.Spelling.{largest, number_of};
 ghost use Rattle.fx_cli.specs.Explaining.{IsExplained, IsExplainText, small};
@@ -11,7 +12,9 @@ use fx_words::{put_explanation, put_refusal_list, refusal_of};
 
 /// Explains the refusals of a number.
 fn explain_number<S: Sink>(number: u16, sink: &mut S) -> Result<Answer, Fault>
-    ensures { AnswersWith S.taken S.failed (IsExplained (Some number)) sink.old sink.new result }
+    ensures answers { AnswersWith S.taken S.failed (IsExplained (Some number)) sink.old sink.new
+        result }
+    ensures refused { IfErr result (IsWriteFault (S.failed sink.new)) }
 {
     match refusal_of(number) {
         Some(_) => {
@@ -43,7 +46,9 @@ fn number_in(word: &str) -> Option<u16>
 ///
 /// Fails with 902, at no place, where a write fails.
 pub fn explain_bytes<S: Sink>(word: &str, sink: &mut S) -> Result<Answer, Fault>
-    ensures { AnswersWith S.taken S.failed (IsExplainText word.now) sink.old sink.new result }
+    ensures answers { AnswersWith S.taken S.failed (IsExplainText word.now) sink.old sink.new
+        result }
+    ensures refused { IfErr result (IsWriteFault (S.failed sink.new)) }
 {
     if word == "all" {
         put_refusal_list(sink)?;

@@ -1,13 +1,15 @@
 //! A command, from its words to its exit status.
-ghost use Rattle.std.specs.Prelude.{◌≡◌, ◌⊎◌, ◌≤◌, ◌<◌, length, map, string_bytes, true, false};
+ghost use Rattle.std.specs.Prelude.{◌≡◌, ◌⊎◌, ◌≤◌, ◌<◌, IfErr, IfOk, length, map, string_bytes, true, false};
 ghost use Rattle.fx_audit.specs.Outputs.{AnswersWith};
-ghost use Rattle.fx_audit.specs.Texts.{IsBundleText};
-ghost use Rattle.fx_cli.specs.Ending.{IsExitStatus};
-ghost use Rattle.fx_cli.specs.Running.{EndsAs, EndsInWords, HasFailedInWords, HasFailedToWrite, IsCallText};
+ghost use Rattle.fx_cli.specs.Ending.{EndsWith, IsExitStatus};
+ghost use Rattle.fx_cli.specs.Arguments.{EndsByOptions, EndsByGivenArguments, EndsAfterFlush};
+ghost use Rattle.fx_cli.specs.WordFlag.{AddsHelp, RemovesFlag, wants_help};
+ghost use Rattle.fx_cli.specs.Running.{EndsAs, EndsInWords, HasFailedInWords, HasFailedToWrite, IsBundleRefusal, IsBundleOutput, IsCallRefusal, IsCallText, IsRefusal};
 ghost use Rattle.fx_command_line.specs.Words.{Names, NamesNoCall};
 ghost use Rattle.fx_command_line.specs.declared.words.Call.{Call};
-ghost use Rattle.fx_cli.specs.WordsEnding.{IsWordsStatus};
-ghost use Rattle.fx_base.specs.Device.{KeepsGoing};
+ghost use Rattle.fx_cli.specs.WordsEnding.{EndsWithoutCall, unread_status, unread_text};
+ghost use Rattle.std.specs.IoError.{error_kind};
+ghost use Rattle.fx_base.specs.Device.{IsWriteFault, KeepsGoing};
 
 use crate::commands::answer_call;
 use crate::ending::{WRITE_FAILED, finish, finish_with};
@@ -31,7 +33,9 @@ fn answer_input<R: AllocGlobal + Input + RandomSource, S: Sink>(
     notes: &mut Notes,
     sink: &mut S,
 ) -> Result<Answer, Fault>
-    ensures { AnswersWith S.taken S.failed IsBundleText sink.old sink.new result }
+    ensures answers { AnswersWith S.taken S.failed IsBundleOutput sink.old sink.new result }
+    ensures refused { IfErr result (λ e. IsWriteFault (S.failed sink.new) e
+        ⊎ IsRefusal IsBundleRefusal e) }
 {
     let seed = seed_at_random(rt)?;
     let mut input = notes.source(Outside::new(rt.reader()));
@@ -42,7 +46,8 @@ fn answer_input<R: AllocGlobal + Input + RandomSource, S: Sink>(
 
 /// Answers the bundle on standard input. Gives the exit status.
 fn finish_input<R: AllocGlobal + Input + RandomSource, S: Sink>(rt: &R, sink: &mut S) -> u8
-    ensures ended { EndsAs IsBundleText (S.taken sink.old) (S.taken sink.new)
+    ensures ended { EndsAs IsBundleOutput (IsRefusal IsBundleRefusal) (S.taken sink.old)
+        (S.taken sink.new)
         (KeepsGoing (S.failed sink.old) (S.failed sink.new))
         (HasFailedToWrite S.taken S.failed sink.new) result }
     ensures exit { IsExitStatus result }
@@ -59,7 +64,8 @@ fn finish_call<R: AllocGlobal + Clock + Eprint + Files + RandomSource, S: Sink>(
     progress: bool,
     sink: &mut S,
 ) -> u8
-    ensures ended { EndsAs (IsCallText call.now) (S.taken sink.old) (S.taken sink.new)
+    ensures ended { EndsAs (IsCallText call.now) (IsCallRefusal call.now) (S.taken sink.old)
+        (S.taken sink.new)
         (KeepsGoing (S.failed sink.old) (S.failed sink.new))
         (HasFailedToWrite S.taken S.failed sink.new) result }
     ensures exit { IsExitStatus result }
@@ -79,15 +85,16 @@ fn answer_words<R: AllocGlobal + Clock + Eprint + Files + Input + RandomSource, 
     sink: &mut S,
 ) -> u8
     ensures bundle { length words.now < 2
-        → EndsAs IsBundleText (S.taken sink.old) (S.taken sink.new)
+        → EndsAs IsBundleOutput (IsRefusal IsBundleRefusal) (S.taken sink.old) (S.taken sink.new)
         (KeepsGoing (S.failed sink.old) (S.failed sink.new))
         (HasFailedToWrite S.taken S.failed sink.new) result }
     ensures call { (call : Call) → Names (map string_bytes words.now) call
-        → EndsAs (IsCallText call) (S.taken sink.old) (S.taken sink.new)
+        → EndsAs (IsCallText call) (IsCallRefusal call) (S.taken sink.old) (S.taken sink.new)
         (KeepsGoing (S.failed sink.old) (S.failed sink.new))
         (HasFailedToWrite S.taken S.failed sink.new) result }
     ensures no_call { 2 ≤ length words.now → NamesNoCall (map string_bytes words.now)
-        → IsWordsStatus (map string_bytes words.now) (S.failed sink.new) result }
+        → EndsWithoutCall S.taken S.failed (map string_bytes words.now) sink.old sink.new
+        result }
     ensures exit { IsExitStatus result }
 {
     if words.len() < 2 {
@@ -101,7 +108,8 @@ fn answer_words<R: AllocGlobal + Clock + Eprint + Files + Input + RandomSource, 
 
 /// Answers the bundle on standard input, and tells the answer in words behind it. Gives the exit status.
 fn tell_input<R: AllocGlobal + Files + Input + RandomSource, S: Sink>(rt: &R, sink: &mut S) -> u8
-    ensures ended { EndsInWords IsBundleText (S.taken sink.old) (S.taken sink.new)
+    ensures ended { EndsInWords IsBundleOutput (IsRefusal IsBundleRefusal) (S.taken sink.old)
+        (S.taken sink.new)
         (KeepsGoing (S.failed sink.old) (S.failed sink.new))
         (HasFailedInWords S.taken S.failed sink.new) result }
     ensures exit { IsExitStatus result }
@@ -119,7 +127,8 @@ fn tell_call<R: AllocGlobal + Clock + Eprint + Files + RandomSource, S: Sink>(
     progress: bool,
     sink: &mut S,
 ) -> u8
-    ensures ended { EndsInWords (IsCallText call.now) (S.taken sink.old) (S.taken sink.new)
+    ensures ended { EndsInWords (IsCallText call.now) (IsCallRefusal call.now) (S.taken sink.old)
+        (S.taken sink.new)
         (KeepsGoing (S.failed sink.old) (S.failed sink.new))
         (HasFailedInWords S.taken S.failed sink.new) result }
     ensures exit { IsExitStatus result }
@@ -138,15 +147,17 @@ fn answer_in_words<R: AllocGlobal + Clock + Eprint + Files + Input + RandomSourc
     sink: &mut S,
 ) -> u8
     ensures bundle { length words.now < 2
-        → EndsInWords IsBundleText (S.taken sink.old) (S.taken sink.new)
+        → EndsInWords IsBundleOutput (IsRefusal IsBundleRefusal) (S.taken sink.old)
+        (S.taken sink.new)
         (KeepsGoing (S.failed sink.old) (S.failed sink.new))
         (HasFailedInWords S.taken S.failed sink.new) result }
     ensures call { (call : Call) → Names (map string_bytes words.now) call
-        → EndsInWords (IsCallText call) (S.taken sink.old) (S.taken sink.new)
+        → EndsInWords (IsCallText call) (IsCallRefusal call) (S.taken sink.old) (S.taken sink.new)
         (KeepsGoing (S.failed sink.old) (S.failed sink.new))
         (HasFailedInWords S.taken S.failed sink.new) result }
     ensures no_call { 2 ≤ length words.now → NamesNoCall (map string_bytes words.now)
-        → IsWordsStatus (map string_bytes words.now) (S.failed sink.new) result }
+        → EndsWithoutCall S.taken S.failed (map string_bytes words.now) sink.old sink.new
+        result }
     ensures exit { IsExitStatus result }
 {
     if words.len() < 2 {
@@ -167,64 +178,93 @@ fn all_words<R: AllocGlobal + Env>(rt: &R) -> io::Result<Vec<String>> {
     Ok(words)
 }
 
-/// These words, or, where there is none but the program's own name and a person waits at a terminal, with `--help`
-/// behind it.
+/// Adds `--help` to the arguments of somebody at a terminal who gave none but the name of the program.
 fn or_help(
     alloc: Global,
-    mut words: Vec<String>,
+    mut arguments: Vec<String>,
     on_terminal: bool,
-) -> Result<Vec<String>, AllocError> {
-    if on_terminal && words.len() == 1 {
-        words.push(String::from_str(alloc, "--help")?)?;
+) -> Result<Vec<String>, AllocError>
+    ensures { IfOk result (λ given. AddsHelp string_bytes arguments.items given.items
+        (wants_help on_terminal arguments.items)) }
+{
+    if on_terminal && arguments.len() == 1 {
+        arguments.push(String::from_str(alloc, "--help")?)?;
+        return Ok(arguments);
     }
-    Ok(words)
+    Ok(arguments)
 }
 
-/// Takes an option that every command has out of the words, where it stands among them. Whether it does.
-fn take_flag(words: &mut Vec<String>, flag: &str) -> bool {
-    match place_of_flag(words.as_slice(), flag) {
+/// Removes an option that every command has from the arguments. Returns whether it was there.
+fn take_flag(arguments: &mut Vec<String>, flag: &str) -> bool
+    ensures { RemovesFlag flag.now string_bytes arguments.old.items arguments.new.items result }
+{
+    match place_of_flag(arguments.as_slice(), flag) {
         Some(place) => {
-            words.remove(place);
+            arguments.remove(place);
             true
         }
         None => false,
     }
 }
 
-/// Answers words as they ask for it: with words behind the answer, where one of them is `--words`, and telling how far
-/// the command has come, where one is `--progress`.
+/// Answers arguments with their options: `--words` adds sentences after the answer, and `--progress` reports how far the
+/// command has come.
 fn answer_given<R: AllocGlobal + Clock + Eprint + Files + Input + RandomSource, S: Sink>(
     rt: &R,
-    mut words: Vec<String>,
+    mut arguments: Vec<String>,
     sink: &mut S,
 ) -> u8
-    ensures { IsExitStatus result }
+    ensures options { EndsByOptions string_bytes S.taken S.failed arguments.items sink.old sink.new
+        result }
+    ensures exit { IsExitStatus result }
 {
-    let progress = take_flag(&mut words, "--progress");
-    if take_flag(&mut words, "--words") {
-        answer_in_words(rt, words.as_slice(), progress, sink)
+    let progress = take_flag(&mut arguments, "--progress");
+    if take_flag(&mut arguments, "--words") {
+        answer_in_words(rt, arguments.as_slice(), progress, sink)
     } else {
-        answer_words(rt, words.as_slice(), progress, sink)
+        answer_words(rt, arguments.as_slice(), progress, sink)
     }
 }
 
-/// Reads the words, answers them and hands on all that was written. Gives the exit status.
-fn answer<R: AllocGlobal + Clock + Env + Eprint + Files + Input + RandomSource, S: Sink>(
+/// Answers the arguments that the system gave, or reports why it gave none. Returns the exit status.
+fn answer_system_arguments<R: AllocGlobal + Clock + Eprint + Files + Input + RandomSource, S: Sink>(
     rt: &R,
+    arguments: io::Result<Vec<String>>,
     on_terminal: bool,
     sink: &mut S,
 ) -> u8
-    ensures handed_on { (result ≡ 5)
-        ⊎ ((S.failed sink.new ≡ false) × (S.holds_back sink.new ≡ false)) }
+    ensures given { IfOk arguments (λ given. EndsByGivenArguments string_bytes S.taken S.failed
+        on_terminal given.items sink.old sink.new result) }
+    ensures unread { IfErr arguments (λ e. EndsWith S.taken S.failed (unread_text (error_kind e))
+        (unread_status (error_kind e)) sink.old sink.new result) }
     ensures exit { IsExitStatus result }
 {
-    let code = match all_words(rt) {
-        Ok(words) => match or_help(rt.alloc(), words, on_terminal) {
-            Ok(words) => answer_given(rt, words, sink),
+    match arguments {
+        Ok(arguments) => match or_help(rt.alloc(), arguments, on_terminal) {
+            Ok(arguments) => answer_given(rt, arguments, sink),
             Err(_) => finish(&Err(Fault::bare(refusals::WANT_OF_MEMORY)), sink),
         },
         Err(error) => finish_unread(error.kind(), sink),
-    };
+    }
+}
+
+/// Answers the arguments that the system gave, or reports why it gave none, and flushes what was written. Returns the
+/// exit status.
+fn answer<R: AllocGlobal + Clock + Eprint + Files + Input + RandomSource, S: Sink>(
+    rt: &R,
+    arguments: io::Result<Vec<String>>,
+    on_terminal: bool,
+    sink: &mut S,
+) -> u8
+    ensures given { IfOk arguments (λ given. EndsAfterFlush S.taken S.failed S.holds_back
+        (λ then code. EndsByGivenArguments string_bytes S.taken S.failed on_terminal given.items
+        sink.old then code) sink.new result) }
+    ensures unread { IfErr arguments (λ e. EndsAfterFlush S.taken S.failed S.holds_back
+        (λ then code. EndsWith S.taken S.failed (unread_text (error_kind e))
+        (unread_status (error_kind e)) sink.old then code) sink.new result) }
+    ensures exit { IsExitStatus result }
+{
+    let code = answer_system_arguments(rt, arguments, on_terminal, sink);
     flush(sink, code)
 }
 
@@ -253,7 +293,7 @@ pub fn run<R: AllocGlobal + Clock + Env + Eprint + Files + Input + Print + Rando
     match BufWriter::new(rt.alloc(), io::writer(rt)) {
         Ok(writer) => {
             let mut sink = Outside::new(writer);
-            let code = answer(rt, on_terminal, &mut sink);
+            let code = answer(rt, all_words(rt), on_terminal, &mut sink);
             // What couldn't be handed on isn't tried again, as it would be where the writer is let go: no answer stands
             // behind a write that failed.
             mem::forget(sink);

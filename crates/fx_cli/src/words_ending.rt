@@ -1,9 +1,8 @@
 //! How a command ends whose words name no call, or can't be read.
-ghost use Rattle.std.specs.Prelude.{◌≡◌, ◌⊎◌};
+ghost use Rattle.std.specs.Prelude.{◌≡◌, ◌≢◌, ◌⊎◌, []};
 ghost use Rattle.clap.specs.Words.{kind_of};
 ghost use Rattle.fx_cli.specs.Ending.{EndsWith, IsExitStatus};
-ghost use Rattle.fx_cli.specs.WordsEnding.{memory_line, unread_status, unread_text, words_status};
-ghost use Rattle.fx_base.specs.Device.{KeepsGoing};
+ghost use Rattle.fx_cli.specs.WordsEnding.{EndsWithSomeText, memory_line, unread_status, unread_text, words_status};
 
 use crate::advice::with_advice;
 use crate::ending::{WRITE_FAILED, finish};
@@ -48,14 +47,26 @@ fn told_text(alloc: Global, error: &Error) -> Result<String, AllocError> {
     }
 }
 
-/// Ends a command whose words name no call: writes the error's text, what to do behind it, and gives the program's exit status.
+/// Returns the text of an error, or a line where that is empty.
+fn never_empty(text: &[u8]) -> &[u8]
+    ensures { result.now ≢ [] }
+{
+    if text.is_empty() {
+        b"error: the arguments name no command\n"
+    } else {
+        text
+    }
+}
+
+/// Ends a command whose arguments name no call: writes what is wrong with them and what to do about it, or the help that
+/// they ask for. Returns the exit status.
 ///
-/// 0 where the words ask for help, 6 where they don't parse; 4 for want of memory, also where the text can't be made
-/// for it (`memory 900` is written then); 5 where nothing can be written.
+/// 0 where they ask for help, 6 where they don't parse; 4 where memory runs out (`memory 900` is written then), also while
+/// the text is made; 5 where nothing can be written.
 pub fn finish_words<S: Sink>(alloc: Global, error: &Error, sink: &mut S) -> u8
-    ensures status { ((result ≡ words_status (kind_of error.now))
-        × (KeepsGoing (S.failed sink.old) (S.failed sink.new)))
-        ⊎ EndsWith S.taken S.failed memory_line 4 sink.old sink.new result }
+    ensures status { EndsWith S.taken S.failed memory_line 4 sink.old sink.new result
+        ⊎ EndsWithSomeText S.taken S.failed (words_status (kind_of error.now)) sink.old sink.new
+        result }
     ensures memory { kind_of error.now ≡ ErrorKind.OutOfMemory
         → EndsWith S.taken S.failed memory_line 4 sink.old sink.new result }
     ensures exit { IsExitStatus result }
@@ -65,7 +76,7 @@ pub fn finish_words<S: Sink>(alloc: Global, error: &Error, sink: &mut S) -> u8
         return finish(&Err(Fault::bare(refusals::WANT_OF_MEMORY)), sink);
     }
     match told_text(alloc, error) {
-        Ok(text) => put_and_end(text.as_bytes(), status_of_words(kind), sink),
+        Ok(text) => put_and_end(never_empty(text.as_bytes()), status_of_words(kind), sink),
         Err(_) => finish(&Err(Fault::bare(refusals::WANT_OF_MEMORY)), sink),
     }
 }

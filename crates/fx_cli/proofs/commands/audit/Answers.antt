@@ -1,6 +1,12 @@
 use Rattle.std.proofs.Common.{None}
-use Rattle.fx_cli.proofs.CallOutputs.{within_limit}
+use Rattle.fx_audit.specs.Commands.{IsAudited}
+use Rattle.fx_cli.proofs.CallOutputs.{of_documents}
+use Rattle.fx_audit.specs.Documents.{IsRefusedByDocuments}
+use Rattle.fx_cli.proofs.CallRefusals.{documents_refused}
 use Rattle.fx_cli.proofs.commands.audit.Goals as goal
 
-pub returns : goal.returns
-returns g c = (within_limit c.args.limit c.audit_bytes-answer.result None None _ _ c.audit_bytes-answer.ensures.ok, c.audit_bytes-answer.ensures.answers.1)
+pub returns-clause-answers : goal.returns-clause-answers
+returns-clause-answers g c = (of_documents (λ answer n t text. IsAudited n t c.args.limit answer text) c.audit_bytes-answer.result None None _ _ c.audit_bytes-answer.ensures.ok, c.audit_bytes-answer.ensures.answers.1)
+
+pub returns-clause-refused : goal.returns-clause-refused
+returns-clause-refused g c = documents_refused IsRefusedByDocuments None None _ _ _ c.audit_bytes-answer.result c.audit_bytes-answer.ensures.err

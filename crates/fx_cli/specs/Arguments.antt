@@ -1,0 +1,43 @@
+-- How the program ends, by the arguments that it is given.
+use Rattle.std.specs.Prelude.{◌≡◌, ◌⊎◌, ◌≤◌, ◌<◌, ℕ, Bool, true, false, List, length, map, Option}
+use Rattle.clap.specs.Words.{Text}
+use Rattle.fx_base.specs.Device.{KeepsGoing}
+use Rattle.fx_command_line.specs.Words.{Names, NamesNoCall}
+use Rattle.fx_command_line.specs.declared.words.Call.{Call}
+use Rattle.fx_cli.specs.Ending.{EndsWith}
+use Rattle.fx_cli.specs.Running.{EndsAs, EndsInWords, HasFailedInWords, HasFailedToWrite, IsBundleOutput, IsBundleRefusal, IsCallRefusal, IsCallText, IsRefusal}
+use Rattle.fx_cli.specs.WordFlag.{AddsHelp, RemovesOptions, wants_help}
+use Rattle.fx_cli.specs.WordsEnding.{EndsWithoutCall, memory_line}
+
+-- the arguments after the name of the program name a call, which is answered; without any, the bundle on standard input is
+pub record EndsByArguments {A S : Type 0} (text_of : A → Text) (taken : S → Option (List ℕ)) (failed : S → Bool) (arguments : List A) (old new : S) (code : ℕ) : Type 0 where
+  pub bundle : length arguments < 2 → EndsAs IsBundleOutput (IsRefusal IsBundleRefusal) (taken old) (taken new) (KeepsGoing (failed old) (failed new)) (HasFailedToWrite taken failed new) code
+  pub call : (call : Call) → Names (map text_of arguments) call → EndsAs (IsCallText call) (IsCallRefusal call) (taken old) (taken new) (KeepsGoing (failed old) (failed new)) (HasFailedToWrite taken failed new) code
+  pub no_call : 2 ≤ length arguments → NamesNoCall (map text_of arguments) → EndsWithoutCall taken failed (map text_of arguments) old new code
+
+-- the same with sentences after the answer
+pub record EndsByArgumentsInWords {A S : Type 0} (text_of : A → Text) (taken : S → Option (List ℕ)) (failed : S → Bool) (arguments : List A) (old new : S) (code : ℕ) : Type 0 where
+  pub bundle : length arguments < 2 → EndsInWords IsBundleOutput (IsRefusal IsBundleRefusal) (taken old) (taken new) (KeepsGoing (failed old) (failed new)) (HasFailedInWords taken failed new) code
+  pub call : (call : Call) → Names (map text_of arguments) call → EndsInWords (IsCallText call) (IsCallRefusal call) (taken old) (taken new) (KeepsGoing (failed old) (failed new)) (HasFailedInWords taken failed new) code
+  pub no_call : 2 ≤ length arguments → NamesNoCall (map text_of arguments) → EndsWithoutCall taken failed (map text_of arguments) old new code
+
+abbrev pub EndsInWordsIf : Bool → {A S : Type 0} → (A → Text) → (S → Option (List ℕ)) → (S → Bool) → List A → S → S → ℕ → Type 0
+EndsInWordsIf false text_of taken failed arguments old new code = EndsByArguments text_of taken failed arguments old new code
+EndsInWordsIf true text_of taken failed arguments old new code = EndsByArgumentsInWords text_of taken failed arguments old new code
+
+-- the options `--progress` and `--words` are removed, and what is left is answered: in words where `--words` was there
+abbrev pub EndsByOptions : {A S : Type 0} → (A → Text) → (S → Option (List ℕ)) → (S → Bool) → List A → S → S → ℕ → Type 0
+EndsByOptions {A} {S} text_of taken failed given old new code =
+    (rest : List A) × (in_words : Bool) × (progress : Bool) × RemovesOptions text_of given rest in_words progress × EndsInWordsIf in_words text_of taken failed rest old new code
+
+-- arguments that the system gives are answered so, with `--help` added where somebody waits at a terminal, unless memory
+-- runs out for that
+abbrev pub EndsByGivenArguments : {A S : Type 0} → (A → Text) → (S → Option (List ℕ)) → (S → Bool) → Bool → List A → S → S → ℕ → Type 0
+EndsByGivenArguments {A} {S} text_of taken failed on_terminal arguments old new code =
+    ((given : List A) × AddsHelp text_of arguments given (wants_help on_terminal arguments) × EndsByOptions text_of taken failed given old new code)
+    ⊎ EndsWith taken failed memory_line 4 old new code
+
+-- all that was written is flushed, and the program ends as it did before that; or the flush fails, and it ends with 5
+abbrev pub EndsAfterFlush : {S : Type 0} → (S → Option (List ℕ)) → (S → Bool) → (S → Bool) → (S → ℕ → Type 0) → S → ℕ → Type 0
+EndsAfterFlush {S} taken failed holds_back Ends new code =
+    ((then : S) × Ends then code × (taken new ≡ taken then) × (failed new ≡ false) × (holds_back new ≡ false)) ⊎ ((code ≡ 5) × (failed new ≡ true))
