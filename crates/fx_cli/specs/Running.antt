@@ -120,7 +120,7 @@ pub record IsCaptureRefusal (network traffic : List ℕ) (from : Lines) (e : Fau
   pub asked : ℕ
   pub last : Lines
   pub before : Put
-  pub refused : IsRefusedMetering network traffic left asked ⊥ from last before e
+  pub refused : IsRefusedMetering network traffic left asked ⊥ (λ _. Unit {0}) from last before e
 
 -- where the octets of the links go to files (`true`), one of these may also have failed
 abbrev pub IsRunRefusal : Bool → Fault → Type 0

@@ -6,7 +6,7 @@ ghost use Rattle.fx_base.specs.declared.fault.Place.TheVariants as places;
 ghost use Rattle.fx_audit.specs.Outputs.{AnswersWith, FailsQuietly, Prints};
 ghost use Rattle.fx_base.specs.Device.{IsWriteFault};
 ghost use Rattle.fx_audit.specs.Documents.{BothMayHaveLeft};
-ghost use Rattle.fx_audit.specs.Metering.{IsMetered, IsRefusedMetering};
+ghost use Rattle.fx_audit.specs.Metering.{IsMetered, IsRefusedMetering, IsStateOfSource};
 ghost use Rattle.fx_audit.specs.declared.answer.Answer.TheVariants.{Yes};
 ghost use Rattle.fx_cli.specs.Running.{IsDocumentsRefusal, IsAtBeginning, IsCallRefusal, IsCallText, IsCheckRefusal, IsCheckOutput, IsCollectRefusal, IsCollectOutput, IsConfirmRefusal, IsConfirmOutput, IsLintRefusal, IsLintOutput, IsRunOutput, IsRefusal, IsReplayRefusal, IsReplayOutput, IsRunRefusal, IsSumRefusal, IsSumOutput, IsAuditOutput};
 
@@ -187,7 +187,7 @@ fn run_on_links<N: Source, T: Source, C: Source, Q: Source, L: Links, S: Sink>(
     seed: Seed,
     network: &mut N,
     traffic: &mut T,
-    capture: C,
+    mut capture: C,
     schedule: &mut LineReader<Q>,
     mut links: L,
     sink: &mut S,
@@ -201,12 +201,19 @@ fn run_on_links<N: Source, T: Source, C: Source, Q: Source, L: Links, S: Sink>(
         ⊎ (IsWriteFault (L.failed result.1) e
         ⊎ (IsWriteFault (S.failed sink.new) e
         ⊎ BothMayHaveLeft (N.left network.old) (T.left traffic.old) (λ n t. IsRefusedMetering n t
-        (C.left capture) (C.calls capture) ⊥ schedule.old
-        schedule.new (L.put_on links) e))))) }
+        (C.left capture) (C.calls capture) ⊥ (IsStateOfSource C.calls C.failed)
+        schedule.old schedule.new (L.put_on links) e))))) }
     ensures quiet { FailsQuietly S.failed sink.old sink.new result.0 }
 {
     let answer = run_bytes(
-        alloc, seed, network, traffic, capture, schedule, &mut links, sink,
+        alloc,
+        seed,
+        network,
+        traffic,
+        &mut capture,
+        schedule,
+        &mut links,
+        sink,
     );
     (answer, links)
 }
