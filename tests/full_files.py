@@ -62,7 +62,7 @@ def full_answer(program, row, folder):
         if status != 5 or not (wanted[0].startswith(said) or b"device 902\n".startswith(said)):
             return False, "full at %d octets: status %d, printed %r" % (most, status, said[:200])
         most += 1
-    return run(program, row, folder, most, os.path.join(folder, "answer")) == wanted, "full answers at %d octets" % most
+    return run_row(program, row, folder, most, os.path.join(folder, "answer")) == wanted, "full answers at %d octets" % most
 
 
 def tried(program, row):
