@@ -5,8 +5,8 @@ usage: english.py [--counts] [FOLDER]
 
 FOLDER is the repository. No page of PAGES and OTHERS may have a phrase of PHRASES outside of code, quoted text and links. No page of PAGES
 may have more words than LIMITS says, and all together more than TOTAL. A word is what has a letter or a digit between blanks,
-outside of blocks of code. --counts prints the words of each page. A page whose sentences are written elsewhere is not checked for
-phrases, and listed as not run.
+outside of blocks of code. --counts prints the words of each page. The phrases of a page whose sentences are those of the program's
+sources are not looked for.
 """
 import argparse
 import glob
@@ -14,7 +14,7 @@ import os
 import re
 import sys
 
-from verdict import not_run, report
+from verdict import report
 
 TOP = os.path.dirname(os.path.dirname(os.path.abspath(__file__)))
 PAGES = ("README.md", "CONTRIBUTING.md", "docs/*.md", "tests/README.md")
@@ -30,9 +30,8 @@ LIMITS = {
     "docs/REFUSALS.md": 5_500, "docs/SCALE.md": 900, "docs/SPEED.md": 600, "tests/README.md": 1_400,
 }
 OTHER_LIMIT = 1_500
-# Pages whose sentences are written elsewhere, and sections that are: they are counted, and not checked for phrases.
-ELSEWHERE = {"docs/REFUSALS.md": "its sentences are those of crates/fx_words/src"}
-SECTIONS_ELSEWHERE = {("docs/GATE.md", "Budget"): "its figures and sentences are still being written"}
+# Pages whose sentences are those of sources: REFUSALS has those of crates/fx_words/src.
+ELSEWHERE = ("docs/REFUSALS.md",)
 # Phrases that are not English or not the field's, each with what to write.
 PHRASES = {
     r"tells?|told|telling": "reports, says, prints, explains",
@@ -76,17 +75,9 @@ def words(text):
     return sum(bool(re.search(r"\w", word)) for word in without(text, CODE).split())
 
 
-def without_sections(page, text):
-    """Returns a page without its sections that are written elsewhere."""
-    for name, heading in SECTIONS_ELSEWHERE:
-        if name == page:
-            text = re.sub(rf"(?ms)^## {heading}\n.*?(?=^## |\Z)", lambda match: "\n" * match[0].count("\n"), text)
-    return text
-
-
 def phrases(page, text):
     """Yields the phrases of a page that are not English, with their lines and what to write."""
-    text = without(without_sections(page, text), CODE + QUOTED)
+    text = without(text, CODE + QUOTED)
     for pattern, better in PHRASES.items():
         for match in re.finditer(rf"(?i)(?<![\w-])(?:{pattern})(?![\w-])", text):
             yield f"{page}:{text.count(chr(10), 0, match.start()) + 1}: '{match[0]}': write: {better}"
@@ -125,10 +116,6 @@ def main(arguments):
         print("\n".join(f"{page}: {count}" for page, count in counts.items()))
         print(f"all: {sum(count for page, count in counts.items() if page not in MEASURED)}")
         return 0
-    for page, why in ELSEWHERE.items():
-        not_run(f"phrases of {page}", why)
-    for (page, heading), why in SECTIONS_ELSEWHERE.items():
-        not_run(f"phrases of {page}, {heading}", why)
     return report(faults(given.folder))
 
 

@@ -12,12 +12,12 @@ Prints a line for each network that has no certificate, then both sums, and last
 import ipaddress
 import os
 import random
-import subprocess
 import sys
 import tempfile
 
 from filter_lists import network, written
-from verdict import told
+from program import run
+from verdict import report_named
 
 SEED, COUNT, MOST = 54, 1_000, 1.10
 AXES = ("source", "destination")
@@ -99,7 +99,7 @@ def lines_of_first(box, boxes):
 
 def lines_found(program, documents):
     """Returns the number of splits and leaves of the certificate that `audit` prints, or None."""
-    answer = subprocess.run([program, "audit", *documents], stdin=subprocess.DEVNULL, capture_output=True, text=True, check=False)
+    answer = run([program, "audit", *documents], text=True)
     if answer.returncode:
         return None
     return sum(line.startswith(("S ", "L ")) for line in answer.stdout.splitlines())
@@ -139,7 +139,7 @@ def main(arguments):
     program, count, sums = os.path.abspath(arguments[0]), int(arguments[1]) if len(arguments) == 2 else COUNT, Sums()
     with tempfile.TemporaryDirectory() as folder:
         runs = [(f"network {it}", sums.faults_of(program, folder, it)) for it in range(count)]
-        return told([*runs, ("all", sums.total_faults())])
+        return report_named([*runs, ("all", sums.total_faults())])
 
 
 if __name__ == "__main__":
