@@ -45,11 +45,6 @@ def test_a_page_that_is_written_elsewhere_is_not_checked_for_phrases(tmp_path):
     assert written(tmp_path, {"docs/REFUSALS.md": "It tells.\n"}) == []
 
 
-def test_a_section_that_is_written_elsewhere_ends_at_the_next(tmp_path):
-    found = written(tmp_path, {"docs/GATE.md": "# Gate\n\n## Budget\n\nIt tells.\n\n## More\n\nIt tells.\n"})
-    assert found == ["docs/GATE.md:9: 'tells': write: reports, says, prints, explains"]
-
-
 def test_a_page_that_is_too_long_fails(tmp_path):
     assert written(tmp_path, {"docs/SCALE.md": "word " * LIMITS["docs/SCALE.md"]}) == []
     assert "at most" in written(tmp_path, {"docs/SCALE.md": "word " * (LIMITS["docs/SCALE.md"] + 1)})[0]
