@@ -33,8 +33,7 @@ COMMANDS = [
     ("`fx_audit::lint_bytes`", [("fx_audit", "lint_bytes", [])]),
     ("`fx_audit::lint_both_bytes`", [("fx_audit", "lint_both_bytes", [])]),
     ("`fx_audit::bundle_bytes`", [("fx_audit", "bundle_bytes", [])]),
-    ("`answer_words`, a private function of `fx_cli`: from the arguments to the exit status", [("fx_cli", "answer_words", [])]),
-    ("`answer_in_words`, another: the same with an explanation after the answer", [("fx_cli", "answer_in_words", [])]),
+    ("`answer`, a private function of `fx_cli`: from the arguments to the exit status", [("fx_cli", "answer", [])]),
 ]
 
 
