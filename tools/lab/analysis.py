@@ -5,13 +5,13 @@ import sys
 from dataclasses import dataclass, field
 from pathlib import Path
 
-from lab import captures, collectors, documents, losses
+from lab import captures, collectors, documents, losses, plan
 from lab.documents import Documents, Pair
 from lab.programs import TOOLS, LabError, run
 from lab.running import Session
 from lab.scenario import Scenario
-from lab.totals import Answer, Totals, joined, read_answer
-from lab.verdicts import CERTIFICATE, REFUTATION, Judged, Loss, Measured, judge, split_keys
+from lab.totals import Answer, Totals, differences, joined, of_keys, read_answer, whole
+from lab.verdicts import CERTIFICATE, REFUTATION, Judged, Loss, Measured, judge, shortened, split_keys
 
 ANSWERS = {0: CERTIFICATE, 1: REFUTATION}
 VERIFIED = {CERTIFICATE: ("check", "yes"), REFUTATION: ("confirm", "refuted")}
@@ -37,12 +37,16 @@ def ask(session: Session, *words: str | Path) -> tuple[str, int]:
     return said.output, said.status
 
 
-def make_documents(session: Session) -> Documents:
-    """Has once-import write the documents of a scenario."""
-    scenario, folder = session.scenario, session.folder
-    paths = scenario.declared.paths(session) if scenario.declared.paths else []
-    project = documents.write_project(scenario, session.meters, session.state, folder, paths)
-    return documents.import_project(project, folder / "documents", scenario.declared)
+def prepare(session: Session) -> Path:
+    """Writes the project of a scenario, while its network stands."""
+    declared = session.scenario.declared
+    paths = declared.paths(session) if declared.paths else []
+    return documents.write_project(session.scenario, session.meters, session.state, session.folder, paths)
+
+
+def make_documents(session: Session, project: Path) -> Documents:
+    """Has once-import write the documents of a project."""
+    return documents.import_project(project, session.folder / "documents", session.scenario.declared)
 
 
 def audit(session: Session, pair: Pair) -> str:
@@ -72,7 +76,7 @@ def predicted(session: Session, pairs: list[Pair], sent: Path) -> Totals:
     schedule = Path("/dev/null")
     if session.scenario.schedule:
         schedule = folder / "schedule.txt"
-        schedule.write_text(session.scenario.schedule(session), encoding="utf-8")
+        schedule.write_text(session.scenario.schedule(session, pairs[0].traffic, sent), encoding="utf-8")
     tables = []
     for pair in pairs:
         capture = sent
@@ -110,15 +114,12 @@ def collected(session: Session, pairs: list[Pair], streams: list[Path]) -> list[
 
 
 def senders(session: Session) -> tuple[Path, Totals]:
-    """Returns the merged captures of what all hosts sent, and tshark's sums; notes where a capture lacks packets."""
-    folder = session.folder
-    merged = folder / "sent.pcap"
-    captures.merge([captures.sent(folder, host) for host in session.captures], merged)
+    """Returns the merged captures of what all hosts sent, and tshark's sums. What the plan has under its sources must be there."""
+    merged = session.folder / "sent.pcap"
+    captures.merge(list(session.captures), merged)
     sums = captures.plain_sums(merged)
-    customers = captures.plain_sums(captures.sent(folder, "c1")), captures.plain_sums(captures.sent(folder, "c2"))
-    seen = sum(packets for one in customers for packets, _ in one.values())
-    if seen != len(session.packets):
-        session.losses.append(Loss("captures of what customers send", f"{seen} packets, and {len(session.packets)} were sent"))
+    for one in shortened(differences(of_keys(sums, plan.sums(session.packets)), plan.sums(session.packets))):
+        session.losses.append(Loss("captures of what customers send", f"against the plan: {one}"))
     return merged, sums
 
 
@@ -130,10 +131,10 @@ def due_of(session: Session, plain: Totals) -> Totals:
     return {key: value for key, value in plain.items() if key not in exempt}
 
 
-def measure(session: Session) -> Result:
+def measure(session: Session, project: Path) -> Result:
     """Returns what came of a scenario that has run."""
     scenario = session.scenario
-    made = make_documents(session)
+    made = make_documents(session, project)
     answer = audits(session, made.pairs)
     sent, plain = senders(session)
     wanted = None
@@ -147,12 +148,22 @@ def measure(session: Session) -> Result:
     if not refused:
         found["once collect"] = joined(one.totals for one in answers)
     found["nfcapd"], log = collectors.replay_to_nfcapd(session.group, streams)
+    if scenario.switch is not None:
+        leave_out_nfcapd(session, billed.port, found)
     gaps = max([0, *(one.notes.get("gaps", 0) for one in answers)])
     session.losses += losses.stream_losses(report) + losses.nfcapd_losses(log) + gap_losses(session, gaps)
     own, others = split_keys(found, set(plain))
-    measured = Measured(answer, due_of(session, plain), plain, wanted, own, refused, others, session.losses,
-                        [*session.notes, *made.not_carried_over])
+    measured = Measured(answer, due_of(session, plain), plain, wanted, own, refused, others, scenario.others_are_wrong,
+                        session.losses, [*session.notes, *made.not_carried_over])
     return Result(scenario, measured, judge(measured, scenario.expected, scenario.other_keys), streams, gaps)
+
+
+def leave_out_nfcapd(session: Session, port: int, found: dict[str, Totals]) -> None:
+    """Takes nfcapd out of the comparison where it has what comes of adding up the running totals of Open vSwitch's records."""
+    sums = captures.running_totals(session.folder / "wire.pcap", port)
+    if found["nfcapd"] == sums and sums:
+        packets, octets = whole(found.pop("nfcapd"))
+        session.notes.append(f"nfcapd adds up the running totals of Open vSwitch's records: {packets} / {octets}, as tshark does")
 
 
 def gap_losses(session: Session, gaps: int) -> list[Loss]:

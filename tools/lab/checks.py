@@ -3,8 +3,8 @@ from __future__ import annotations
 
 from typing import Callable
 
-from lab.plan import Packet
-from lab.totals import Totals, differences, is_within, less, times, whole
+from lab.plan import Packet, sums
+from lab.totals import Totals, add, differences, is_within, less, times, whole
 from lab.verdicts import Check, Measured, shortened
 
 LINK_MTU = 600
@@ -20,6 +20,24 @@ def exactly(wanted: Callable[[Measured], Totals], what: str) -> Check:
     def check(measured: Measured) -> list[str]:
         return [f"{program} against {what}: {one}" for program, table in measured.found.items()
                 for one in shortened(differences(table, wanted(measured)))]
+    return check
+
+
+def exactly_in(program: str) -> Check:
+    """Returns a check that a program has the totals that `once run` predicts."""
+    def check(measured: Measured) -> list[str]:
+        if program not in measured.found:
+            return [f"{program} has no totals"]
+        return [f"{program} against once run: {one}"
+                for one in shortened(differences(measured.found[program], measured.predicted or {}))]
+    return check
+
+
+def is_refused(program: str, words: str) -> Check:
+    """Returns a check that a program refuses what it reads, in words that begin so."""
+    def check(measured: Measured) -> list[str]:
+        why = measured.refused.get(program, "")
+        return [] if why.startswith(words) else [f"{program} was expected to say `{words}`, and says {why or 'nothing'}"]
     return check
 
 
@@ -54,11 +72,7 @@ def has_lost(word: str) -> Check:
 
 def without(dying: Callable[[Packet], bool], packets: list[Packet]) -> Check:
     """Returns a check that every program misses exactly these packets of a plan."""
-    gone: Totals = {}
-    for one in packets:
-        if dying(one):
-            before = gone.get(one.source, (0, 0))
-            gone[one.source] = (before[0] + 1, before[1] + one.length)
+    gone = sums([one for one in packets if dying(one)])
     return exactly(lambda measured: less(measured.due, gone), "the plain sums without the packets that die")
 
 
@@ -70,6 +84,5 @@ def in_fragments(packets: list[Packet], mtu: int = LINK_MTU) -> Totals:
     for one in packets:
         payload = one.length - 20
         pieces = 1 if payload <= most else 1 - (most - payload) // (most // 8 * 8)
-        before = found.get(one.source, (0, 0))
-        found[one.source] = (before[0] + pieces, before[1] + payload + 20 * pieces)
+        add(found, one.source, pieces, payload + 20 * pieces)
     return found

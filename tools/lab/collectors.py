@@ -11,14 +11,15 @@ from lab.namespaces import MANAGEMENT
 from lab.programs import Group, LabError, Running, agent, path_of, run
 from lab.totals import Totals, add
 
-NFCAPD_PORT, NFACCTD_PORT = 9995, 9996
+NFCAPD_PORT = 9995
 SECONDS = 60.0
 
 
 @dataclass(frozen=True)
 class Collector:
     """A collector. With receivers it is a tee, which forwards each message to all of them, or to one if it balances.
-    `plugin_buffer` of 0 passes each record by itself to the plugin, as nfacctd does by default."""
+    `plugin_buffer` of 0 passes each record by itself to the plugin, as nfacctd does by default. `forwards` and `aggregates` are
+    what the project says of a mediator beyond its configuration."""
 
     name: str
     port: int = 4739
@@ -29,6 +30,8 @@ class Collector:
     receive_buffer: int = 4_194_304
     plugin_buffer: int = 10_240
     listens_at_all: bool = False
+    forwards: tuple[str, ...] = ()
+    aggregates: tuple[str, ...] = ()
     aggregate: tuple[str, ...] = ("aggregate: src_host",)
 
     @property
@@ -110,16 +113,7 @@ def dumped(text: str) -> Totals:
     found: Totals = {}
     for line in text.splitlines():
         words = line.split()
-        if len(words) == 3:
+        if len(words) == 3 and words[1].isdigit() and words[2].isdigit():
             add(found, words[0], int(words[1]), int(words[2]))
     return found
 
-
-def replay_to_nfacctd(group: Group, streams: Sequence[Path], aggregate: tuple[str, ...]) -> Totals:
-    """Has another nfacctd read the messages of streams; returns its totals."""
-    collector = Collector("replayed", NFACCTD_PORT, aggregate=aggregate)
-    running = start(group, collector)
-    running.wait_until_ready()
-    run(agent("replay", collector.address, str(NFACCTD_PORT), *map(str, streams)), "bill", seconds=SECONDS)
-    running.end(signal.SIGINT)
-    return printed(collector.output(group.folder))

@@ -13,12 +13,12 @@ from typing import Sequence
 from lab import routing
 from lab.collectors import Collector
 from lab.exporters import Started
-from lab.namespaces import CUSTOMERS, ROUTERS, SERVERS
+from lab.namespaces import ROUTERS, SERVERS, peer_of
 from lab.programs import TOOLS, LabError, run
 from lab.scenario import Declared, Scenario
 from lab.state import State
 
-NAMES = {"c1": "customer 1", "c2": "customer 2", "s1": "server 1", "s2": "server 2"}
+NAMES = {"c1": "customer 1", "c2": "customer 2", "c3": "customer 3", "s1": "server 1", "s2": "server 2"}
 KEYS = {(4,): '"sourceIPv4Address"', (4, 6): '"source"'}
 
 
@@ -59,7 +59,7 @@ def device_lines(scenario: Scenario, started: Sequence[Started], state: State) -
     """Returns the devices of the project: hosts and routers with their tables, meters with their configurations."""
     meters = {one.meter.device: one for one in started}
     found: list[str] = []
-    for host in (*CUSTOMERS, *ROUTERS, *SERVERS):
+    for host in (*scenario.sent.customers, *ROUTERS, *SERVERS):
         one = meters.get(host)
         entry: dict[str, str | bool | int | Sequence[str]] = {
             "name": host, "kind": "frr" if host in ROUTERS else "linux", "addresses": state.files(host, "addr"),
@@ -81,15 +81,16 @@ def collector_lines(collectors: Sequence[Collector], folder: Path) -> list[str]:
     found: list[str] = []
     for one in collectors:
         found += table("collectors", {"name": one.name, "kind": "nfacctd", "config": [path.name for path in one.files(folder)],
-                                      "addresses": [one.address] if one.listens_at_all else []})
+                                      "addresses": [one.address] if one.listens_at_all else [],
+                                      "forwards": one.forwards, "aggregates": one.aggregates})
     return found
 
 
-def traffic_lines(declared: Declared, state: State) -> list[str]:
+def traffic_lines(declared: Declared, state: State, customers: tuple[str, ...]) -> list[str]:
     """Returns the traffic between customers and servers, whose paths follow the routing tables."""
     found: list[str] = []
     for version in declared.versions:
-        for froms, tos in ((CUSTOMERS, SERVERS), (SERVERS, CUSTOMERS)):
+        for froms, tos in ((customers, SERVERS), (SERVERS, customers)):
             for source in froms:
                 for destination in tos:
                     over = " over IPv6" if version == 6 else ""
@@ -105,12 +106,12 @@ def traffic_lines(declared: Declared, state: State) -> list[str]:
 def routing_lines() -> list[str]:
     """Returns the routers' own packets of OSPF as exempt traffic: FRR says at which interfaces they are sent."""
     found: list[str] = []
-    speaking = {host: routing.speaking(host) for host in ROUTERS}
-    for host, entries in speaking.items():
-        other = next(one for one in ROUTERS if one != host)
-        for one, there in zip(entries, speaking[other]):
-            path = f'[["{host}:{one["interface"]}:egress", "{other}:{there["interface"]}:ingress"]]'
-            found += table("traffic", {"name": f"routing of {host}", "source": one["address"], "protocol": 89, "exempt": True})
+    for host in ROUTERS:
+        for one in routing.speaking(host):
+            other, interface = peer_of(host, one["interface"])
+            path = f'[["{host}:{one["interface"]}:egress", "{other}:{interface}:ingress"]]'
+            found += table("traffic", {"name": f"routing of {host} at {one['interface']}", "source": one["address"],
+                                       "protocol": 89, "exempt": True})
             found[-1:] = [f"paths = {path}", ""]
     return found
 
@@ -122,7 +123,7 @@ def project_lines(scenario: Scenario, started: Sequence[Started], state: State, 
     lines += device_lines(scenario, started, state) + collector_lines(scenario.collectors, folder)
     lines += ["[links]", 'table = "cables.csv"', "subnets = false", ""]
     lines += ["[addresses]", *declared.aliases, ""] if declared.aliases else []
-    lines += list(paths) or traffic_lines(declared, state)
+    lines += list(paths) or traffic_lines(declared, state, scenario.sent.customers)
     lines += routing_lines() if declared.routing else []
     lines += ["[accept]", *(f'{topic} = ["*"]' for topic in declared.accept), ""] if declared.accept else []
     return lines + list(declared.project)

@@ -10,6 +10,7 @@ from lab.namespaces import MANAGEMENT, interface_index
 from lab.programs import Group, LabError, Running, children_of, path_of, run
 
 BILLING = "172.31.0.1:4739"
+CUSTOMER_1, CUSTOMER_2 = "src net 10.1.0.0/24", "src net 10.2.0.0/24"
 USUAL_KEYS = "src_host, dst_host, src_port, dst_port, proto, tos"
 SOFTFLOWD_LINE = "softflowd -d -v 10 -c none -n {receiver} -t udp=2 -t general=2 -t maxlife=4 -t expint=1"
 

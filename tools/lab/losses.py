@@ -10,11 +10,13 @@ from lab.namespaces import HOSTS, links_of
 from lab.programs import run
 from lab.verdicts import Loss
 
+SWITCHING = ("sw", "edge", "c3")
 COUNTERS = ("RcvbufErrors", "SndbufErrors")
 # Lines of pmacct's daemons that say that records or messages were lost.
 PMACCT_WORDS = ("Missing data detected", "Failed during write", "Unable to allocate more memory", "Maximum number of writer",
                 "discarded", "Unable to write")
 DROPPED = re.compile(r"dropped_packets=(\d+)")
+SOCKET = re.compile(r"\*:(\S+)\s.*skmem:\(.*,d(\d+)\)")
 DUMPCAP = re.compile(r"Packets received/dropped on interface '([^']+)': (\d+)/(\d+)")
 
 
@@ -37,9 +39,23 @@ def udp_counters(text: str) -> dict[str, int]:
     return {f"Udp {name}": int(found[name]) for name in COUNTERS if name in found}
 
 
+def packet_drops(text: str) -> dict[str, int]:
+    """Returns what the packet sockets of Open vSwitch had no room for, by their interfaces, of lines of `ss -0 -m`. Those of
+    captures come and go, and say themselves what they dropped."""
+    found: dict[str, int] = {}
+    for line in text.splitlines():
+        match = SOCKET.search(line)
+        if match and "ovs-vswitchd" in line:
+            name = f"packet socket at {match[1]}"
+            found[name] = found.get(name, 0) + int(match[2])
+    return found
+
+
 def counters_of(host: str) -> Counters:
     """Returns the counters of a host."""
     values = udp_counters(run(["cat", "/proc/net/snmp"], host).output)
+    if host in SWITCHING:
+        values |= packet_drops(run(["ss", "-0", "-m", "-a", "-n", "-p"], host).output)
     for link in links_of(host):
         for way, statistics in link.get("stats64", link.get("stats", {})).items():
             for what in ("dropped", "errors", "over_errors"):

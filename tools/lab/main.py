@@ -8,16 +8,20 @@ import sys
 import tempfile
 import time
 import traceback
+from concurrent.futures import Future, ThreadPoolExecutor
+from dataclasses import dataclass
 from pathlib import Path
 
 from lab import analysis, namespaces, routing, running, state
 from lab.analysis import Result
+from lab.page import write_table
 from lab.programs import LabError, path_of
-from lab.running import Lab
+from lab.results import Results, compare, counts, make, read, write
+from lab.running import Lab, Session
 from lab.scenario import Scenario
 from lab.scenarios import all_scenarios
 from lab.switch import Switch
-from lab.totals import whole
+from lab.verdicts import Verdict
 
 PROGRAMS = ("ip", "sysctl", "ethtool", "zebra", "ospfd", "vtysh", "ovsdb-server", "ovs-vswitchd", "ovs-vsctl", "pmacctd", "nfacctd",
             "softflowd", "nfcapd", "nfdump", "tshark", "dumpcap", "mergecap")
@@ -61,43 +65,86 @@ def take_down(switch: Switch) -> None:
             print(f"lab: {error}", file=sys.stderr)
 
 
-def run_scenario(lab: Lab, scenario: Scenario) -> Result:
-    """Runs and measures a scenario."""
+@dataclass
+class Ran:
+    """A scenario that has run, with its project."""
+
+    session: Session
+    project: Path
+    seconds: float
+
+
+def run_scenario(lab: Lab, scenario: Scenario) -> Ran:
+    """Runs a scenario, and saves what stood in the network for the analysis."""
     began = time.monotonic()
     with scenario.network(lab.switch):
         session = running.begin(lab, scenario)
         session.run()
-        result = analysis.measure(session)
-    result.seconds = time.monotonic() - began
+        project = analysis.prepare(session)
+    return Ran(session, project, time.monotonic() - began)
+
+
+def measure(ran: Ran) -> Result:
+    """Returns what came of a scenario that has run."""
+    began = time.monotonic()
+    try:
+        result = analysis.measure(ran.session, ran.project)
+    finally:
+        ran.session.group.kill_rest()
+    result.seconds = ran.seconds + time.monotonic() - began
     return result
 
 
 def line_of(result: Result) -> str:
     """Returns a scenario's result in a line."""
-    measured = result.measured
-    def counts(table: dict[str, tuple[int, int]] | None) -> str:
-        return "none" if table is None else "%d/%d" % whole(table)
-    programs = " ".join(f"{name} {counts(table)}" for name, table in measured.found.items())
-    return (f"{result.scenario.name:<16} {result.judged.verdict.value:<13} {measured.audit:<11} due {counts(measured.due)} predicted "
-            f"{counts(measured.predicted)} {programs} {result.seconds:.1f} s")
+    measured, judged = result.measured, result.judged
+    programs = ", ".join(f"{name} {counts(table)}" for name, table in measured.found.items())
+    return (f"{result.scenario.name:<16} {judged.verdict.value:<12} {measured.audit}, due {counts(measured.due)}, predicted "
+            f"{counts(measured.predicted)}; {programs}; {result.seconds:.1f} s")
 
 
-def run_all(lab: Lab, chosen: list[Scenario]) -> tuple[list[Result], list[str]]:
-    """Runs scenarios; returns their results, and the faults of all."""
-    results, faults = [], []
-    for scenario in chosen:
-        try:
-            result = run_scenario(lab, scenario)
-        except Exception as error:  # one scenario that fails must not hide what the others find
-            faults.append(f"{scenario.name}: {error}" if isinstance(error, LabError) else f"{scenario.name}: {traceback.format_exc()}")
-            print(faults[-1], flush=True)
-            continue
-        results.append(result)
+class Report:
+    """Prints what comes of scenarios, and keeps their results and faults."""
+
+    def __init__(self) -> None:
+        self.results: list[Result] = []
+        self.faults: list[str] = []
+
+    def failed(self, scenario: Scenario, error: Exception) -> None:
+        """Notes a scenario that could not be run or measured."""
+        why = str(error) if isinstance(error, LabError) else "".join(traceback.format_exception(error))
+        self.faults.append(f"{scenario.name}: {why}")
+        print(f"{scenario.name:<16} FAILED {why}", flush=True)
+
+    def came(self, scenario: Scenario, future: "Future[Result]") -> None:
+        """Notes the result of a scenario."""
+        error = future.exception()
+        if error is not None:
+            self.failed(scenario, error if isinstance(error, Exception) else LabError(str(error)))
+            return
+        result = future.result()
+        self.results.append(result)
         print(line_of(result), flush=True)
         for text in [*result.judged.reasons, *(f"FAULT {one}" for one in result.judged.faults)]:
             print(f"    {text}", flush=True)
-        faults += [f"{scenario.name}: {one}" for one in result.judged.faults]
-    return results, faults
+        self.faults += [f"{scenario.name}: {one}" for one in result.judged.faults]
+
+
+def run_all(lab: Lab, chosen: list[Scenario]) -> Report:
+    """Runs scenarios one after another. What one recorded is analysed while the next one runs."""
+    report = Report()
+    with ThreadPoolExecutor(1) as worker:
+        waiting: list[tuple[Scenario, Future[Result]]] = []
+        for scenario in chosen:
+            try:
+                waiting.append((scenario, worker.submit(measure, run_scenario(lab, scenario))))
+            except Exception as error:  # one scenario that fails must not hide what the others find
+                report.failed(scenario, error)
+            while waiting and (waiting[0][1].done() or len(waiting) > 1):
+                report.came(*waiting.pop(0))
+        for scenario, future in waiting:
+            report.came(scenario, future)
+    return report
 
 
 def chosen_of(names: list[str], is_all: bool) -> list[Scenario]:
@@ -113,35 +160,66 @@ def parsed() -> argparse.Namespace:
     parser = argparse.ArgumentParser(prog="make lab", description=__doc__)
     parser.add_argument("names", nargs="*", metavar="NAME", help="scenarios whose names begin so (default: the core)")
     parser.add_argument("--all", action="store_true", help="all scenarios")
+    parser.add_argument("--list", action="store_true", help="print the scenarios, and run none")
     parser.add_argument("--once", default=os.environ.get("ONCE", str(TOP / "once")), help="the program `once`")
     parser.add_argument("--out", type=Path, default=TOP / "out" / "lab", help="folder of results (default: out/lab)")
+    parser.add_argument("--table", type=Path, metavar="PAGE", help="write the table of results into a page")
+    parser.add_argument("--agree", type=Path, metavar="FILE", help="demand that an earlier run's results.json agrees")
     parser.add_argument("--down", action="store_true", help="take down a lab that an earlier run left")
     return parser.parse_args()
 
 
-def main() -> int:
-    """Returns 0 if all scenarios came to what is expected."""
-    arguments = parsed()
-    if arguments.down:
-        routing.stop()
-        namespaces.down()
-        return 0
-    why = why_not(arguments.once)
-    if why:
-        print(f"not run: lab: {why}")
-        return 1 if os.environ.get("CI") == "true" else 0
+def run_lab(arguments: argparse.Namespace, chosen: list[Scenario]) -> Results:
+    """Runs scenarios in a lab that is brought up for them and taken down, whatever happens."""
     began = time.monotonic()
     folder = Path(tempfile.mkdtemp(prefix="once-lab-"))
     folder.chmod(0o755)
     try:
         lab = bring_up(folder, arguments.out, shutil.which(arguments.once) or arguments.once)
-        print(f"the lab is up after {time.monotonic() - began:.1f} s", flush=True)
-        results, faults = run_all(lab, chosen_of(arguments.names, arguments.all))
+        up = time.monotonic() - began
+        print(f"the lab is up after {up:.1f} s", flush=True)
+        report = run_all(lab, chosen)
     finally:
         take_down(Switch(folder / "ovs"))
         shutil.rmtree(folder, ignore_errors=True)
-    print(f"{len(results)} scenarios measured, {len(faults)} faults, {time.monotonic() - began:.0f} s")
+    return make(report.results, report.faults, up, time.monotonic() - began)
+
+
+def finish(arguments: argparse.Namespace, results: Results) -> int:
+    """Writes what came of a run, and returns the exit status."""
+    earlier = read(arguments.agree) if arguments.agree else None
+    write(results, arguments.out / "results.json")
+    faults = results.faults + (compare(earlier, results) if earlier else [])
+    if arguments.table:
+        write_table(arguments.table, results)
+    verdicts = [one["verdict"] for one in results.scenarios]
+    tally = ", ".join(f"{verdicts.count(one.value)} {one.value}" for one in Verdict)
+    print(f"{len(verdicts)} scenarios measured: {tally}; {len(faults)} faults, {results.seconds:.0f} s")
+    for fault in faults:
+        print(f"fault: {fault}")
     return 1 if faults else 0
+
+
+def main() -> int:
+    """Returns 0 if all scenarios came to what is expected, 1 if not, and 2 for wrong arguments or a lab that does not come up."""
+    arguments = parsed()
+    chosen = chosen_of(arguments.names, arguments.all)
+    if arguments.down:
+        routing.stop()
+        namespaces.down()
+        return 0
+    if arguments.list or not chosen:
+        print("\n".join(f"{one.name:<16} {one.title}" for one in chosen) or f"no scenario begins with {arguments.names}")
+        return 0 if chosen else 2
+    why = why_not(arguments.once)
+    if why:
+        print(f"not run: lab: {why}")
+        return 1 if os.environ.get("CI") == "true" else 0
+    try:
+        return finish(arguments, run_lab(arguments, chosen))
+    except LabError as error:
+        print(f"lab: {error}", file=sys.stderr)
+        return 2
 
 
 if __name__ == "__main__":

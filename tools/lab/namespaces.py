@@ -2,7 +2,11 @@
 
     c1 eth0 --- cust1 \\                                                   / p-s1 --- eth0 s1
                        edge  up0 --- down0  core  srv0 --- p-core  sw
-    c2 eth0 --- cust2 /      up1 --- down1 (off)                          \\ p-s2 --- eth0 s2
+    c2 eth0 --- cust2 /|     up1 --- down1                                \\ p-s2 --- eth0 s2
+    c3 eth0 --- cust3 /
+
+Customer 3 sends in a VLAN, while a scenario gives it one.
+Packets take the second link between edge and core only while a scenario makes it as cheap as the first.
 
 A management network joins edge, core, sw and the collectors' hosts, so that exports cross no interface that is metered.
 """
@@ -18,22 +22,22 @@ from lab.programs import LabError, namespace_of, run
 
 @dataclass(frozen=True)
 class Cable:
-    """A pair of interfaces of two hosts. One that is off can be switched on by a scenario."""
+    """A pair of interfaces of two hosts."""
 
     a: str
     a_interface: str
     b: str
     b_interface: str
-    is_on: bool = True
 
 
-HOSTS = ("c1", "c2", "edge", "core", "sw", "s1", "s2", "bill", "med1", "med2")
+HOSTS = ("c1", "c2", "c3", "edge", "core", "sw", "s1", "s2", "bill", "med1", "med2")
 CUSTOMERS, SERVERS, ROUTERS = ("c1", "c2"), ("s1", "s2"), ("edge", "core")
 CABLES = (
     Cable("c1", "eth0", "edge", "cust1"),
     Cable("c2", "eth0", "edge", "cust2"),
+    Cable("c3", "eth0", "edge", "cust3"),
     Cable("edge", "up0", "core", "down0"),
-    Cable("edge", "up1", "core", "down1", False),
+    Cable("edge", "up1", "core", "down1"),
     Cable("core", "srv0", "sw", "p-core"),
     Cable("sw", "p-s1", "s1", "eth0"),
     Cable("sw", "p-s2", "s2", "eth0"),
@@ -109,8 +113,7 @@ def _add_cable(cable: Cable) -> None:
          cable.b_interface, "netns", namespace_of(cable.b)])
     for host, interface in ((cable.a, cable.a_interface), (cable.b, cable.b_interface)):
         _without_offloads(host, interface)
-        if cable.is_on:
-            in_host(host, [f"link set {interface} up"])
+        in_host(host, [f"link set {interface} up"])
 
 
 def _add_management() -> None:
@@ -143,6 +146,16 @@ def write_cables(path: Path, more: tuple[Cable, ...] = ()) -> None:
     rows = ["a,a_interface,b,b_interface"]
     rows += [f"{one.a},{one.a_interface},{one.b},{one.b_interface}" for one in (*CABLES, *more)]
     path.write_text("\n".join(rows) + "\n", encoding="utf-8")
+
+
+def peer_of(host: str, interface: str) -> tuple[str, str]:
+    """Returns the host and interface at the other end of a cable."""
+    for one in CABLES:
+        if (one.a, one.a_interface) == (host, interface):
+            return one.b, one.b_interface
+        if (one.b, one.b_interface) == (host, interface):
+            return one.a, one.a_interface
+    raise LabError(f"no cable leads from {host} {interface}")
 
 
 def links_of(host: str) -> list[dict[str, Any]]:

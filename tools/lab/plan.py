@@ -7,6 +7,7 @@ from pathlib import Path
 from typing import Callable, Iterator
 
 from lab.namespaces import SERVER_ADDRESSES
+from lab.totals import Totals, add
 
 SEED = 20261129
 SERVERS = tuple(SERVER_ADDRESSES.values())
@@ -87,8 +88,9 @@ def as_ipv6(address: str) -> str:
 
 
 def in_vlan(count: int) -> list[Packet]:
-    """Returns the usual packets; those of customer 1 come from addresses in its VLAN."""
-    return [replace(one, source=one.source.replace("10.1.0.", "10.1.100.")) for one in usual(count)]
+    """Returns the usual packets; customer 3, in a VLAN, sends what customer 1 would."""
+    return [replace(one, host="c3", source=one.source.replace("10.1.0.", "10.1.100.")) if one.host == "c1" else one
+            for one in usual(count)]
 
 
 def acquainting(_: int) -> list[Packet]:
@@ -102,10 +104,9 @@ def write(packets: list[Packet], path: Path) -> None:
     path.write_text(json.dumps([asdict(one) for one in packets]), encoding="utf-8")
 
 
-def sums(packets: list[Packet]) -> dict[str, tuple[int, int]]:
+def sums(packets: list[Packet]) -> Totals:
     """Returns packets and octets of a plan, by source address."""
-    found: dict[str, tuple[int, int]] = {}
+    found: Totals = {}
     for one in packets:
-        before = found.get(one.source, (0, 0))
-        found[one.source] = (before[0] + 1, before[1] + one.length)
+        add(found, one.source, 1, one.length)
     return found

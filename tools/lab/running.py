@@ -9,7 +9,7 @@ from pathlib import Path
 
 from lab import captures, collectors, losses, plan, state
 from lab.exporters import Started, export_capture, start_meter
-from lab.namespaces import CUSTOMERS, MANAGEMENT, SERVER_ADDRESSES
+from lab.namespaces import CUSTOMERS, SERVER_ADDRESSES
 from lab.programs import Group, LabError, Running, agent
 from lab.scenario import Scenario, folder_of
 from lab.state import State
@@ -19,6 +19,8 @@ from lab.verdicts import Loss
 PORTS = (4739, 4740, 4741)
 # Open vSwitch's cache is exported within its timeout of 2 seconds.
 SWITCH_FLUSH = 0.5
+# The last messages reach the collectors, and dumpcap hands on what it holds each quarter of a second.
+SETTLED = 0.6
 
 
 @dataclass
@@ -40,7 +42,8 @@ class Session:
     group: Group
     packets: list[plan.Packet]
     state: State
-    captures: dict[str, Running] = field(default_factory=dict)
+    captures: dict[Path, Running] = field(default_factory=dict)
+    watched: dict[Path, Running] = field(default_factory=dict)
     wires: dict[str, Running] = field(default_factory=dict)
     collectors: dict[str, Running] = field(default_factory=dict)
     receivers: list[Running] = field(default_factory=list)
@@ -70,7 +73,8 @@ class Session:
     def _start(self) -> None:
         scenario = self.scenario
         ports = sorted({*PORTS, *(one.port for one in scenario.collectors)})
-        self.captures = captures.start_senders(self.group)
+        self.captures = captures.start_senders(self.group, scenario.sent.interfaces)
+        self.watched = captures.start_watched(self.group, scenario.watched)
         self.wires = captures.start_wire(self.group, ports)
         if not scenario.starts_late:
             self._start_collectors()
@@ -97,7 +101,7 @@ class Session:
             words = agent("receive", "5000", "5009", str(sent.answer_every), "0.0.0.0", *six)
             self.receivers.append(self.group.start(host, words, f"receive-{host}.log", "ready"))
         first, last = sent.customers_receive_at
-        for host in CUSTOMERS:
+        for host in sent.customers:
             words = agent("receive", str(first), str(last), "0", "0.0.0.0", *six)
             self.receivers.append(self.group.start(host, words, f"receive-{host}.log", "ready"))
 
@@ -105,7 +109,7 @@ class Session:
         path = self.folder / "plan.json"
         plan.write(self.packets, path)
         senders = {host: self.group.start(host, agent("send", str(path), host, str(self.scenario.sent.gap)), f"send-{host}.log")
-                   for host in CUSTOMERS}
+                   for host in self.scenario.sent.customers}
         if self.scenario.starts_late:
             time.sleep(self.scenario.starts_late)
             self._start_collectors()
@@ -118,13 +122,17 @@ class Session:
 
     def _end(self) -> None:
         self._end_meters()
-        time.sleep(1.0)
+        self._end_captures({path.stem: one for path, one in (self.captures | self.watched).items()})
+        if self.scenario.after_meters:
+            self.scenario.after_meters(self)
+        time.sleep(SETTLED)
         for one in self.receivers:
             one.end()
             self.answered += int(one.text().split()[-1])
-        self._end_captures(self.captures, "of what {} sends")
         self._look_at_sockets()
-        self._end_captures(self.wires, "of messages at {}")
+        self._end_captures({f"wire-{name}": one for name, one in self.wires.items()})
+        for running in self.collectors.values():
+            running.send_signal(2)
         for name, running in self.collectors.items():
             running.end(2)
             self.losses += losses.pmacct_losses(f"nfacctd {name}", running.text())
@@ -150,16 +158,17 @@ class Session:
             self.losses += losses.switch_losses(statistics)
             self.lab.switch.stop_metering()
 
-    def _end_captures(self, running: dict[str, Running], title: str) -> None:
+    def _end_captures(self, running: dict[str, Running]) -> None:
         for one in running.values():
             one.send_signal(2)
         for name, one in running.items():
             one.end(2)
-            self.losses += losses.capture_losses(title.format(name), one.text())
+            self.losses += losses.capture_losses(name, one.text())
 
     def _look_at_sockets(self) -> None:
         for one in self.scenario.collectors:
-            self.losses += losses.collector_losses(one.host, one.name, one.port)
+            if self.collectors[one.name].process.poll() is None:
+                self.losses += losses.collector_losses(one.host, one.name, one.port)
 
 
 def begin(lab: Lab, scenario: Scenario) -> Session:
@@ -194,7 +203,3 @@ def acquaint(lab: Lab) -> None:
     finally:
         group.kill_rest()
 
-
-def management_address(host: str) -> str:
-    """Returns the address from which a host exports."""
-    return MANAGEMENT[host]

@@ -8,10 +8,10 @@ from pathlib import Path
 from typing import Any
 
 from lab import routing
-from lab.namespaces import CUSTOMERS, ROUTERS, SERVERS, Cable, addresses_of, write_cables
+from lab.namespaces import CUSTOMERS, ROUTERS, SERVERS, Cable, addresses_of, peer_of, write_cables
 from lab.programs import LabError, namespace_of, run
 
-HOSTS = (*CUSTOMERS, *ROUTERS, *SERVERS)
+HOSTS = (*CUSTOMERS, "c3", *ROUTERS, *SERVERS)
 
 
 @dataclass
@@ -58,22 +58,31 @@ def _write(path: Path, text: str) -> None:
     path.write_text(text, encoding="utf-8")
 
 
-def kernel_path(source: str, destination: str, into: tuple[str, str], state: State, cables: list[tuple[str, ...]]) -> list[str]:
+def next_interface(text: str, what: str) -> str:
+    """Returns the interface that `ip route get` answers."""
+    match = re.search(r" dev (\S+)", text)
+    if match is None:
+        raise LabError(f"{what}: `ip route get` names no interface: {text.strip()}")
+    return match[1]
+
+
+def owners_of(state: State) -> dict[str, str]:
+    """Returns the host of each address."""
+    return {one["local"]: host for host in HOSTS for link in state.json(f"{host}.addr.json") if link["ifname"] != "lo"
+            for one in link.get("addr_info", [])}
+
+
+def kernel_path(source: str, destination: str, into: tuple[str, str], state: State) -> list[str]:
     """Returns the crossings of a packet that comes into a router, as the routers' kernels answer hop by hop. It follows
     policy routing too, which no routing table shows."""
-    owners = {one["local"]: host for host in HOSTS for link in state.json(f"{host}.addr.json")
-              for one in link.get("addr_info", []) if link["ifname"] != "lo"}
-    peers = {end: other for one in cables for end, other in (((one[0], one[1]), (one[2], one[3])), ((one[2], one[3]), (one[0], one[1])))}
+    owner = owners_of(state).get(destination)
     found: list[str] = []
     for _ in range(16):
         router, interface = into
-        found.append(f"{router}:{interface}:ingress")
-        text = run(["ip", "-n", namespace_of(router), "route", "get", destination, "from", source, "iif", interface]).output
-        match = re.search(r" dev (\S+)", text)
-        if match is None:
-            raise LabError(f"{router} names no interface for packets from {source} to {destination}: {text.strip()}")
-        found.append(f"{router}:{match[1]}:egress")
-        into = peers[router, match[1]]
-        if into[0] == owners.get(destination) or into[0] not in ROUTERS:
+        words = ["ip", "-n", namespace_of(router), "route", "get", destination, "from", source, "iif", interface]
+        out = next_interface(run(words).output, f"{router} for packets from {source} to {destination}")
+        found += [f"{router}:{interface}:ingress", f"{router}:{out}:egress"]
+        into = peer_of(router, out)
+        if into[0] == owner or into[0] not in ROUTERS:
             return found
     raise LabError(f"packets from {source} to {destination} go in a circle")

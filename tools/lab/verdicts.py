@@ -34,7 +34,8 @@ class Loss:
 class Measured:
     """What was measured in a scenario. `due` are the plain sums of the packets that must be counted, `predicted` what
     `once run` prints (None where the documents do not say what happens), `found` what each program totals: a table, or why
-    it has none. `others` are totals under keys that no declared host has."""
+    it has none. `others` are totals under keys that no declared host has; they are wrong if the documents declare
+    their packets as exempt."""
 
     audit: str
     due: Totals
@@ -43,6 +44,7 @@ class Measured:
     found: dict[str, Totals]
     refused: dict[str, str] = field(default_factory=dict)
     others: dict[str, Totals] = field(default_factory=dict)
+    others_are_wrong: bool = False
     losses: list[Loss] = field(default_factory=list)
     notes: list[str] = field(default_factory=list)
 
@@ -60,7 +62,6 @@ class Expected:
     verdicts: tuple[Verdict, ...] = (Verdict.AGREED,)
     premise: str = ""
     check: Check | None = None
-    is_contradicted: bool = False
 
 
 @dataclass
@@ -77,6 +78,7 @@ def is_borne_out(measured: Measured) -> bool:
     """Returns whether the audit's answer is borne out: with a certificate all totals are those due, and with a refutation
     not all of them. (A refutation says that some run goes wrong; that this traffic shows it is more than it promises.)"""
     is_due = all(table == measured.due for table in measured.found.values()) and not measured.refused
+    is_due = is_due and not (measured.others_are_wrong and measured.others)
     return is_due if measured.audit == CERTIFICATE else not is_due
 
 
