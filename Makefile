@@ -4,7 +4,7 @@
 SHELL := /bin/bash
 .DEFAULT_GOAL := help
 .PHONY: help kit replay once packages test proofs mutants shown check pending rows examples pictures torture clean \
-	install uninstall deb manual tools run-tools
+	install uninstall deb manual tools run-tools lab
 
 # Prints what the part took when it ends.
 comma = ,
@@ -25,6 +25,7 @@ help:
 	@echo 'make rows              proves and builds the program, and runs the steps of the gate over it'
 	@echo 'make examples          the same for the examples alone'
 	@echo 'make tools             checks the types of once-import and runs its tests, over ./once or ONCE=PROGRAM'
+	@echo 'make lab               compares ./once with running exporters and collectors, as root (docs/LAB.md); ALL=1 for all scenarios'
 	@echo 'make pictures          draws the pictures of the examples anew (needs Graphviz)'
 	@echo 'make torture           the same over inputs that are made to do harm, for an hour or more'
 	@echo 'make clean             removes what was built'
@@ -103,8 +104,16 @@ WORKERS = $(shell $(PYTHON) -c 'import xdist' 2> /dev/null && echo "-n 2")
 run-tools:
 	@[ -n "$(PYTHON)" ] || { echo 'pytest not found: install it (Debian: python3-pytest)'; exit 2; }
 	@command -v mypy > /dev/null || { echo 'mypy not found: install it (Debian: mypy)'; exit 2; }
-	cd tools && mypy --strict --cache-dir=/dev/null once_tools
+	cd tools && mypy --strict --cache-dir=/dev/null once_tools lab
 	cd tools && ONCE=$(ONCE) $(PYTHON) -B -m pytest -q -rs -p no:cacheprovider $(WORKERS) tests
+
+# Runs exporters and collectors in network namespaces, and compares their totals with what the program predicts (docs/LAB.md):
+# a core of scenarios, ALL=1 all of them, ARGUMENTS= names and options.
+ALL =
+ARGUMENTS =
+lab:
+	@python3 packaging/install_packages.py packaging/lab-packages
+	@cd tools && ONCE=$(ONCE) /usr/bin/env python3 -B -m lab.main $(if $(ALL),--all) $(ARGUMENTS)
 
 # Draws the pictures of the examples anew, with Graphviz's dot: each network with its traffic and its certificate or
 # refutation.

@@ -5,6 +5,7 @@ import re
 
 from once_tools.model import Device, Interface, Place, Unusable
 from once_tools.paths import links
+from once_tools.paths.bridging import join_ports
 from once_tools.paths.interfaces import read_interfaces
 from once_tools.paths.routes import Hop, Route, Table, Tables, read_routes
 from once_tools.paths.topology import Node, Topology
@@ -24,6 +25,7 @@ def topology_of(devices: list[Device], project: Project) -> Topology:
         device = known.get(entry.name)
         topology.aliases[entry.name] = [*entry.aliases, *([device.hostname] if device and device.hostname else [])]
         _add_interfaces(topology, entry, device, project)
+        join_ports(topology, entry, device, project)
     _add_links(topology, project)
     return topology
 

@@ -21,7 +21,7 @@ MOST_NEAR = 50
 class Topology:
     """What is known of the network between the devices. Interfaces are in the order of their configurations; `bundles` are
     the VLANs and bundles that an interface is a member of; `capturing` are the devices whose meters capture frames, so that
-    they see packets of a VLAN's interface at its main interface too."""
+    they see packets of a VLAN's interface at its main interface too; `bridged` are the other ports of a port's bridge."""
 
     interfaces: dict[str, dict[str, Interface]] = field(default_factory=dict)
     aliases: dict[str, list[str]] = field(default_factory=dict)
@@ -30,6 +30,7 @@ class Topology:
     findings: list[Finding] = field(default_factory=list)
     capturing: set[str] = field(default_factory=set)
     bundles: dict[Node, list[str]] = field(default_factory=dict)
+    bridged: dict[Node, list[Node]] = field(default_factory=dict)
     _spellings: dict[str, Spellings] = field(default_factory=dict)
     _near: int = 0
 

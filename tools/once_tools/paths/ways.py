@@ -5,6 +5,7 @@ import ipaddress
 from dataclasses import dataclass, field
 
 from once_tools.model import Crossing, Direction, Finding, Grade, Interface, Place, Unusable
+from once_tools.paths.bridging import Way, over_bridges
 from once_tools.paths.routes import Hop, Tables
 from once_tools.paths.topology import Address, Node, Topology
 
@@ -141,6 +142,13 @@ class Walker:
             return [end for end in self.topology.peers.get(node, []) if end in self.topology.owners.get(address, [])]
         return self.topology.next_nodes(node, hop.gateway)
 
+    def ways_on(self, device: str, hop: Hop, is_connected: bool, address: Address) -> list[Way]:
+        """Returns the ways to the interfaces by which a packet comes into the next device, over bridges if there are some;
+        nothing where it leaves the network at once."""
+        ends = self.next_nodes(device, hop, is_connected, address)
+        found: list[Way] = [((), end) for end in ends if end not in self.topology.bridged]
+        return found + over_bridges(self.topology, (device, hop.interface), address if is_connected else hop.gateway)
+
     def paths(self, start: Node, target: Target) -> list[Path]:
         """Returns all paths of packets that come in at an interface."""
         found: dict[Path, None] = {}
@@ -172,14 +180,25 @@ class Walker:
             found[here] = None
         for hop, is_connected in hops:
             left = here + (crossing((device, hop.interface), Direction.EGRESS),)
-            ends = self.next_nodes(device, hop, is_connected, target.address)
-            if not ends:
+            ways = self.ways_on(device, hop, is_connected, target.address)
+            if not ways:
                 found[left] = None
-            for end in ends:
-                self._arrive(end, left, (*seen, (device, vrf)), target, found)
+            for way, end in ways:
+                if end is None:
+                    found[left + way] = None
+                else:
+                    self._arrive(end, left + way, (*seen, (device, vrf)), target, found)
+            self._note_open(device, hop, ways, target)
         if len(found) > MOST_PATHS:
             raise Unusable(target.place, f"has more than {MOST_PATHS} paths to {target.what}",
                            "cut the traffic into smaller parts")
+
+    def _note_open(self, device: str, hop: Hop, ways: list[Way], target: Target) -> None:
+        names = ", ".join(f"{way[-1].device} {way[-1].interface}" for way, end in ways if end is None)
+        if names:
+            self.findings[Finding(Grade.PREMISE, target.place, f"packets to {target.what} leave {device} {hop.interface} for a "
+                                  f"bridge, and no link leads to their host: they are taken to leave by any of {names}",
+                                  "give the addresses of the host, and its link to the bridge")] = None
 
     def _drop(self, device: str, target: Target) -> None:
         if device in self.tables:
@@ -202,6 +221,8 @@ class Walker:
         for device, moments in self.tables.items():
             for vrf in {vrf for tables in moments for vrf in tables.by_vrf}:
                 for hop, is_connected in self.hops(device, vrf, address)[0]:
-                    if not self.next_nodes(device, hop, is_connected, address):
+                    ways = self.ways_on(device, hop, is_connected, address)
+                    found |= {(way[-1].device, way[-1].interface) for way, end in ways if end is None}
+                    if not ways:
                         found.add((device, hop.interface))
         return sorted(found)

@@ -13,8 +13,8 @@ from once_tools.paths.routes import Tables
 from once_tools.paths.setup import CAPTURING, tables_of, topology_of
 from once_tools.paths.topology import Node, Topology
 from once_tools.project import Project
-from once_tools.proposal.bridges import bridges_of
 from once_tools.proposal.dynamic import add_dynamic
+from once_tools.readers.bridges import bridges_of
 
 LOOPBACK = re.compile(r"(loopback|lo\d*(\.\d+)?$|dum(my)?\d|null\d|system$|local$)", re.I)
 MANAGEMENT_PORT = re.compile(r"(mgmt|management)", re.I)

@@ -1,0 +1,1 @@
+"""Small programs that the lab runs in its network namespaces: senders, receivers, replays."""

@@ -1,0 +1,11 @@
+"""A burst of messages overflows the collector's socket."""
+from lab.checks import all_of, exactly_in, has_lost
+from lab.collectors import Collector
+from lab.scenario import SWITCH_WITH_CACHE, Scenario
+from lab.verdicts import REFUTATION, Expected, Verdict
+
+SCENARIO = Scenario(
+    "n10-burst", "as d1, and nfacctd as it comes: 208 KiB of receive buffer, each record by itself to the plugin",
+    Expected(REFUTATION, (Verdict.NOT_MEASURED,), "each message reaches the collector",
+             all_of(has_lost("found no room"), exactly_in("once collect"))),
+    switch=SWITCH_WITH_CACHE, gaps=1, collectors=(Collector("billing", receive_buffer=212_992, plugin_buffer=0),), is_random=True)
