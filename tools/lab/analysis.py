@@ -13,6 +13,8 @@ from lab.scenario import Scenario
 from lab.totals import Answer, Totals, differences, joined, of_keys, read_answer, whole
 from lab.verdicts import CERTIFICATE, REFUTATION, Judged, Loss, Measured, judge, shortened, split_keys
 
+# What nfdump prints for a record without a source address, such as Open vSwitch's of ARP.
+NO_SOURCE = "0.0.0.0"
 ANSWERS = {0: CERTIFICATE, 1: REFUTATION}
 VERIFIED = {CERTIFICATE: ("check", "yes"), REFUTATION: ("confirm", "refuted")}
 
@@ -161,8 +163,10 @@ def measure(session: Session, project: Path) -> Result:
 def leave_out_nfcapd(session: Session, port: int, found: dict[str, Totals]) -> None:
     """Takes nfcapd out of the comparison where it has what comes of adding up the running totals of Open vSwitch's records."""
     sums = captures.running_totals(session.folder / "wire.pcap", port)
-    if found["nfcapd"] == sums and sums:
-        packets, octets = whole(found.pop("nfcapd"))
+    with_source = {key: value for key, value in found["nfcapd"].items() if key != NO_SOURCE}
+    if with_source == sums and sums:
+        del found["nfcapd"]
+        packets, octets = whole(sums)
         session.notes.append(f"nfcapd adds up the running totals of Open vSwitch's records: {packets} / {octets}, as tshark does")
 
 

@@ -12,7 +12,7 @@ from lab.programs import Group, LabError, Running, agent, path_of, run
 from lab.totals import Totals, add
 
 NFCAPD_PORT = 9995
-SECONDS = 60.0
+SECONDS = 180.0
 
 
 @dataclass(frozen=True)

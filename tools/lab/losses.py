@@ -75,7 +75,7 @@ def risen(before: dict[str, Counters], after: dict[str, Counters]) -> list[Loss]
 
 
 def socket_drops(text: str, port: int) -> int | None:
-    """Returns how many datagrams found no room in the sockets of a port, in /proc/net/udp; None if there is no such socket."""
+    """Returns how many datagrams found the buffer full in the sockets of a port, in /proc/net/udp; None if there is no such socket."""
     found = [int(words[-1]) for words in (line.split() for line in text.splitlines()[1:]) if words[1].endswith(f":{port:04X}")]
     return sum(found) if found else None
 
@@ -86,7 +86,7 @@ def collector_losses(host: str, name: str, port: int) -> list[Loss]:
     dropped = socket_drops(text, port)
     if dropped is None:
         return [Loss(f"collector {name}", f"nothing listens at port {port}")]
-    return [Loss(f"socket of collector {name}", f"{dropped} datagrams found no room")] if dropped else []
+    return [Loss(f"socket of collector {name}", f"{dropped} datagrams found the buffer full")] if dropped else []
 
 
 def capture_losses(name: str, log: str) -> list[Loss]:

@@ -4,6 +4,7 @@ from __future__ import annotations
 import argparse
 import os
 import shutil
+import signal
 import sys
 import tempfile
 import time
@@ -11,11 +12,13 @@ import traceback
 from concurrent.futures import Future, ThreadPoolExecutor
 from dataclasses import dataclass
 from pathlib import Path
+from typing import NoReturn
 
-from lab import analysis, namespaces, routing, running, state
+from lab import analysis, namespaces, routing, rows, running, state
 from lab.analysis import Result
+from lab.drawing import drawing
 from lab.page import write_table
-from lab.programs import LabError, path_of
+from lab.programs import PREFIX, LabError, path_of
 from lab.results import Results, compare, counts, make, read, write
 from lab.running import Lab, Session
 from lab.scenario import Scenario
@@ -63,6 +66,10 @@ def take_down(switch: Switch) -> None:
             step()
         except (LabError, OSError) as error:
             print(f"lab: {error}", file=sys.stderr)
+
+
+class Ended(LabError):
+    """The run was ended by a signal."""
 
 
 @dataclass
@@ -138,6 +145,8 @@ def run_all(lab: Lab, chosen: list[Scenario]) -> Report:
         for scenario in chosen:
             try:
                 waiting.append((scenario, worker.submit(measure, run_scenario(lab, scenario))))
+            except Ended:
+                raise
             except Exception as error:  # one scenario that fails must not hide what the others find
                 report.failed(scenario, error)
             while waiting and (waiting[0][1].done() or len(waiting) > 1):
@@ -161,9 +170,11 @@ def parsed() -> argparse.Namespace:
     parser.add_argument("names", nargs="*", metavar="NAME", help="scenarios whose names begin so (default: the core)")
     parser.add_argument("--all", action="store_true", help="all scenarios")
     parser.add_argument("--list", action="store_true", help="print the scenarios, and run none")
+    parser.add_argument("--draw", action="store_true", help="print the lab as a graph in the DOT language, and run none")
     parser.add_argument("--once", default=os.environ.get("ONCE", str(TOP / "once")), help="the program `once`")
     parser.add_argument("--out", type=Path, default=TOP / "out" / "lab", help="folder of results (default: out/lab)")
     parser.add_argument("--table", type=Path, metavar="PAGE", help="write the table of results into a page")
+    parser.add_argument("--rows", type=Path, metavar="FOLDER", help="write rows of streams for tests/rows, and run nothing else")
     parser.add_argument("--agree", type=Path, metavar="FILE", help="demand that an earlier run's results.json agrees")
     parser.add_argument("--down", action="store_true", help="take down a lab that an earlier run left")
     return parser.parse_args()
@@ -172,7 +183,7 @@ def parsed() -> argparse.Namespace:
 def run_lab(arguments: argparse.Namespace, chosen: list[Scenario]) -> Results:
     """Runs scenarios in a lab that is brought up for them and taken down, whatever happens."""
     began = time.monotonic()
-    folder = Path(tempfile.mkdtemp(prefix="once-lab-"))
+    folder = Path(tempfile.mkdtemp(prefix=PREFIX))
     folder.chmod(0o755)
     try:
         lab = bring_up(folder, arguments.out, shutil.which(arguments.once) or arguments.once)
@@ -182,7 +193,14 @@ def run_lab(arguments: argparse.Namespace, chosen: list[Scenario]) -> Results:
     finally:
         take_down(Switch(folder / "ovs"))
         shutil.rmtree(folder, ignore_errors=True)
+    if arguments.rows and not report.faults:
+        rows.write_rows(report.results, arguments.rows)
     return make(report.results, report.faults, up, time.monotonic() - began)
+
+
+def end_by_signal(number: int, _: object) -> NoReturn:
+    """Ends the run as by an error, so that the lab is taken down."""
+    raise Ended(f"ended by signal {number}")
 
 
 def finish(arguments: argparse.Namespace, results: Results) -> int:
@@ -203,10 +221,15 @@ def finish(arguments: argparse.Namespace, results: Results) -> int:
 def main() -> int:
     """Returns 0 if all scenarios came to what is expected, 1 if not, and 2 for wrong arguments or a lab that does not come up."""
     arguments = parsed()
-    chosen = chosen_of(arguments.names, arguments.all)
+    chosen = rows.scenarios() if arguments.rows else chosen_of(arguments.names, arguments.all)
     if arguments.down:
         routing.stop()
         namespaces.down()
+        for left in Path(tempfile.gettempdir()).glob(f"{PREFIX}*"):
+            shutil.rmtree(left)
+        return 0
+    if arguments.draw:
+        print("\n".join(drawing()))
         return 0
     if arguments.list or not chosen:
         print("\n".join(f"{one.name:<16} {one.title}" for one in chosen) or f"no scenario begins with {arguments.names}")
@@ -215,6 +238,7 @@ def main() -> int:
     if why:
         print(f"not run: lab: {why}")
         return 1 if os.environ.get("CI") == "true" else 0
+    signal.signal(signal.SIGTERM, end_by_signal)
     try:
         return finish(arguments, run_lab(arguments, chosen))
     except LabError as error:

@@ -12,7 +12,7 @@ from typing import Sequence
 
 TOOLS = Path(__file__).resolve().parents[1]
 PREFIX = "once-lab-"
-SECONDS = 60.0
+SECONDS = 120.0
 
 
 class LabError(Exception):
@@ -82,7 +82,7 @@ class Running:
         """Returns what it has printed."""
         return self.log.read_text(encoding="utf-8", errors="replace")
 
-    def wait_until_ready(self, seconds: float = 12.0) -> None:
+    def wait_until_ready(self, seconds: float = 60.0) -> None:
         """Returns when its log has all the words that say that it is ready; raises `LabError` if they do not come."""
         deadline = time.monotonic() + seconds
         while not all(word in self.text() for word in self.ready):
@@ -97,7 +97,7 @@ class Running:
         if self.process.poll() is None:
             self.process.send_signal(number)
 
-    def end(self, number: int = signal.SIGTERM, seconds: float = 15.0) -> None:
+    def end(self, number: int = signal.SIGTERM, seconds: float = 60.0) -> None:
         """Ends it by a signal, and waits; kills it if it does not end."""
         self.send_signal(number)
         try:

@@ -12,7 +12,7 @@ from typing import Any
 from lab.namespaces import ROUTERS
 from lab.programs import LabError, namespace_of, path_of, run
 
-SECONDS = 20.0
+SECONDS = 60.0
 UPLINKS = {"edge": ("up0", "up1"), "core": ("down0", "down1")}
 PASSIVE = {"edge": ("cust1", "cust2", "cust3.100"), "core": ("srv0",)}
 NETWORKS = {"edge": ("10.1.0.0/16", "10.2.0.0/16"), "core": ("10.9.0.0/24",)}

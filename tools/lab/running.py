@@ -116,7 +116,7 @@ class Session:
         if self.scenario.during:
             self.scenario.during(self)
         for host, sender in senders.items():
-            if sender.process.wait(60):
+            if sender.process.wait(120):
                 raise LabError(f"the sender of {host} failed: {sender.text().strip()[-300:]}")
         time.sleep(self.scenario.settle)
 
@@ -198,7 +198,7 @@ def acquaint(lab: Lab) -> None:
         group.wait_until_ready()
         plan.write(plan.acquainting(0), folder / "plan.json")
         for host in CUSTOMERS:
-            group.start(host, agent("send", str(folder / "plan.json"), host, "0.001"), f"send-{host}.log").process.wait(20)
+            group.start(host, agent("send", str(folder / "plan.json"), host, "0.001"), f"send-{host}.log").process.wait(60)
         time.sleep(0.3)
     finally:
         group.kill_rest()

@@ -6,10 +6,10 @@ from dataclasses import dataclass, field
 from pathlib import Path
 from typing import TYPE_CHECKING, Callable
 
-from lab import plan
 from lab.collectors import Collector
 from lab.exporters import Meter
 from lab.namespaces import CUSTOMERS, SERVERS, Cable
+from lab.plan import Plan, usual
 from lab.verdicts import Expected
 
 if TYPE_CHECKING:
@@ -32,7 +32,7 @@ ROUTING_OF_IPV6 = ("fe80:", "2001:db8:12:", "0:0:0:0:0:0:0:0")
 class Sent:
     """What is sent: packets of a plan, with seconds between two of one customer; each `answer_every`th is answered."""
 
-    plan: plan.Plan = plan.usual
+    plan: Plan = usual
     packets: int = 1000
     gap: float = 0.001
     answer_every: int = 4

@@ -27,7 +27,7 @@ class Switch:
 
     def control(self, *words: str) -> str:
         """Returns what ovs-vsctl prints."""
-        return self._run(path_of("ovs-vsctl"), "--timeout=10", f"--db={self.where}", *words)
+        return self._run(path_of("ovs-vsctl"), "--timeout=60", f"--db={self.where}", *words)
 
     def openflow(self, command: str, *words: str) -> str:
         """Returns what ovs-ofctl prints of a command about the bridge."""
@@ -44,9 +44,8 @@ class Switch:
         self._run(path_of("ovsdb-server"), f"{self.folder}/conf.db", f"--remote=p{self.where}", f"--unixctl={self.folder}/db.ctl",
                   f"--pidfile={self.folder}/db.pid", "--detach", f"--log-file={self.folder}/db.log")
         self.control("--no-wait", "init")
-        # Its sockets hold the packets of some hundredths of a second: it must not wait for a processor.
-        self._run("chrt", "-f", "5", path_of("ovs-vswitchd"), self.where, f"--unixctl={self.folder}/vs.ctl",
-                  f"--pidfile={self.folder}/vs.pid", "--detach", f"--log-file={self.folder}/vs.log")
+        self._run(path_of("ovs-vswitchd"), self.where, f"--unixctl={self.folder}/vs.ctl", f"--pidfile={self.folder}/vs.pid",
+                  "--detach", f"--log-file={self.folder}/vs.log")
         self.control("add-br", self.bridge, "--", "set", "bridge", self.bridge, "datapath_type=netdev")
         for port in ports:
             self.control("add-port", self.bridge, port)
@@ -102,7 +101,7 @@ class Switch:
 def _end(process: int) -> None:
     try:
         os.kill(process, signal.SIGTERM)
-        deadline = time.monotonic() + 5
+        deadline = time.monotonic() + 30
         while time.monotonic() < deadline:
             os.kill(process, 0)
             time.sleep(0.05)

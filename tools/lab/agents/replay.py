@@ -11,7 +11,7 @@ import time
 from pathlib import Path
 from typing import Iterator
 
-SECONDS = 30.0
+SECONDS = 120.0
 
 
 def messages(octets: bytes) -> Iterator[bytes]:
