@@ -22,12 +22,12 @@ PAGES = ("README.md", "CONTRIBUTING.md", "docs/*.md", "tests/README.md")
 OTHERS = ("CHANGELOG.md", "SECURITY.md", "docs/*/README.md", "examples/*/README.md", "tools/README.md")
 TOTAL = 30_000
 # Pages whose tables are written from what was measured: they have a limit of their own, and are not in the total.
-MEASURED = {"docs/LAB.md": 3_000}
+MEASURED = {"docs/LAB.md": 3_000, "docs/SPEED.md": 600}
 # The most words of a page, and of any other page.
 LIMITS = {
     "README.md": 700, "CONTRIBUTING.md": 2_100, "docs/ARCHITECTURE.md": 2_200, "docs/BELIEVE.md": 2_600, "docs/DECISIONS.md": 2_900,
     "docs/FORMATS.md": 2_900, "docs/GATE.md": 1_800, "docs/GLOSSARY.md": 2_300, "docs/GUIDE.md": 3_300, "docs/PROVED.md": 3_300,
-    "docs/REFUSALS.md": 5_500, "docs/SCALE.md": 900, "docs/SPEED.md": 600, "tests/README.md": 1_400,
+    "docs/REFUSALS.md": 5_500, "docs/SCALE.md": 900, "tests/README.md": 1_400,
 }
 OTHER_LIMIT = 1_500
 # Pages whose sentences are those of sources: REFUSALS has those of crates/fx_words/src.
