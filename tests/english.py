@@ -21,8 +21,8 @@ PAGES = ("README.md", "CONTRIBUTING.md", "docs/*.md", "tests/README.md")
 # Pages that are checked for phrases, and whose words are not limited.
 OTHERS = ("CHANGELOG.md", "SECURITY.md", "docs/*/README.md", "examples/*/README.md", "tools/README.md")
 TOTAL = 30_000
-# Pages whose tables are written from what was measured: they have a limit of their own, and are not in the total.
-MEASURED = {"docs/LAB.md": 3_000, "docs/SPEED.md": 600}
+# Pages with a limit of their own that are not in the total: those whose tables are written from what was measured, and the proof's outline.
+APART = {"docs/LAB.md": 3_000, "docs/PROOF.md": 2_500, "docs/SPEED.md": 600}
 # The most words of a page, and of any other page.
 LIMITS = {
     "README.md": 700, "CONTRIBUTING.md": 2_100, "docs/ARCHITECTURE.md": 2_200, "docs/BELIEVE.md": 2_600, "docs/DECISIONS.md": 2_900,
@@ -98,11 +98,11 @@ def faults(folder):
     counted, others = read(folder, PAGES), read(folder, OTHERS)
     for page, text in {**counted, **others}.items():
         wrong = [] if page in ELSEWHERE else [*phrases(page, text)]
-        limit = {**LIMITS, **MEASURED}.get(page, OTHER_LIMIT)
+        limit = {**LIMITS, **APART}.get(page, OTHER_LIMIT)
         if page in counted and words(text) > limit:
             wrong.append(f"{page}: {words(text)} words, {limit} at most: shorten it, or link to the page that has the fact")
         yield wrong
-    total = sum(words(text) for page, text in counted.items() if page not in MEASURED)
+    total = sum(words(text) for page, text in counted.items() if page not in APART)
     yield [f"the pages have {total} words, {TOTAL} at most"] if total > TOTAL else []
 
 
@@ -114,7 +114,7 @@ def main(arguments):
     if given.counts:
         counts = {page: words(text) for page, text in read(given.folder, PAGES).items()}
         print("\n".join(f"{page}: {count}" for page, count in counts.items()))
-        print(f"all: {sum(count for page, count in counts.items() if page not in MEASURED)}")
+        print(f"all: {sum(count for page, count in counts.items() if page not in APART)}")
         return 0
     return report(faults(given.folder))
 

@@ -18,7 +18,8 @@ from english import CODE, without
 from verdict import report
 
 TOP = os.path.dirname(os.path.dirname(os.path.abspath(__file__)))
-PAGES = ("CONTRIBUTING.md", "docs/ARCHITECTURE.md", "docs/DECISIONS.md", "docs/GATE.md", "docs/GLOSSARY.md", "docs/PROVED.md", "tests/README.md")
+PAGES = ("CONTRIBUTING.md", "docs/ARCHITECTURE.md", "docs/DECISIONS.md", "docs/GATE.md", "docs/GLOSSARY.md", "docs/PROOF.md", "docs/PROVED.md",
+         "tests/README.md")
 SOURCES = ("crates/*/src/**/*.rt", "crates/*/specs/*.antt", "crates/*/proofs/**/*.antt", "crates/*/CALLING.md", "tests/**/*.py", "packaging/*.py",
            "bench/*.py", "Makefile", "docs/FORMATS.md", "docs/schemas/*", "tools/once_tools/**/*.py")
 # What the kit, Rust, Python and other programs call so.
