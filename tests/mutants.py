@@ -35,7 +35,7 @@ tried again. One line a mutant that is tried; the last line is `N passed, N fail
   --as-built  take the libraries from out/rlib, where `rt ci` has just put them
   --anew      try all mutants, also those whose verdicts are kept
   --pending   print how many mutants of each crate would be tried, and try none
-  --goals     write a line `goal:` into each mutant that was refused only once a goal was tried anew
+  --goals     write a line `goal:` into each refused mutant for each goal that took more than the two tactics
   --control   try each function that a mutant changes, on a twin or in place, with its own body: all must be proved
   --follow    try each crate's mutants as soon as `rt ci`, which runs beside this, keeps the crate's proof; end where standard
               input does, which says that `rt ci` has ended, once no more are ready
@@ -54,6 +54,7 @@ sys.dont_write_bytecode = True
 sys.path.insert(0, os.path.dirname(os.path.realpath(__file__)))
 from kit import load_rt
 from mutation.edits import TWIN, Edit
+from mutation.goals import name_goals
 from mutation.judge import trial_of
 from mutation.libraries import Libraries
 from mutation.store import Digests, Store, store_folder
@@ -100,11 +101,10 @@ class Mutants:
     """The mutants of one crate: its edits, those of them whose verdicts are kept, and what is wrong with their files."""
 
     def __init__(self, crate, files, others, digests, store):
-        self.crate, self.store = crate, store
+        self.crate, self.digests, self.store = crate, digests, store
         self.edits = [Edit(crate.folder, it) for it in files]
         self.files = {os.path.basename(it): it for it in files}
-        self.names = {it.name: digests.of_mutant(crate, it) for it in self.edits}
-        self.known = {it: text for it in self.edits if (text := store.get(self.names[it.name]))}
+        self.known = {it: text for it in self.edits if (text := store.get(digests.of_mutant(crate, it)))}
         self.faults = [f"{name}: BAD EDIT: {why}" for name, why in faults_of(crate.name, self.edits).items()]
         self.faults += [f"{it}: BAD EDIT: its name does not end in .edit" for it in others]
 
@@ -114,7 +114,7 @@ class Mutants:
     def keep(self, edits):
         for it in edits:
             if it.verdict.is_refused:
-                self.store.put(self.names[it.name], it.verdict.text)
+                self.store.put(self.digests.of_mutant(self.crate, it), it.verdict.text)
 
 
 def try_crate(rt, mutants, arguments, may_keep):
@@ -122,24 +122,13 @@ def try_crate(rt, mutants, arguments, may_keep):
     edits, began = mutants.pending(), time.monotonic()
     files = [mutants.files[it.name] for it in edits]
     trial = trial_of(rt, mutants.crate, edits, files, arguments)
+    if arguments.goals:
+        name_goals(trial, edits, files)
     if may_keep and not arguments.control:
         mutants.keep(edits)
-    if arguments.goals:
-        for edit, file in zip(edits, files):
-            write_goals(edit, file)
     report(mutants, edits, trial, time.monotonic() - began)
     failed = {it.name for it in edits if not it.verdict.is_refused}
     return len(edits) - len(failed), len(failed), trial.seconds
-
-
-def write_goals(edit, file):
-    """Writes the goals that had to be tried anew into the edit, those that refused it alone if they are known."""
-    known = [goal for goal, _ in edit.goals]
-    goals = [goal for part in edit.parts for _, name, goal in part.without if name == "Answers" and goal not in known]
-    goals = [it for it in goals if f"`{it}`" in edit.verdict.text] or goals
-    if goals and edit.verdict.is_refused:
-        with open(file, "a", encoding="utf-8") as it:
-            it.writelines(f"goal: {goal}\n" for goal in dict.fromkeys(goals))
 
 
 def report(mutants, edits, trial, seconds):

@@ -7,8 +7,8 @@ from mutation.edits import read
 # The line at which an item of a proof file begins: its signature, whose name is kept, or a line of another kind.
 HEAD = re.compile(r"(?m)^(?:(?:abbrev +)?(?:pub +)?([^\s:(){}]+) *:(?=\s|$)|use |--|module |record )")
 # Backward chaining with the standard lemmas, then arithmetic with equations and case splits. The prover would go on to try
-# seven sets of lemmas, which takes most of the time at a goal that stays open, and which did not prove the goal of the function's
-# own body either: that is why it has a stored answer.
+# seven sets of lemmas, which takes most of the time at a goal that stays open. A goal that only one of those proves counts as
+# open here.
 TACTICS = "first_of (search rules, grind arith)"
 LEMMAS, NAMES = "Rattle.std.proofs.Common", ("arith", "rules")
 IMPORT = re.compile(rf"(?m)^use {re.escape(LEMMAS)}\.\{{([^}}]*)\}}")

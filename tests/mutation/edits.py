@@ -23,6 +23,9 @@ class Part:
         # (the goals that are left to two tactics: those that have a stored answer, with their files, and those that have none, with
         # the names of their arguments)
         self.without, self.given = [], []
+        # (the goals without an answer that a check left open, and those given to the tactics that they do not prove of the
+        # function's own body)
+        self.offered, self.unproved = [], []
 
     def has_twin(self):
         return self.edit.kind == TWIN

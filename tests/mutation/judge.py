@@ -31,7 +31,8 @@ def judge_again(trial, edits, files):
     lost = [place for place, it in enumerate(edits) if not it.verdict.is_refused]
     if not lost or not trial.copies.proved:
         return
-    trial.copies.proved = []
+    proved, trial.copies.proved = trial.copies.proved, []
     for place in lost:
         edits[place] = Edit(trial.crate.folder, files[place])
     trial.judge([edits[place] for place in lost])
+    trial.copies.proved = proved

@@ -9,7 +9,7 @@ from mutation import answers
 from mutation.copies import MARK, Copies
 from mutation.edits import BAD, CONSTANT, IN_PLACE, TWIN, Part, proof_paths, read, sources
 from mutation.texts import functions
-from mutation.verdicts import ENDED, FRONT, Verdict, first_lines, judged, lines_of
+from mutation.verdicts import ENDED, FRONT, Verdict, first_lines, judged, lines_of, offered_goals
 
 # How often goals are tried anew, each time without one more stored answer, and the last time without any that does not fit.
 ROUNDS = 5
@@ -90,10 +90,11 @@ class Trial:
         compile, and then those that only stored answers refuse, with their goals tried anew."""
         for it in parts:
             self.leave_to_tactics(it, with_own_bodies)
-        controls = {} if with_own_bodies else {it: self.control_of(it) for it in parts if it.given}
-        compiled = self.judge_once([*parts, *controls.values()], with_own_bodies)
+        controls = {} if with_own_bodies else self.controls_of(parts)
+        compiled = self.judge_once([*parts, *dict.fromkeys(controls.values())], with_own_bodies)
         for it, control in controls.items():
             if not control.verdict.text.startswith("NOT REFUSED"):
+                it.unproved = control.verdict.open
                 why = f"the tactics do not prove {it.given[0][1]} of the function's own body: {control.verdict.text[:160]}"
                 it.verdict = Verdict(False, f"BAD EDIT: {why}")
         parts = [it for it in compiled if it in parts]
@@ -113,12 +114,25 @@ class Trial:
         stored = {goal for goal, _ in part.edit.goals if any(self.is_stored(at, goal) for at in part.folders())}
         folders = self.proof_folders(part)
         part.without = [] if with_own_bodies else [(it, "Answers", goal) for goal in sorted(stored) for it in folders]
-        home = [*self.home_of(part.path, part.function)[:-1], folders[0][-1]]
-        part.given = [(home, *it) for it in part.edit.goals if it[0] not in stored]
+        part.given = [(self.twin_home(part), *it) for it in part.edit.goals if it[0] not in stored]
 
     def is_stored(self, at, goal):
         folder = f"{self.crate.folder}/proofs"
         return any(answers.is_stored("/".join([folder, *it]), goal) for it in (at, [*at[:-1], f"+{at[-1]}"]))
+
+    def twin_home(self, part):
+        """Returns the folder below proofs/ of the proof files of the part's twin, or of its function in place, as a list of names."""
+        return [*self.home_of(part.path, part.function)[:-1], self.proof_folders(part)[0][-1]]
+
+    def controls_of(self, parts):
+        """Returns a control for each part that leaves goals without a stored answer to the tactics: one for all that leave the same
+        goals of one function."""
+        made, found = {}, {}
+        for it in parts:
+            if it.given:
+                key = it.path, it.function.key, str(sorted(given[1:] for given in it.given))
+                found[it] = made[key] = made.get(key) or self.control_of(it)
+        return found
 
     def control_of(self, part):
         """Returns a twin of the part's function with its own body, and with the same goals left to the tactics."""
@@ -146,8 +160,9 @@ class Trial:
                         answers.answer(room, self.crate.name, folder, goal, names)
                 said, status = self.check(room, [self.symbol_of(it) for it in parts])
             if ENDED.search(said):
-                found = lines_of(said)
+                found, offered = lines_of(said), offered_goals(said)
                 for it in parts:
+                    it.offered = offered.get("/".join(self.twin_home(it)), [])
                     anew = [*it.without, *((folder, "Answers", goal) for folder, goal, _ in it.given)]
                     it.verdict = verdict_on(said, found, it, self.symbol_of(it), anew)
                     # (what was tried anew is not tried so once more)

@@ -21,6 +21,9 @@ GONE = re.compile(
 )
 QUOTED = re.compile(r"`[^`]*`")
 GOAL = re.compile(r"`([^`\s]+)`: ")
+# The file in which a check that leaves goals open offers to have them answered, and how it offers one, indented below it.
+OFFER = re.compile(r"help: (?:write|add these lines to) (?:\./)?proofs/(\S+?)/Answers\.antt")
+OFFERED = re.compile(r"    (?:pub )?([^\s:]+) : goal\.\1$")
 # What the tactics say of a goal that they do not prove.
 OPEN = re.compile(r"`[^`\s]+`: `(?:search|grind|omega|first_of)`")
 
@@ -73,6 +76,7 @@ class Reasons:
     """Why a function is refused: goals that are open, and errors in its proof files."""
 
     goals: list = field(default_factory=list)
+    named: list = field(default_factory=list)
     gone: list = field(default_factory=list)
     misfits: list = field(default_factory=list)
 
@@ -80,12 +84,14 @@ class Reasons:
 @dataclass
 class Verdict:
     """Whether a mutant is refused, and a sentence on why. `misfits` are the answers to try again without, before it counts;
-    `waits` says that the function waits for another one that is not proved."""
+    `waits` says that the function waits for another one that is not proved; `open` are the goals that were left to the tactics and
+    that they do not prove."""
 
     is_refused: bool
     text: str
     misfits: list = field(default_factory=list)
     waits: bool = False
+    open: list = field(default_factory=list)
 
 
 def lines_of(said):
@@ -119,6 +125,23 @@ def answer_errors(said):
     return found
 
 
+def offered_goals(said):
+    """Returns the goals without an answer that the check leaves open, each with the names of its arguments, by the folder below
+    proofs/ of the function's proof files."""
+    found, rows = {}, said.split("\n")
+    for at, row in enumerate(rows):
+        offer = OFFER.match(row)
+        folder = offer[1].replace("/+", "/") if offer else ""
+        for name, line in zip(rows[at + 1 :], rows[at + 2 :]) if offer else []:
+            if name.strip() and not name.startswith("    "):
+                break
+            goal = OFFERED.match(name)
+            names = re.match(rf"    {re.escape(goal[1])}((?: [\w-]+)*) =", line) if goal else None
+            if names:
+                found.setdefault(folder, []).append((goal[1], names[1].split()))
+    return found
+
+
 def lies_in(note, path, lines):
     found = NOTE.match(note)
     return bool(found) and found[1] == path and lines[0] <= int(found[2]) <= lines[1]
@@ -139,6 +162,7 @@ def reasons_of(said, own, inner=(), path=None, lines=None, anew=()):
         for error in errors:
             if error.folder == at and error.place in anew and error.is_open:
                 reasons.goals.append(error.message)
+                reasons.named.append(error.goal)
             elif error.folder == at:
                 (reasons.gone if error.is_gone else reasons.misfits).append(error)
     return reasons
@@ -151,7 +175,7 @@ def judged(said, own, inner=(), path=None, lines=None, anew=()):
         return Verdict(False, f"NOT REFUSED: {own.symbol} is proved with this body")
     reasons, name = reasons_of(said, own, inner, path, lines, anew), own.symbol.partition("::")[2]
     if reasons.goals:
-        return Verdict(True, f"refused at {name}: {reasons.goals[0][:170]}")
+        return Verdict(True, f"refused at {name}: {reasons.goals[0][:170]}", open=reasons.named)
     if reasons.misfits:
         return Verdict(False, f"BAD EDIT: {name} is refused by stored answers alone: {reasons.misfits[0].message[:160]}", reasons.misfits)
     if reasons.gone:

@@ -1,10 +1,11 @@
-"""How a trial settles what a check leaves open: goals whose stored answers do not fit are left to two tactics."""
+"""How a trial settles what a check leaves open: goals whose stored answers do not fit are left to two tactics, and edits name goals."""
 import os
 from types import SimpleNamespace
 
 import pytest
 from mutation.answers import TACTICS
 from mutation.edits import Edit
+from mutation.goals import name_goals
 from mutation.trials import ROUNDS, Trial
 
 BODY = "pub fn kept(value: u64) -> u64\n    ensures { result ≡ value }\n{\n    value\n}\n"
@@ -147,3 +148,73 @@ def test_the_tactics_must_prove_such_a_goal_of_the_function_s_own_body(trial):
     unproved = refused(("loop-preserved", UNPROVED))
     edit, _ = verdict_of(trial, with_control(unproved, unproved))
     assert edit.verdict.text.startswith("BAD EDIT: the tactics do not prove loop-preserved of the function's own body")
+
+
+def two_edits(trial, line):
+    """Writes a second mutant of the function, and the goal into both; returns the edits."""
+    folder = f"{trial.crate.folder}/mutants"
+    with open(f"{folder}/other.edit", "w", encoding="utf-8") as it:
+        it.write("file: src/lib.rt\nold:     value\nnew:     value + 2\n")
+    for name in ("more", "other"):
+        with open(f"{folder}/{name}.edit", "a", encoding="utf-8") as it:
+            it.write(f"goal: {line}\n")
+    return [Edit(trial.crate.folder, f"{folder}/{name}.edit") for name in ("more", "other")]
+
+
+def test_mutants_of_one_function_share_a_control(trial):
+    unproved = refused(("loop-preserved", UNPROVED))
+    edits = two_edits(trial, "loop-preserved g c")
+    trial.check = Checks(lambda number: unproved(number) + unproved(number + 1) + proved(number + 2))
+    trial.judge(edits)
+    assert [it.verdict.is_refused for it in edits] == [True, True]
+
+
+OFFER = """help: add these lines to ./proofs/kept_twin_%d/Answers.antt, leaving out each name that its `use` lines bring already
+    use R.Goals as goal
+
+    -- src/lib.rt:2:1
+    pub loop-preserved : goal.loop-preserved
+    loop-preserved g c = ?
+    returns : goal.returns
+    returns c = (
+      ?,
+    )
+"""
+
+
+def offering(number):
+    return open_goal(number) + OFFER % number
+
+
+def named(trial, *said):
+    """Returns the mutant and its file's text once goals are named, where checks print this one after another."""
+    edit, _ = verdict_of(trial, said[0])
+    trial.check, edits, file = Checks(*said[1:]), [edit], f"{trial.crate.folder}/mutants/more.edit"
+    name_goals(trial, edits, [file])
+    assert not trial.check.said, "fewer checks than foreseen"
+    with open(file, encoding="utf-8") as it:
+        return edits[0], it.read()
+
+
+def test_goals_that_stay_open_are_named(trial):
+    both = refused(("loop-preserved", UNPROVED), ("returns", UNPROVED))
+    edit, text = named(trial, offering, with_control(both, proved))
+    assert edit.verdict.is_refused
+    assert text.endswith("goal: loop-preserved g c\ngoal: returns\n")
+
+
+def test_a_goal_that_the_tactics_do_not_prove_of_the_own_body_is_not_named(trial):
+    both = refused(("loop-preserved", UNPROVED), ("returns", UNPROVED))
+    control = refused(("loop-preserved", UNPROVED))
+    edit, text = named(trial, offering, with_control(both, control), refused(("returns", UNPROVED)))
+    assert edit.verdict.is_refused
+    assert "loop-preserved" not in text and text.endswith("goal: returns\n")
+
+
+def test_a_goal_whose_stored_answer_does_not_fit_is_named(trial):
+    edit, _ = verdict_of(trial, refused(("returns", MISFIT)), refused(("returns", UNPROVED)))
+    file = f"{trial.crate.folder}/mutants/more.edit"
+    edits, trial.check = [edit], Checks(refused(("returns", UNPROVED)))
+    name_goals(trial, edits, [file])
+    with open(file, encoding="utf-8") as it:
+        assert edits[0].verdict.is_refused and it.read().endswith("goal: returns\n")

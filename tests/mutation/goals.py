@@ -1,0 +1,51 @@
+"""Names in edits the goals that refuse their mutants, so that later trials leave these to two tactics at once."""
+from mutation.edits import Edit, read
+
+
+def name_goals(trial, edits, files):
+    """Writes a line `goal:` into each refused edit for each goal that the prover tried with more than the two tactics, judges
+    these edits by their new texts, and takes out again the goals that the tactics do not prove of the function's own body. Each
+    edit then has the verdict on the text that its file has."""
+    changed = [place for place, edit in enumerate(edits) if add_goals(edit, files[place])]
+    judge_anew(trial, edits, files, changed)
+    lost = [place for place in changed if take_out(edits[place], files[place])]
+    judge_anew(trial, edits, files, lost)
+
+
+def judge_anew(trial, edits, files, places):
+    for place in places:
+        edits[place] = Edit(trial.crate.folder, files[place])
+    trial.judge([edits[place] for place in places])
+
+
+def add_goals(edit, file):
+    """Writes the goals into the edit's file, and returns whether there are any."""
+    lines = [" ".join([goal, *(names if names != ["c"] else [])]) for goal, names in goals_to_name(edit)] if edit.verdict.is_refused else []
+    if lines:
+        text = read(file).rstrip("\n")
+        with open(file, "w", encoding="utf-8") as it:
+            it.writelines([f"{text}\n", *(f"goal: {line}\n" for line in dict.fromkeys(lines))])
+    return bool(lines)
+
+
+def goals_to_name(edit):
+    """Returns the goals whose stored answers did not fit, those that refused the edit alone if they are known, and those that have no
+    stored answer, each with the names of its arguments."""
+    known = [goal for goal, _ in edit.goals]
+    misfits = [goal for part in edit.parts for _, name, goal in part.without if name == "Answers" and goal not in known]
+    misfits = [it for it in misfits if f"`{it}`" in edit.verdict.text] or misfits
+    offered = [it for part in edit.parts for it in part.offered if it[0] not in known]
+    return [*((it, ["c"]) for it in misfits), *offered]
+
+
+def take_out(edit, file):
+    """Takes the goals out of the edit's file that the tactics do not prove of a function's own body, all that have no stored answer
+    if it is not known which, and returns whether there are any."""
+    unproved = {goal for part in edit.parts for goal in part.unproved}
+    if edit.verdict.is_refused:
+        return False
+    unproved = unproved or {goal for part in edit.parts for _, goal, _ in part.given}
+    kept = [line for line in read(file).splitlines(True) if not (line.startswith("goal: ") and line.split()[1] in unproved)]
+    with open(file, "w", encoding="utf-8") as it:
+        it.writelines(kept)
+    return True
