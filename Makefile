@@ -24,7 +24,7 @@ help:
 	@echo 'make shown             runs the rows that mutants name over one program that has all mutants'
 	@echo 'make rows              proves and builds the program, and runs the steps of the gate over it'
 	@echo 'make examples          the same for the examples alone'
-	@echo 'make tools             checks the types of once-import and runs its tests, over ./once or ONCE=PROGRAM'
+	@echo 'make tools             checks the types of once-import and once-mend and runs their tests, over ./once or ONCE=PROGRAM'
 	@echo 'make lab               compares ./once with running exporters and collectors, as root (docs/LAB.md); ALL=1 for all scenarios'
 	@echo 'make pictures          draws the pictures of the examples anew (needs Graphviz)'
 	@echo 'make torture           the same over inputs that are made to do harm, for an hour or more'
@@ -93,7 +93,7 @@ rows: once
 examples: once
 	python3 tests/gate.py examples "generated examples" scale
 
-# Checks the types of once-import and runs its tests, with the first Python that has pytest.
+# Checks the types of the tools and runs their tests, with the first Python that has pytest.
 tools: run-tools
 
 PYTHON = $(shell for python in python3 /usr/bin/python3; do $$python -c 'import pytest' 2> /dev/null && echo $$python && break; done)
@@ -156,14 +156,14 @@ install:
 	install -D -m 644 -t $(SHARE)/doc/once/docs $(DOCUMENTS)
 	install -D -m 644 -t $(SHARE)/doc/once/docs/schemas docs/schemas/*
 	cd examples && find . -type f ! -name '*.pyc' -exec install -D -m 644 {} "$(abspath $(SHARE))/doc/once/examples/{}" \;
-	install -D -m 755 tools/once-import $(BIN)/once-import
+	install -D -m 755 -t $(BIN) tools/once-import tools/once-mend
 	cd tools && find once_tools -name '*.py' -exec install -D -m 644 {} "$(abspath $(SHARE))/once/{}" \;
-	install -D -m 644 packaging/once-import.1 $(SHARE)/man/man1/once-import.1
+	install -D -m 644 -t $(SHARE)/man/man1 packaging/once-import.1 packaging/once-mend.1
 	install -D -m 644 -t $(SHARE)/doc/once/tools tools/README.md
 	install -D -m 644 -t $(SHARE)/doc/once/tools/examples tools/examples/*
 
 uninstall:
-	rm -f $(BIN)/once-import $(SHARE)/man/man1/once-import.1
+	rm -f $(addprefix $(BIN)/,once-import once-mend) $(addprefix $(SHARE)/man/man1/,once-import.1 once-mend.1)
 	rm -rf $(SHARE)/once
 	rm -f $(BIN)/once $(SHARE)/man/man1/once.1 $(SHARE)/bash-completion/completions/once $(ZSH)/_once
 	rm -rf $(SHARE)/doc/once

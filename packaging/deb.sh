@@ -18,8 +18,8 @@ SOURCE_DATE_EPOCH=$(date -d "$(sed -n 's/^ -- .*>  //p' "$here/changelog" | head
 export SOURCE_DATE_EPOCH
 
 strip --strip-unneeded --remove-section=.comment --remove-section=.note "$tree/usr/bin/once"
-gzip -9n "$tree/usr/share/man/man1/once.1" "$tree/usr/share/man/man1/once-import.1"
-sed -i '1s,.*,#!/usr/bin/python3,' "$tree/usr/bin/once-import"
+gzip -9n "$tree"/usr/share/man/man1/*.1
+sed -i '1s,.*,#!/usr/bin/python3,' "$tree/usr/bin/once-import" "$tree/usr/bin/once-mend"
 gzip -9nc "$here/changelog" > "$doc/changelog.gz"
 cp "$here/copyright" "$doc/copyright"
 
@@ -39,5 +39,5 @@ printf '#!/bin/sh\nset -e\n[ "$1" != configure ] || py3compile -p once /usr/shar
 printf '#!/bin/sh\nset -e\npy3clean -p once /usr/share/once\n' > "$tree/DEBIAN/prerm"
 find "$tree" -type d -exec chmod 755 {} +
 find "$tree" -type f -exec chmod 644 {} +
-chmod 755 "$tree/usr/bin/once" "$tree/usr/bin/once-import" "$tree/DEBIAN/postinst" "$tree/DEBIAN/prerm"
+chmod 755 "$tree"/usr/bin/* "$tree/DEBIAN/postinst" "$tree/DEBIAN/prerm"
 dpkg-deb --root-owner-group --build "$tree" "once_${version}_amd64.deb"
