@@ -16,7 +16,7 @@ TOP = os.path.dirname(os.path.dirname(os.path.abspath(__file__)))
 PAGES = ["README.md", "docs/GUIDE.md", "tools/README.md"]
 # What a reader does by hand behind a sentence, as a command.
 BY_HAND = {
-    "To fix it, remove the second observation point": """python3 - <<'END'
+    "Or remove the second observation point": """python3 - <<'END'
 import json
 document = json.load(open("network.json"))
 del document["devices"][0]["config"]["ietf-ipfix-psamp:ipfix"]["observationPoint"][1]
