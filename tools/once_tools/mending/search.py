@@ -6,6 +6,7 @@ import itertools
 import json
 import tempfile
 import time
+from concurrent.futures import ThreadPoolExecutor
 from dataclasses import dataclass
 from pathlib import Path
 from typing import Iterator
@@ -21,6 +22,12 @@ from once_tools.model import Failed, Place
 from once_tools.once_program import run_once
 
 
+# How many documents are audited at once.
+AT_ONCE = 4
+# Documents that wait: the number of their changes, the weights of these, a number of their own, the changes, network and traffic.
+Node = tuple[int, int, int, tuple[Change, ...], Document, Document]
+
+
 @dataclass(frozen=True)
 class Proposal:
     """Changes after which the network is certified, and the documents that they give."""
@@ -31,6 +38,14 @@ class Proposal:
 
 
 @dataclass(frozen=True)
+class Answer:
+    """What `once audit` answers; `is_accepted` says that it is a certificate that `once check` accepts."""
+
+    text: str
+    is_accepted: bool = False
+
+
+@dataclass(frozen=True)
 class Limits:
     changes: int
     proposals: int
@@ -38,23 +53,23 @@ class Limits:
 
 
 class Auditor:
-    """Runs `once` over documents, which it keeps in a folder."""
+    """Runs `once` over documents, several at a time, each pair in a folder of its own below one."""
 
     def __init__(self, program: str, folder: Path) -> None:
-        self.program, self.folder, self.audits = program, folder, 0
+        self.program, self.folder, self.numbers = program, folder, itertools.count()
 
-    def audit(self, network: Document, traffic: Document) -> str:
-        """Returns what `once audit` answers."""
-        self.audits += 1
-        for name, document in (("network.json", network), ("traffic.json", traffic)):
-            (self.folder / name).write_text(json.dumps(document), encoding="utf-8")
-        return run_once(self.program, "audit", self.folder / "network.json", self.folder / "traffic.json").output
-
-    def accepts(self, certificate: str) -> bool:
-        """Returns whether `once check` says yes to the certificate of the documents that were audited last."""
-        (self.folder / "certificate.txt").write_text(certificate, encoding="utf-8")
-        names = [self.folder / name for name in ("network.json", "traffic.json", "certificate.txt")]
-        return run_once(self.program, "check", *names).output.startswith("yes")
+    def audit(self, network: Document, traffic: Document) -> Answer:
+        """Returns what `once audit` answers, and whether `once check` says yes to it if it is a certificate."""
+        folder = self.folder / str(next(self.numbers))
+        folder.mkdir()
+        files = [folder / name for name in ("network.json", "traffic.json", "certificate.txt")]
+        for file, document in zip(files, (network, traffic)):
+            file.write_text(json.dumps(document), encoding="utf-8")
+        text = run_once(self.program, "audit", *files[:2]).output
+        if not is_certificate(text):
+            return Answer(text)
+        files[2].write_text(text, encoding="utf-8")
+        return Answer(text, run_once(self.program, "check", *files).output.startswith("yes"))
 
 
 def candidates(network: Document, traffic: Document, answer: str) -> Iterator[Change]:
@@ -90,11 +105,11 @@ class Search:
 
     def __init__(self, auditor: Auditor, limits: Limits) -> None:
         self.auditor, self.limits = auditor, limits
-        self.numbers, self.seen = itertools.count(), set()
-        self.waiting: list[tuple[int, int, int, tuple[Change, ...], Document, Document]] = []
+        self.numbers, self.seen, self.waiting = itertools.count(), set(), []
         self.ends = time.monotonic() + limits.seconds
 
     seen: set[str]
+    waiting: list[Node]
 
     def push(self, changes: tuple[Change, ...], weight: int, network: Document, traffic: Document) -> None:
         text = json.dumps([network, traffic])
@@ -106,18 +121,28 @@ class Search:
         """Returns the proposals that were found within the limits, the best first."""
         self.push((), 0, network, traffic)
         found: list[Proposal] = []
-        while self.waiting and len(found) < self.limits.proposals and (time.monotonic() < self.ends or not self.auditor.audits):
-            _, weight, _, changes, network, traffic = heapq.heappop(self.waiting)
-            if not any(sentences(one.changes) <= sentences(changes) for one in found):
-                found += self.look_at(changes, weight, network, traffic)
-        return found
+        with ThreadPoolExecutor(AT_ONCE) as pool:
+            while self.waiting and len(found) < self.limits.proposals and time.monotonic() < self.ends:
+                taken = self.take(found)
+                for node, answer in zip(taken, pool.map(lambda it: self.auditor.audit(it[4], it[5]), taken)):
+                    found += self.look_at(node, answer)
+        return found[:self.limits.proposals]
 
-    def look_at(self, changes: tuple[Change, ...], weight: int, network: Document, traffic: Document) -> list[Proposal]:
+    def take(self, found: list[Proposal]) -> list[Node]:
+        """Takes out those that are looked at next, but for those that have all changes of a proposal and more."""
+        taken: list[Node] = []
+        while self.waiting and len(taken) < AT_ONCE and not (taken and len(taken[0][3]) < len(self.waiting[0][3])):
+            node = heapq.heappop(self.waiting)
+            if not any(sentences(one.changes) <= sentences(node[3]) for one in found):
+                taken.append(node)
+        return taken
+
+    def look_at(self, node: Node, answer: Answer) -> list[Proposal]:
         """Returns the proposal that these changes are; else has those wait that have one change more."""
-        answer = self.auditor.audit(network, traffic)
-        if is_certificate(answer):
-            return [Proposal(changes, network, traffic)] if self.auditor.accepts(answer) else []
-        for change in candidates(network, traffic, answer) if len(changes) < self.limits.changes else []:
+        _, weight, _, changes, network, traffic = node
+        if is_certificate(answer.text):
+            return [Proposal(changes, network, traffic)] if answer.is_accepted else []
+        for change in candidates(network, traffic, answer.text) if len(changes) < self.limits.changes else []:
             self.push((*changes, change), weight + change.weight, patched(network, change.network), patched(traffic, change.traffic))
         return []
 
@@ -126,7 +151,7 @@ def mend(program: str, network: Document, traffic: Document, limits: Limits) -> 
     """Returns the proposals for two documents; that of no change if they are certified already. Raises `Failed` if `once` refuses them."""
     with tempfile.TemporaryDirectory(prefix="once-mend-") as folder:
         auditor = Auditor(program, Path(folder))
-        answer = auditor.audit(network, traffic)
+        answer = auditor.audit(network, traffic).text
         if not is_certificate(answer) and not refutation_of(answer) and not list(candidates(network, traffic, answer)):
             raise Failed(Place(""), f"once audit answers '{answer.strip() or 'nothing'}'", "see `once explain` and the number")
         return Search(auditor, limits).run(network, traffic)
