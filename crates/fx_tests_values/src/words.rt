@@ -29,16 +29,16 @@ fn finds_words_by_number(rt: HostRuntime) {
     assert!(rt;
         (known() == 76)
             & refusal_of(203).is_none()
-            & (wrong(411) == "A line stands behind the line `end`.")
+            & (wrong(411) == "A line follows the line `end`.")
     );
 }
 
 /// What is written of 411, a number that has words, and of 416, one that has none.
 const WORDS: &[u8] = b"411
-wrong: A line stands behind the line `end`.
+wrong: A line follows the line `end`.
 usually: an empty line at the end of the text, two certificates in one file, or the sentences \
 that `once audit --words` writes behind a certificate.
-what to do: Take out what stands behind `end` and its line feed, or audit again without --words.
+what to do: Remove what follows `end` and its line feed, or audit again without --words.
 see: FORMATS, a certificate
 wrong: The program was refused memory.
 usually: a limit of the system or of a container, or more flows, steps or documents at once than \

@@ -14,8 +14,8 @@ pub const CAPTURES: &[Row] = &[
         "a file of pcapng, which Wireshark and tshark write where nothing else is asked for, a \
          compressed file, an empty one, or the files in another order.",
         "Give a capture in classic pcap that has its whole file header: one in pcapng is \
-         converted by `tshark -r OLD -F pcap -w NEW`. The files stand in the order NETWORK \
-         TRAFFIC CAPTURE SCHEDULE.",
+         converted by `tshark -r OLD -F pcap -w NEW`. The order of the files is NETWORK TRAFFIC \
+         CAPTURE SCHEDULE.",
         "FORMATS, captures",
     ),
     (

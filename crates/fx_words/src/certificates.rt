@@ -12,9 +12,9 @@ pub const CERTIFICATES: &[Row] = &[
         refusals::CERTIFICATE_HEADER,
         "The first line isn't that of a certificate: it has to be once-certificate 2, or \
          once-certificate 1.",
-        "a refutation in the certificate's place, which `once audit` writes too and `once confirm` \
-         takes; a run, the files in another order, lines that end in CR and LF, or a byte order \
-         mark in front.",
+        "a refutation instead of the certificate, which `once audit` writes too and `once \
+         confirm` reads; a run, the files in another order, lines that end in CR and LF, or a \
+         byte order mark at the beginning.",
         "Give a certificate that `once audit` has written, as it is; lines end in LF alone.",
         "FORMATS, a certificate",
     ),
@@ -30,19 +30,19 @@ pub const CERTIFICATES: &[Row] = &[
     ),
     (
         refusals::CERTIFICATE_ORDER,
-        "A line isn't in its place, or a leaf is of another kind than its class wants.",
-        "a class or a path that is left out or in another order than in the traffic declaration, \
-         or a leaf too many or too few behind the splits. Or a leaf N of a class that isn't \
-         exempt or under once-certificate 1, or a leaf L of one that is exempt.",
-        "Each class and each of its paths comes in document order, and behind a split come two \
-         trees, that of the lower part first. The leaves of a class that is exempt are N, those of \
-         another one L. `once audit` writes such a text.",
+        "A line is out of order, or a leaf is of another kind than its class requires.",
+        "a class or a path that is left out or in another order than in the traffic \
+         declaration, or a leaf too many or too few after the splits. Or a leaf N of a class \
+         that isn't exempt or under once-certificate 1, or a leaf L of one that is exempt.",
+        "Classes and their paths come in document order, and after a split come two trees, that \
+         of the lower part first. The leaves of an exempt class are N, those of any other class \
+         L. `once audit` writes such a text.",
         "FORMATS, a certificate",
     ),
     (
         refusals::SPLIT_NOT_INSIDE,
         "A split isn't strictly inside its region.",
-        "a split at the lowest value of the region, at a value behind its highest, or on an axis \
+        "a split at the lowest value of the region, at a value above its highest, or on an axis \
          on which it has one value only.",
         "AT is the first value of the upper part: write one above the region's lowest value and \
          not above its highest.",
@@ -53,18 +53,18 @@ pub const CERTIFICATES: &[Row] = &[
         "A certificate ends before its line `end`, or inside a line.",
         "an empty file, a text that was cut when it was copied, or a last line without its line \
          feed.",
-        "Take the whole text, with a line feed behind `end`.",
+        "Give the whole text, with a line feed after `end`.",
         "FORMATS, a certificate",
     ),
     (
         refusals::CUT_REGION,
         "A selection process, or the match of an aggregation, holds for a part of a leaf's \
          region only.",
-        "the bound of a filter lies inside the region, perhaps on an axis that the class doesn't \
-         name, as ipVersion.",
-        "Audit again, which splits regions at the bounds of filters; or split there by hand, as a \
-         line `S AXIS AT`, where AT is a number in decimal (64.0.0.0 is 1073741824); or name the \
-         axis in the class's region.",
+        "the bound of a filter is inside the region, perhaps on an axis that the class doesn't \
+         name, such as ipVersion.",
+        "Audit again, which splits regions at the bounds of filters; or split there yourself, \
+         with a line `S AXIS AT`, where AT is a number in decimal (64.0.0.0 is 1073741824); or \
+         name the axis in the class's region.",
         "RFC 5475, section 6.1; FORMATS, a certificate",
     ),
     (
@@ -85,7 +85,7 @@ pub const CERTIFICATES: &[Row] = &[
         "two observation points on one path, two selection processes that select the same \
          packets, two exporting processes of one cache, or two links by which a record comes to \
          the report.",
-        "Take one of them out, or share the packets between them by filters, so that each packet \
+        "Remove one of them, or share the packets between them by filters, so that each packet \
          is selected once.",
         "FORMATS, a device and a certificate",
     ),
@@ -111,22 +111,22 @@ pub const CERTIFICATES: &[Row] = &[
     ),
     (
         refusals::LINE_BEHIND_END,
-        "A line stands behind the line `end`.",
-        "an empty line at the end of the text, two certificates in one file, or the sentences that \
-         `once audit --words` writes behind a certificate.",
-        "Take out what stands behind `end` and its line feed, or audit again without --words.",
+        "A line follows the line `end`.",
+        "an empty line at the end of the text, two certificates in one file, or the sentences \
+         that `once audit --words` writes after a certificate.",
+        "Remove what follows `end` and its line feed, or audit again without --words.",
         "FORMATS, a certificate",
     ),
     (
         refusals::SPLIT_TOO_DEEP,
-        "A split stands below more than 511 others.",
+        "A split is below more than 511 others.",
         "a certificate of a program that splits off one value after another.",
         "Split at values in the middle, so that trees grow wide and not deep.",
         "FORMATS, a certificate",
     ),
     (
         refusals::UNASSIGNED_RECORD,
-        "A record that comes of a leaf's packets reaches the report without the report's key.",
+        "A record of a leaf's packets reaches the report without the report's key.",
         "a cache or an aggregation on the way lacks a field of the report's key, or keeps a \
          shorter prefix than the report asks for.",
         "Keep the report's fields in each cache and each aggregation on the way, or ask for a \

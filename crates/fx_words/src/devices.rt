@@ -14,10 +14,10 @@ pub const DEVICES: &[Row] = &[
         "a comma too many or too few, a comment, single quotes, a byte order mark, another \
          encoding, an empty file, or another file in the document's place. A value more than 127 \
          levels deep and a number of some 309 digits or more are refused so too.",
-        "Mend the text at that line and column, or at the end of the line before, or name the \
-         right file: --words tells them, and what the file is where it is another one. `python3 \
-         -m json.tool FILE` tells the place too, but takes NaN and Infinity, values that are too \
-         deep, numbers that are too large, and halves of surrogate pairs.",
+        "Correct the text at that line and column, or at the end of the line before, or name \
+         the right file: --words prints the place, and what the file is if it is another one. \
+         `python3 -m json.tool FILE` prints the place too, but accepts NaN and Infinity, values \
+         nested too deeply, numbers that are too large, and halves of surrogate pairs.",
         "RFC 8259, sections 2 and 8.1",
     ),
     (
@@ -33,16 +33,16 @@ pub const DEVICES: &[Row] = &[
     (
         refusals::MISSING_MEMBER,
         "A member that has to be there is missing, or a list that has to have an entry is empty.",
-        "a member that was left out or misspelled, a choice of which nothing stands there (the \
-         kind of a selector, of a cache, of a destination), a prefix element in a key without \
-         prefixLength, or another document in this one's place.",
+        "a member that was left out or misspelled, a choice of which no case is there (the kind \
+         of a selector, of a cache, of a destination), a prefix element in a key without \
+         prefixLength, or another document instead of this one.",
         "The place is the object that lacks the member, or the empty list; where the place is \
          empty, it is the whole document. Add what docs/FORMATS.md marks there with a star.",
         "FORMATS, the object's table",
     ),
     (
         refusals::WRONG_KIND,
-        "A value is of another JSON kind than its member wants.",
+        "A value is of another JSON type than its member requires.",
         "a number of a configuration in quotes, a bare number in a region (its values are texts, \
          as \"80\") or a list there, a single value or an object where a list is due, null or false \
          where an empty type is written [null], or a part of a document in a document's place.",
@@ -65,9 +65,9 @@ pub const DEVICES: &[Row] = &[
     ),
     (
         refusals::NAME_TWICE,
-        "A name stands twice in its list.",
+        "A name occurs twice in its list.",
         "an entry that was copied and not renamed, or configurations that were merged.",
-        "The place is the second of the two: give that entry another name, and mend the \
+        "The place is the second of the two: give that entry another name, and change the \
          references to it.",
         "RFC 6728, section 4; FORMATS, names",
     ),
@@ -94,7 +94,7 @@ pub const DEVICES: &[Row] = &[
         "A selector filters by a hash over a packet's content (filterHash), and totals over what \
          it selects aren't exact.",
         "a PSAMP configuration that is to follow single packets over several observation points.",
-        "Take the selector out, or filter by a property (filterMatch) in its place.",
+        "Remove the selector, or filter by a property (filterMatch) instead.",
         "RFC 5475, section 6.2",
     ),
     (
@@ -103,7 +103,7 @@ pub const DEVICES: &[Row] = &[
          layout.",
         "reduced-size encoding: exporters are often set to counters of 4 octets.",
         "Set ieLength to 8 or leave it out, and the exporter to 8 octets. A shorter counter \
-         wraps, and its record doesn't tell that it did.",
+         wraps, and its record doesn't say that it did.",
         "RFC 7011, section 6.2",
     ),
     (
@@ -111,12 +111,12 @@ pub const DEVICES: &[Row] = &[
         "A cache has a counter since the beginning of the metering, octetTotalCount (85) or \
          packetTotalCount (86).",
         "an exporter that sends running totals in each record, which can't be added up.",
-        "Take octetDeltaCount (1) and packetDeltaCount (2) in their place.",
+        "Use octetDeltaCount (1) and packetDeltaCount (2) instead.",
         "RFC 7012, section 3.2",
     ),
     (
         refusals::KEY_WITHOUT_AXIS,
-        "A flow key is none of the nine elements by which packets are told apart here.",
+        "A flow key is none of the nine elements by which packets are distinguished here.",
         "a misspelled ieName: names of elements are compared exactly, upper and lower case too. \
          Or a key of another kind: an interface, an AS number, a prefix, an element with an \
          enterprise number.",

@@ -19,8 +19,8 @@ pub const MACHINE: &[Row] = &[
     (
         refusals::FAILED_READ,
         "A file can't be opened, or a read failed.",
-        "a file that isn't there, a directory in its place, or no permission; `-` isn't standard \
-         input, which is /dev/stdin.",
+        "a file that doesn't exist, a directory instead of a file, or a lack of permission; `-` \
+         isn't standard input, which is /dev/stdin.",
         "Look at the names of the files and at their permissions.",
         "",
     ),

@@ -28,10 +28,10 @@ pub const NETWORKS: &[Row] = &[
     (
         refusals::LINK_CYCLE,
         "Links lead records round in a circle.",
-        "mediators that forward to one another, so that each stands in for the other.",
-        "The place has the numbers of device and collecting process that stand on a circle or \
-         behind one (3.1 is the first collecting process of device 3). Take out a link, or an \
-         exporting process that one of them names.",
+        "mediators that forward to one another, so that each can replace the other.",
+        "The place has the numbers of device and collecting process of those that are on a \
+         cycle or after one (3.1 is the first collecting process of device 3). Remove a link, \
+         or an exporting process that one of them names.",
         "FORMATS, a network",
     ),
     (
@@ -45,8 +45,8 @@ pub const NETWORKS: &[Row] = &[
     (
         refusals::REPORT_KEY,
         "The report's key isn't made of axes, each at most once.",
-        "an axis that stands twice (an address and its prefix are one axis), a misspelled \
-         ieName, an element that is no axis, or a prefixLength beside an element that isn't a \
+        "an axis that occurs twice (an address and its prefix are one axis), a misspelled \
+         ieName, an element that is no axis, or a prefixLength at an element that isn't a \
          prefix.",
         "Write elements of docs/FORMATS.md, each axis once: an address, or a prefix element with \
          its prefixLength.",

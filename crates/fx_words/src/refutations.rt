@@ -11,10 +11,10 @@ pub const REFUTATIONS: &[Row] = &[
     (
         refusals::REFUTATION_FORM,
         "A line has no form of a refutation's lines, or one is missing.",
-        "a certificate in the refutation's place, which `once audit` writes too and `once check` \
-         takes; an empty file, a run, a packet's line of another version than the first line, a \
-         second packet, lines that end in CR and LF, the sentences of `once audit --words` behind \
-         `end`, or more than 1,000,000 steps.",
+        "a certificate instead of the refutation, which `once audit` writes too and `once \
+         check` reads; an empty file, a run, a packet's line of another version than the first \
+         line, a second packet, lines that end in CR and LF, the sentences of `once audit \
+         --words` after `end`, or more than 1,000,000 steps.",
         "Give a refutation that `once audit` has written, as it is: once-refutation 2, one packet, \
          its steps, `end`.",
         "FORMATS, a refutation",
@@ -29,10 +29,10 @@ pub const REFUTATIONS: &[Row] = &[
     (
         refusals::REFUTATION_STEP,
         "A step of a refutation can't be made.",
-        "the network has changed since it was audited, which may be what mended it; or a step \
-         that was written by hand has a wrong number or wrong choices.",
-        "Audit again; or mend the step at that line: crossings, holders, links, positions and \
-         choices count from 1.",
+        "the network has changed since it was audited, which may be what corrected it; or a \
+         step that was written by hand has a wrong number or wrong choices.",
+        "Audit again; or correct the step at that line: crossings, holders, links, positions \
+         and choices count from 1.",
         "FORMATS, a run and a refutation",
     ),
     (
@@ -48,8 +48,8 @@ pub const REFUTATIONS: &[Row] = &[
         refusals::TOTALS_AGREE,
         "A refutation shows no wrong total: the run's totals are the plain sums, and nothing is \
          unassigned.",
-        "the network was mended since it was audited, or the run is one in which the packet is \
-         counted rightly.",
+        "the network was corrected since it was audited, or the packet is counted rightly in \
+         this run.",
         "Audit again: where a total can be wrong, a run that shows it is written.",
         "FORMATS, a refutation",
     ),

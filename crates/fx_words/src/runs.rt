@@ -10,13 +10,13 @@ use fx_base::refusals;
 pub const RUNS: &[Row] = &[
     (
         refusals::SCHEDULE_OR_BUNDLE,
-        "A line of a schedule has no form of such lines; or, where no line is told, standard \
+        "A line of a schedule has no form of such lines; or, if no line is named, standard \
          input is no bundle.",
         "a misspelled word, a blank too many, or lines that end in CR and LF. A bundle that is \
          refused lacks its last line %%, or has another command than audit, check, confirm and \
-         replay, or another number of texts; without any words, once reads a bundle.",
-        "Write the line as docs/FORMATS.md has it. A bundle is a line with the command, then its \
-         texts, each followed by a line %%, and nothing behind the last.",
+         replay, or another number of texts; without arguments, once reads a bundle.",
+        "Write the line as docs/FORMATS.md has it. A bundle is a line with the command, then \
+         its texts, each followed by a line %%, and nothing after the last.",
         "FORMATS, a schedule and a bundle",
     ),
     (
@@ -71,7 +71,7 @@ pub const RUNS: &[Row] = &[
     ),
     (
         refusals::NO_RECORD_THERE,
-        "No record stands at the position that a step names.",
+        "No record is at the position that a step names.",
         "position 0, or positions that weren't counted anew: they close up when a record leaves.",
         "Count the records that the cache, the aggregation or the link has before that step, \
          from 1 in order of coming.",
@@ -80,8 +80,8 @@ pub const RUNS: &[Row] = &[
     (
         refusals::RUN_HEADER,
         "The first line isn't that of a run: it has to be once-run 2, or once-run 1.",
-        "a certificate or a refutation in the run's place, the files in another order, lines \
-         that end in CR and LF, or a byte order mark in front.",
+        "a certificate or a refutation instead of the run, the files in another order, lines \
+         that end in CR and LF, or a byte order mark at the beginning.",
         "Give a text that begins with the line once-run 2; lines end in LF alone.",
         "FORMATS, a run",
     ),
@@ -89,11 +89,11 @@ pub const RUNS: &[Row] = &[
         refusals::RUN_FORM,
         "A line has no form of a run's lines, or one is missing.",
         "an empty file, a packet's line of another version than the first line, an address of \
-         IPv6 that isn't written out (as 2001:db8:0:0:0:0:0:1), a number of 2 to the 64 or more, a \
-         packet behind a step, a blank too many, or a text that ends before its line `end` or goes \
-         on behind it.",
-        "Write the line as docs/FORMATS.md has it, with one blank between words: the packets, then \
-         the steps, then `end`, each with a line feed behind it.",
+         IPv6 that isn't written out (as 2001:db8:0:0:0:0:0:1), a number of 2 to the 64 or \
+         more, a packet after a step, a blank too many, or a text that ends before its line \
+         `end` or goes on after it.",
+        "Write the line as docs/FORMATS.md has it, with one blank between words: the packets, \
+         then the steps, then `end`, each followed by a line feed.",
         "FORMATS, a run",
     ),
     (
@@ -107,10 +107,10 @@ pub const RUNS: &[Row] = &[
     ),
     (
         refusals::TOTALS_FORM,
-        "A text isn't that of totals of the network's report, or a line of it isn't in its place.",
-        "totals of another report, a refusal in the place of totals, sentences of --words \
-         behind them, a text that was cut off or edited, keys that don't ascend, or lines that end \
-         in CR and LF.",
+        "A text isn't that of totals of the network's report, or a line of it is out of order.",
+        "totals of another report, a refusal instead of totals, sentences of --words after \
+         them, a text that was cut off or edited, keys that don't ascend, or lines that end in \
+         CR and LF.",
         "Give texts that once collect, run or replay wrote over networks with this report, as \
          they were written.",
         "FORMATS, totals",

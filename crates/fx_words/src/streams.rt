@@ -21,10 +21,10 @@ pub const STREAMS: &[Row] = &[
     (
         refusals::MESSAGE_VERSION,
         "A message has another version than 10, so it is no IPFIX message.",
-        "a capture (pcap or pcapng) in place of the messages alone, NetFlow of version 5 or 9, \
+        "a capture (pcap or pcapng) instead of the messages alone, NetFlow of version 5 or 9, \
          or other octets between the messages.",
         "Have the exporter send IPFIX (version 10), and give the messages alone, one after \
-         another: docs/GUIDE.md tells how to take them out of a capture.",
+         another: docs/GUIDE.md says how to extract them from a capture.",
         "RFC 7011, section 3.1",
     ),
     (
@@ -41,7 +41,8 @@ pub const STREAMS: &[Row] = &[
         refusals::SET_LENGTH,
         "A set's length is below 4 octets, or the set passes its message's end.",
         "octets that were lost or changed on the way, or a fault of the exporter.",
-        "Look at the message with another reader, as tshark, and have the exporter mended.",
+        "Look at the message with another reader, such as tshark, and have the exporter \
+         corrected.",
         "RFC 7011, section 3.3.2",
     ),
     (
@@ -67,7 +68,7 @@ pub const STREAMS: &[Row] = &[
     ),
     (
         refusals::TEMPLATE_CHANGED,
-        "A template is declared under an id that stands for another one.",
+        "A template is declared under an id that another one has.",
         "an exporter that was set anew or restarted inside the stream, streams of several \
          exporters in one file, or one id for a template and an options template.",
         "Begin a stream where the exporter was restarted, keep exporters apart, and have an \
@@ -77,7 +78,7 @@ pub const STREAMS: &[Row] = &[
     (
         refusals::NO_TEMPLATE,
         "A set of data has no template.",
-        "a stream that begins behind its templates, as captures of UDP do, messages that are \
+        "a stream that begins after its templates, as captures of UDP do, messages that are \
          missing or out of order, a template that was withdrawn before, or one of another \
          observation domain.",
         "Take the stream from its beginning, or from a message on in which the exporter sends \
@@ -91,14 +92,15 @@ pub const STREAMS: &[Row] = &[
          octets in a template.",
         "reduced-size encoding: softflowd, among others, sends counters of 4 octets.",
         "Have the exporter send 8 octets, as pmacctd does. A shorter counter wraps, and its \
-         message doesn't tell that it did.",
+         message doesn't say that it did.",
         "RFC 7011, section 6.2",
     ),
     (
         refusals::RECORD_PAST_SET,
         "A data record passes its set's end.",
         "a value of variable length whose length is wrong, or a record that is cut.",
-        "Look at the message with another reader, as tshark, and have the exporter mended.",
+        "Look at the message with another reader, such as tshark, and have the exporter \
+         corrected.",
         "RFC 7011, sections 3.3.1 and 7",
     ),
     (

@@ -10,7 +10,7 @@ use fx_base::refusals;
 pub const TRAFFIC: &[Row] = &[
     (
         refusals::CLASS_TWICE,
-        "The name of a traffic class stands twice.",
+        "The name of a traffic class occurs twice.",
         "a class that was copied and not renamed.",
         "The place is the name of the second class: give it another one.",
         "FORMATS, traffic",
@@ -30,9 +30,9 @@ pub const TRAFFIC: &[Row] = &[
         refusals::UNKNOWN_DEVICE,
         "A crossing names a device that isn't in the network.",
         "a misspelled name, or a traffic declaration that belongs to another network.",
-        "Name a device of the network document, letter by letter. An interface isn't checked so: \
-         a crossing at one that no observation point has is never metered, and \
-         `once lint --words` tells it, with the interfaces that there are.",
+        "Name a device of the network document, letter by letter. An interface isn't checked \
+         so: a crossing at one that no observation point has is never metered, and `once lint \
+         --words` reports it, with the interfaces that there are.",
         "FORMATS, traffic",
     ),
     (
