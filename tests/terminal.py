@@ -24,20 +24,20 @@ import rows
 from program import DidNotEnd, run
 from verdict import report_named
 
-FLAG = "Write %s once, without a value and in front of any --, behind which all words are files; it goes with %s."
+FLAG = "Write %s once, without a value and before any --, after which all arguments are files; it goes with %s."
 WORDS = FLAG % ("--words", "each command")
 PROGRESS = FLAG % ("--progress", "audit, collect and run")
-OPTION_OF_ONE = "%s goes with %s alone, behind that word and in front of any --: `once %s`."
+OPTION_OF_ONE = "%s goes with %s alone, after that word and before any --: `once %s`."
 LIMIT = OPTION_OF_ONE % ("--limit", "audit", "audit NETWORK TRAFFIC --limit N")
 LINKS = OPTION_OF_ONE % ("--links", "run", "run NETWORK TRAFFIC CAPTURE SCHEDULE --links PREFIX")
-NUMBER = "Write --limit once, with a whole number from 1 to 1000000 behind it, as in --limit 20000."
+NUMBER = "Write --limit once, followed by a whole number from 1 to 1000000, as in --limit 20000."
 OPTION = (
     "There is no such option. --words goes with each command, --progress with audit, collect and run, --limit with audit "
-    "and --links with run. A file whose name begins with - is named behind --, as in `once lint -- -file`."
+    "and --links with run. A file whose name begins with - is named after --, as in `once lint -- -file`."
 )
 COMMAND = "The first word is a command: `once help` lists them."
-BEHIND_HELP = "Behind help stands one command, as in `once help check`; what a number means tells `once explain 407`."
-MISSING = "Write what is missing, in the order of the usage line; `once help COMMAND` tells what each is."
+AFTER_HELP = "One command follows help, as in `once help check`; `once explain 407` says what a number means."
+MISSING = "Write what is missing, in the order of the usage line; `once help COMMAND` says what each is."
 
 # A run over a capture that puts octets on link 1.
 RUN_WITH_LINKS = "run-over-a-packet-of-ipv6"
@@ -69,7 +69,7 @@ ADVICE = {
     "audit -- n t --limit 5": LIMIT,
     "audit n t --links x": LINKS,
     "check n t c --link x": LINKS,
-    "run n t c s --links": "Write --links once, with what the names of the links' files are to begin with behind it, as in --links link.",
+    "run n t c s --links": "Write --links once, followed by the beginning of the names of the links' files, as in --links link.",
     "check -w n t c": OPTION,
     "check n t c --quiet": OPTION,
     "-v": OPTION,
@@ -78,8 +78,8 @@ ADVICE = {
     "explain": MISSING,
     "chek n t c": COMMAND,
     "help audits": COMMAND,
-    "help audit check": BEHIND_HELP,
-    "help explain 407": BEHIND_HELP,
+    "help audit check": AFTER_HELP,
+    "help explain 407": AFTER_HELP,
 }
 
 
@@ -126,8 +126,8 @@ def faults_of_pipe(program):
             yield "it waits for the pipe again"
             return
     wanted = rows.octets_of(row, "stdout") + (
-        "%s can't be read once more, as a file can, so what stands there isn't told. Write it to a file first, and name that.\n"
-        "what to do: `once explain NUMBER` tells what the number behind `no` means.\n" % pipe
+        "%s can't be read again, as a file can, so what is there isn't explained. Write it to a file first, and name that.\n"
+        "what to do: `once explain NUMBER` says what the number after `no` means.\n" % pipe
     ).encode()
     if ran.stdout != wanted:
         yield "printed %r instead of %r" % (ran.stdout, wanted)

@@ -7,35 +7,35 @@ use std::alloc::{AllocError, Global};
 const OPTIONS: [(&str, &str); 6] = [
     (
         "--words",
-        "Write --words once, without a value and in front of any --, behind which all words are files; it goes with each command.",
+        "Write --words once, without a value and before any --, after which all arguments are files; it goes with each command.",
     ),
     (
         "--progress",
-        "Write --progress once, without a value and in front of any --, behind which all words are files; it goes with audit, collect and run.",
+        "Write --progress once, without a value and before any --, after which all arguments are files; it goes with audit, collect and run.",
     ),
     (
         "--limit",
-        "--limit goes with audit alone, behind that word and in front of any --: `once audit NETWORK TRAFFIC --limit N`.",
+        "--limit goes with audit alone, after that word and before any --: `once audit NETWORK TRAFFIC --limit N`.",
     ),
     (
         "--links",
-        "--links goes with run alone, behind that word and in front of any --: `once run NETWORK TRAFFIC CAPTURE SCHEDULE --links PREFIX`.",
+        "--links goes with run alone, after that word and before any --: `once run NETWORK TRAFFIC CAPTURE SCHEDULE --links PREFIX`.",
     ),
     (
         "--help",
-        "Write `once help COMMAND`, or --help behind the command.",
+        "Write `once help COMMAND`, or --help after the command.",
     ),
     ("--version", "Write `once --version` alone."),
 ];
 
-/// What to do about the number behind --limit.
+/// What to do about the number after --limit.
 const LIMIT: &str =
-    "Write --limit once, with a whole number from 1 to 1000000 behind it, as in --limit 20000.";
+    "Write --limit once, followed by a whole number from 1 to 1000000, as in --limit 20000.";
 
 /// What to do about an option that isn't there.
 const NO_OPTION: &str =
     "There is no such option. --words goes with each command, --progress with audit, collect and run, --limit with audit \
-and --links with run. A file whose name begins with - is named behind --, as in `once lint -- -file`.";
+and --links with run. A file whose name begins with - is named after --, as in `once lint -- -file`.";
 
 /// How many octets are the same at the front of both.
 fn same_in_front(a: &[u8], b: &[u8]) -> usize {
@@ -97,11 +97,11 @@ fn unknown_command_advice(text: &str) -> &'static str {
     if text.contains(" <COMMAND>") {
         "The first word is a command: `once help` lists them."
     } else {
-        "Behind help stands one command, as in `once help check`; what a number means tells `once explain 407`."
+        "One command follows help, as in `once help check`; `once explain 407` says what a number means."
     }
 }
 
-/// The word that an error's text is about, which stands there first in quotation marks.
+/// Returns the argument that an error's text is about: the first in quotation marks.
 fn word_told(text: &str) -> &str {
     match text.split_once("'") {
         Some((_, behind)) => match behind.split_once("'") {
@@ -120,10 +120,10 @@ fn extra_word_advice(text: &str) -> Option<&'static str> {
         Some("All totals come in one file: `cat FIRST SECOND | once sum NETWORK /dev/stdin`.")
     } else if text.contains(" audit [") && !word_told(text).starts_with("-") {
         Some(
-            "An audit takes the network and the traffic; `once check` takes a certificate behind them.",
+            "An audit takes the network and the traffic; `once check` takes a certificate after them.",
         )
     } else if word_told(text) == "-o" || word_told(text) == "--output" {
-        Some("The answer goes to standard output: write `> FILE` behind the command.")
+        Some("The answer goes to standard output: write `> FILE` after the command.")
     } else {
         None
     }
@@ -143,7 +143,7 @@ fn advice_of(kind: ErrorKind, text: &str) -> Option<&'static str> {
         }
         ErrorKind::MissingSubcommand => Some("Write a command: `once help` lists them."),
         ErrorKind::MissingRequiredArgument => Some(
-            "Write what is missing, in the order of the usage line; `once help COMMAND` tells what each is.",
+            "Write what is missing, in the order of the usage line; `once help COMMAND` says what each is.",
         ),
         ErrorKind::ValueValidation | ErrorKind::InvalidValue | ErrorKind::ArgumentConflict => {
             value_advice(text)
@@ -156,11 +156,11 @@ fn advice_of(kind: ErrorKind, text: &str) -> Option<&'static str> {
 fn value_advice(text: &str) -> Option<&'static str> {
     if text.contains("--limit") {
         Some(
-            "Write --limit once, with a whole number from 1 to 1000000 behind it, as in --limit 20000.",
+            "Write --limit once, followed by a whole number from 1 to 1000000, as in --limit 20000.",
         )
     } else if text.contains("--links") {
         Some(
-            "Write --links once, with what the names of the links' files are to begin with behind it, as in --links link.",
+            "Write --links once, followed by the beginning of the names of the links' files, as in --links link.",
         )
     } else {
         None
@@ -178,9 +178,9 @@ fn without_tip(text: &str) -> (&str, &str) {
     }
 }
 
-/// The text of an error, with what to do behind it.
+/// Returns the text of an error, followed by what to do.
 ///
-/// Fails for want of memory.
+/// Fails where memory runs out.
 pub(crate) fn with_advice(
     alloc: Global,
     kind: ErrorKind,

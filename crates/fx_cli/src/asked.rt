@@ -1,4 +1,4 @@
-//! What was asked, as far as the words behind an answer are about it.
+//! What was asked, where the sentences after an answer are about it.
 
 use crate::bundles::question_of_bundle;
 use crate::notes::Notes;
@@ -43,10 +43,10 @@ pub(crate) enum Asked<'a> {
     Explain,
 }
 
-/// A document: what it is called, and its octets as far as they were read.
+/// A document: its name, and the octets that were read of it.
 #[derive(Clone, Copy, Drop)]
 pub(crate) struct DocumentRead<'a> {
-    /// Its file's name, or where it stands in a bundle.
+    /// Its file's name, or its place in a bundle.
     pub(crate) name: &'a str,
     /// Its octets.
     pub(crate) octets: Option<&'a [u8]>,

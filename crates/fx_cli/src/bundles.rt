@@ -1,4 +1,4 @@
-//! Bundles that were read from standard input, for the words behind their answers.
+//! Bundles that were read from standard input, for the sentences after their answers.
 
 use crate::asked::{Asked, DocumentRead, LinesAt, Question};
 use crate::gathering::Words;
@@ -7,7 +7,7 @@ use fx_audit::AUDIT_LIMIT;
 /// The line that ends each text.
 const MARK: &[u8] = b"%%\n";
 
-/// What stands in front of the first line `%%`, and what stands behind it.
+/// Returns what is before the first line `%%`, and what is after it.
 fn first_text(octets: &[u8]) -> Option<(&[u8], &[u8])> {
     if let Some(rest) = octets.strip_prefix(MARK) {
         return Some((b"", rest));
@@ -33,7 +33,7 @@ fn first_line_feed(octets: &[u8]) -> Option<usize> {
     None
 }
 
-/// The first line without its line feed, and what stands behind it.
+/// Returns the first line without its line feed, and what is after it.
 fn first_line(octets: &[u8]) -> (&[u8], &[u8]) {
     match first_line_feed(octets) {
         Some(end) => match (octets.get(..end), octets.get(end.saturating_add(1)..)) {
@@ -81,7 +81,7 @@ pub(crate) fn question_of_bundle(octets: &[u8]) -> Option<Question<'_>> {
     })
 }
 
-/// How many lines `%%` these octets have, and whether something stands behind the last.
+/// Returns how many lines `%%` these octets have, and whether something follows the last.
 fn texts_in(octets: &[u8]) -> (u64, bool) {
     let mut rest = octets;
     let mut count: u64 = 0;
@@ -136,7 +136,7 @@ fn put_nearly_marks(octets: &[u8], at_end: bool, words: &mut Words) {
         return;
     }
     words.text(if at_end {
-        b"lines that end in %%, behind something else: ".as_slice()
+        b"lines that end in %%, after something else: ".as_slice()
     } else {
         b"lines that begin with %% and go on: "
     });
@@ -146,7 +146,7 @@ fn put_nearly_marks(octets: &[u8], at_end: bool, words: &mut Words) {
     words.text(if at_end {
         b"); put a line feed in front of each %%\n".as_slice()
     } else {
-        b"); take out what stands behind each %%\n"
+        b"); remove what follows each %%\n"
     });
 }
 
@@ -156,15 +156,15 @@ fn put_mark_words(octets: &[u8], count: u64, wanted: u64, words: &mut Words) {
     words.number(count);
     words.text(b" lines %%; its command wants ");
     words.number(wanted);
-    words.text(b", one behind each text\n");
+    words.text(b", one after each text\n");
     put_nearly_marks(octets, true, words);
     put_nearly_marks(octets, false, words);
     if octets.ends_with(b"\n%%") {
-        words.text(b"no line feed stands behind the last %%\n");
+        words.text(b"no line feed follows the last %%\n");
     }
 }
 
-/// How many texts stand behind a bundle's first line; 0 where that is no command.
+/// Returns how many texts follow a bundle's first line; 0 if that is no command.
 fn texts_of(command: &[u8]) -> u64 {
     match command {
         b"audit" => 2,
@@ -190,9 +190,9 @@ fn put_first_line(line: &[u8], words: &mut Words) {
         }]);
     }
     words.text(if line.starts_with(ORDER_MARK) {
-        b"\"; a byte order mark stands in front of it\n".as_slice()
+        b"\"; a byte order mark is before it\n".as_slice()
     } else if line.ends_with(b" ") {
-        b"\"; a blank stands at its end\n"
+        b"\"; a blank is at its end\n"
     } else {
         b"\"\n"
     });
@@ -222,6 +222,6 @@ pub(crate) fn put_bundle_words(octets: &[u8], words: &mut Words) {
     if count != wanted {
         put_mark_words(rest, count, wanted, words);
     } else if has_more {
-        words.text(b"something stands behind the bundle's last line %%\n");
+        words.text(b"something follows the bundle's last line %%\n");
     }
 }

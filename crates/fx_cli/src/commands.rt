@@ -151,7 +151,7 @@ fn confirm<R: AllocGlobal + Files, S: Sink>(
     answer
 }
 
-/// Audits the network and traffic in these files, with at most so many split and leaf lines of a certificate.
+/// Audits the network and traffic in these files, with at most `limit` split and leaf lines of a certificate.
 fn audit<R: AllocGlobal + Clock + Eprint + Files, S: Sink>(
     rt: &R,
     network: &str,

@@ -56,7 +56,7 @@ fn status_of_answer(answer: Answer) -> u8
 /// Ends a command: writes the line of a refusal, and gives the program's exit status. An answer's text has been
 /// written before.
 ///
-/// 0 an answer of yes, 1 of no, 3 of unknown; 2 a refusal (`refused N PLACE`), 4 want of memory (`memory 900`),
+/// 0 an answer of yes, 1 of no, 3 of unknown; 2 a refusal (`refused N PLACE`), 4 out of memory (`memory 900`),
 /// 5 a device that failed (`device 901`, `device 902`), also where the line can't be written.
 pub fn finish<S: Sink>(outcome: &Result<Answer, Fault>, sink: &mut S) -> u8
     ensures answered { IfOk outcome.now (λ _. (result ≡ status outcome.now)
@@ -74,7 +74,7 @@ pub fn finish<S: Sink>(outcome: &Result<Answer, Fault>, sink: &mut S) -> u8
     }
 }
 
-/// Ends a command as [`finish`] does, and writes these words behind its text or line. Where a write fails the status
+/// Ends a command as [`finish`] does, and writes these sentences after its text or line. Where a write fails the status
 /// is 5.
 pub(crate) fn finish_with<S: Sink>(
     outcome: &Result<Answer, Fault>,

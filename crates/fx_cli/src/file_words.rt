@@ -28,7 +28,7 @@ fn is_of_step(number: u16) -> bool {
     )
 }
 
-/// Whether a refusal is about what a call reads behind its documents.
+/// Returns whether a refusal is about what a call reads after its documents.
 fn is_behind_documents(fault: &Fault) -> bool {
     fault.number >= refusals::CERTIFICATE_FIRST
         && fault.number < refusals::WANT_OF_MEMORY
@@ -46,7 +46,7 @@ fn put_file_name<R: Files>(rt: &R, file: &str, words: &mut Words) {
 }
 
 /// Writes which file couldn't be opened, read, made or written, or has what is refused, and why it couldn't be opened,
-/// made or read. Which document is refused is told with what stands there.
+/// made or read. Which document is refused is explained with what is there.
 pub(crate) fn put_file_words<R: Files>(
     rt: &R,
     call: Option<&Call>,
@@ -68,7 +68,7 @@ pub(crate) fn put_file_words<R: Files>(
     }
 }
 
-/// The file behind a call's documents that a refusal of this number is about.
+/// Returns the file after a call's documents that a refusal of this number is about.
 fn file_behind_documents(call: &Call, number: u16) -> Option<&str> {
     match call {
         Call::Collect { stream, .. } => Some(stream.as_str()),
@@ -79,7 +79,7 @@ fn file_behind_documents(call: &Call, number: u16) -> Option<&str> {
     }
 }
 
-/// The file of a call whose last read failed: a document, or the one that is read behind them.
+/// The file of a call whose last read failed: a document, or the one that is read after them.
 fn unread_file<'a>(call: &'a Call, notes: &Notes) -> Option<&'a str> {
     let (network, traffic) = documents_of(call)?;
     let _read = notes.network.octets()?;

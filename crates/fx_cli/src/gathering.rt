@@ -3,7 +3,7 @@
 use fx_base::{Fault, Outside, put_number, put_text};
 use std::alloc::Global;
 
-/// Words behind an answer. Where some can't be had, for want of memory or since a read of what they are about fails, there
+/// Sentences after an answer. If some can't be made, since memory runs out or a read of what they are about fails, there
 /// are none at the end.
 #[derive(Drop)]
 pub(crate) struct Words {

@@ -59,7 +59,7 @@ impl<R: Source> KeptSource<R> {
         KeptSource { source, copy }
     }
 
-    /// The copy; the source is let go.
+    /// Returns the copy, and drops the source.
     pub fn into_copy(self) -> OctetCopy
         ensures { result ≡ self.copy }
     {

@@ -1,4 +1,4 @@
-//! What a command is asked to tell beside its answer, and what it notes of its files for that.
+//! What a command is asked to print beside its answer, and what it notes of its files for that.
 ghost use Rattle.std.specs.Prelude.{◌≡◌};
 
 use crate::kept::{KeptSource, OctetCopy};
@@ -61,29 +61,29 @@ impl FailedFile {
         }
     }
 
-    /// The file's name and, where the system has told it, why.
+    /// Returns the file's name and, if the system has reported it, the reason.
     pub fn told(&self) -> Option<&str> {
         self.told.as_deref()
     }
 }
 
-/// What was noted. Nothing is, unless words behind the answer are asked for; and what there is no memory for is left out.
+/// What was noted: nothing, unless sentences after the answer are asked for; what there is no memory for is left out.
 pub struct Notes {
     alloc: Global,
     keeps: bool,
     progress: bool,
     /// The file that couldn't be opened, made or written.
     pub failed_file: FailedFile,
-    /// The octets of the network's document, as far as they were read.
+    /// The octets that were read of the network's document.
     pub network: OctetCopy,
-    /// The octets of the traffic's declaration, as far as they were read.
+    /// The octets that were read of the traffic declaration.
     pub traffic: OctetCopy,
     /// The octets of a bundle.
     pub bundle: OctetCopy,
 }
 
 impl Drop for Notes {
-    /// Lets its parts go: proved once, and one call wherever one is let go.
+    /// Drops its parts: proved once, and one call wherever notes are dropped.
     fn drop(self) {
         let Self {
             alloc: _,
@@ -113,7 +113,7 @@ fn sentence(alloc: Global, path: &str, error: io::Error) -> Result<String, Alloc
 }
 
 impl Notes {
-    /// Notes of nothing yet, which are kept where words are asked for (`keeps`); whether progress is to be told.
+    /// Notes of nothing yet, which are kept where words are asked for (`keeps`); whether progress is to be printed.
     pub fn new(alloc: Global, keeps: bool, progress: bool) -> Notes {
         Notes {
             alloc,
@@ -131,7 +131,7 @@ impl Notes {
         FailedFile::new(self.alloc, self.keeps)
     }
 
-    /// The progress of what begins now, which is told where that is asked for.
+    /// Returns the progress of what begins now, which is printed if that is asked for.
     pub fn progress<'a, R: Eprint + Clock>(&self, rt: &'a R) -> Progress<'a, R> {
         Progress::new(rt, self.progress)
     }

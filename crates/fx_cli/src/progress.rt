@@ -1,4 +1,4 @@
-//! How far a command has come, told on standard error.
+//! How far a command has come, printed on standard error.
 ghost use Rattle.std.specs.Prelude.{◌≡◌};
 
 use fx_base::{Fault, Source};
@@ -12,7 +12,7 @@ const PAUSE: u64 = 1;
 /// After how many lines of a certificate the clock is looked at: a look takes as long as finding some of them.
 const LINES_A_LOOK: u64 = 64;
 
-/// When a line is told next, where lines are asked for.
+/// When a line is printed next, if lines are asked for.
 #[derive(Drop)]
 pub struct Progress<'a, R> {
     rt: &'a R,
@@ -20,13 +20,13 @@ pub struct Progress<'a, R> {
 }
 
 impl<'a, R: Eprint + Clock> Progress<'a, R> {
-    /// The progress of what begins now. None is told where none is asked for, or the system has no clock.
+    /// Returns the progress of what begins now. None is printed if none is asked for, or the system has no clock.
     pub fn new(rt: &'a R, asked: bool) -> Progress<'a, R> {
         let last = if asked { Instant::now(rt).ok() } else { None };
         Progress { rt, last }
     }
 
-    /// Whether a line is to be told now; if so, the next one is when as much time has passed again.
+    /// Returns whether a line is to be printed now; if so, the next one is when as much time has passed again.
     fn is_due(&mut self) -> bool {
         let Some(last) = self.last else {
             return false;
@@ -42,7 +42,7 @@ impl<'a, R: Eprint + Clock> Progress<'a, R> {
     }
 }
 
-/// A source of which is told how many octets it has given.
+/// A source, of which is printed how many octets it has given.
 #[derive(Drop)]
 pub struct ToldSource<'a, R, S> {
     source: S,
@@ -91,7 +91,7 @@ impl<'a, R: Eprint + Clock, S: Source> Source for ToldSource<'a, R, S> {
     }
 }
 
-/// An audit's search, of which is told how many lines of a certificate it has found.
+/// An audit's search, of which is printed how many lines of a certificate it has found.
 #[derive(Drop)]
 pub struct ToldSearch<'a, R> {
     limit: u64,

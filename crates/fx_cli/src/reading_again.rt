@@ -1,4 +1,4 @@
-//! Files that were read, opened once more for the words behind an answer.
+//! Files that were read, opened again for the sentences after an answer.
 
 use crate::asked::LinesAt;
 use crate::gathering::Words;
@@ -42,11 +42,11 @@ fn text_again<'a, R: Files>(rt: &R, lines: LinesAt<'a>) -> Option<TextAgain<'a, 
     }
 }
 
-/// Writes that a file can't be read once more.
+/// Writes that a file can't be read again.
 fn put_not_again(path: &str, words: &mut Words) {
     words.text(path.as_bytes());
     words.text(
-        b" can't be read once more, as a file can, so what stands there isn't told. Write it to a file first, and \
+        b" can't be read again, as a file can, so what is there isn't explained. Write it to a file first, and \
 name that.\n",
     );
 }
@@ -64,7 +64,7 @@ pub(crate) fn file_or_words<'a, R: Files>(
     file
 }
 
-/// The lines of a text that was read, once more. None where it can't be read once more, or for want of memory, which is
+/// Returns the lines of a text that was read. None if it can't be read again, or memory runs out, which is
 /// noted.
 pub(crate) fn lines_again<'a, R: AllocGlobal + Files>(
     rt: &R,

@@ -106,7 +106,7 @@ fn answer_words<R: AllocGlobal + Clock + Eprint + Files + Input + RandomSource, 
     }
 }
 
-/// Answers the bundle on standard input, and tells the answer in words behind it. Gives the exit status.
+/// Answers the bundle on standard input, and explains the answer in sentences after it. Returns the exit status.
 fn tell_input<R: AllocGlobal + Files + Input + RandomSource, S: Sink>(rt: &R, sink: &mut S) -> u8
     ensures ended { EndsInWords IsBundleOutput (IsRefusal IsBundleRefusal) (S.taken sink.old)
         (S.taken sink.new)
@@ -120,7 +120,7 @@ fn tell_input<R: AllocGlobal + Files + Input + RandomSource, S: Sink>(rt: &R, si
     finish_with(&answer, told.as_slice(), sink)
 }
 
-/// Answers a call, and tells the answer in words behind it. Gives the exit status.
+/// Answers a call, and explains the answer in sentences after it. Returns the exit status.
 fn tell_call<R: AllocGlobal + Clock + Eprint + Files + RandomSource, S: Sink>(
     rt: &R,
     call: &Call,
@@ -139,7 +139,7 @@ fn tell_call<R: AllocGlobal + Clock + Eprint + Files + RandomSource, S: Sink>(
     finish_with(&answer, told.as_slice(), sink)
 }
 
-/// Answers words as [`answer_words`] does, and tells the answer in words behind it, unless there is no memory for them.
+/// Answers words as [`answer_words`] does, and explains the answer in sentences after it, unless there is no memory for them.
 fn answer_in_words<R: AllocGlobal + Clock + Eprint + Files + Input + RandomSource, S: Sink>(
     rt: &R,
     words: &[String],
@@ -280,10 +280,10 @@ fn flush<S: Sink>(sink: &mut S, code: u8) -> u8
     }
 }
 
-/// The program: reads its words, answers them on standard output, and gives its exit status.
+/// The program: reads its arguments, answers on standard output, and returns its exit status.
 ///
-/// With no words it answers the bundle on standard input; where that is a terminal it writes its help. 0 is an answer of yes, or help that was asked for, 1 no,
-/// 3 unknown; 2 a refusal, 4 want of memory, 5 a device that failed, 6 words that don't parse.
+/// Without arguments it answers the bundle on standard input; if that is a terminal it writes its help. 0 is an answer of yes, or help that was asked for, 1 no,
+/// 3 unknown; 2 a refusal, 4 out of memory, 5 a device that failed, 6 arguments that don't parse.
 pub fn run<R: AllocGlobal + Clock + Env + Eprint + Files + Input + Print + RandomSource>(
     rt: &R,
     on_terminal: bool,
@@ -294,8 +294,8 @@ pub fn run<R: AllocGlobal + Clock + Env + Eprint + Files + Input + Print + Rando
         Ok(writer) => {
             let mut sink = Outside::new(writer);
             let code = answer(rt, all_words(rt), on_terminal, &mut sink);
-            // What couldn't be handed on isn't tried again, as it would be where the writer is let go: no answer stands
-            // behind a write that failed.
+            // What couldn't be written isn't tried again, as it would be when the writer is dropped: no answer follows
+            // a write that failed.
             mem::forget(sink);
             code
         }

@@ -1,4 +1,4 @@
-//! The words behind an answer: what it is about, by name, and for a refusal what is wrong and what to do.
+//! The sentences after an answer: what it is about, by name, and for a refusal what is wrong and what to do.
 
 use crate::asked::{Asked, LinesAt, Question, question_of};
 use crate::bundles::put_bundle_words;
@@ -32,32 +32,32 @@ const NO_ANSWER: &[u8] =
 
 /// What to do about an answer of no whose text can't be read once more.
 const TO_LOOK_UP: &[u8] =
-    b"what to do: `once explain NUMBER` tells what the number behind `no` means.\n";
+    b"what to do: `once explain NUMBER` says what the number after `no` means.\n";
 
-/// What stands in the text of a replay.
+/// The forms of a replay's lines.
 const REPLAYED: &[u8] =
     b"keys: how many keys of the report have totals, a line each. unassigned: records without the \
 report's key. complete yes: no crossing is to come and nothing is held or on a link; complete no: the totals aren't the \
 last ones.\n";
 
-/// What stands in the text of a collection.
+/// The forms of a collection's lines.
 const COLLECTED: &[u8] =
     b"keys: how many keys of the report have totals, a line each. unassigned: records without the \
 report's key. gaps: messages whose sequence number isn't the next one: some were lost, came out of order or came twice. skipped: \
 records that lack a counter, which add nothing.\n";
 
-/// What stands in the text of a sum.
+/// The forms of a sum's lines.
 const SUMMED: &[u8] =
     b"keys: how many keys of the report have totals, a line each, with the sums over all texts. unassigned: records \
 without the report's key. Then what the texts noted, added up: complete yes, where no text says complete no; skipped frames; \
 gaps and skipped records.\n";
 
-/// What stands in the text of a run.
+/// The forms of a run's lines.
 const METERED: &[u8] =
     b"keys: how many keys of the report have totals, a line each. unassigned: records without the \
 report's key. skipped: frames that are no packets of IP (other), or that end before their header does (malformed).\n";
 
-/// The words behind an answer or a refusal. Where there is no memory for them, there are none.
+/// Returns the sentences after an answer or a refusal; none if there is no memory for them.
 pub(crate) fn words_of<R: AllocGlobal + Files>(
     rt: &R,
     call: Option<&Call>,
@@ -69,7 +69,7 @@ pub(crate) fn words_of<R: AllocGlobal + Files>(
     words.into_octets(rt.alloc())
 }
 
-/// Writes the words behind an answer or a refusal.
+/// Writes the sentences after an answer or a refusal.
 fn put_words<R: AllocGlobal + Files>(
     rt: &R,
     call: Option<&Call>,
@@ -108,7 +108,7 @@ fn put_no_bundle_words(notes: &Notes, fault: &Fault, words: &mut Words) {
     }
 }
 
-/// Writes the words behind an answer.
+/// Writes the sentences after an answer.
 fn put_answer_words<R: AllocGlobal + Files>(
     rt: &R,
     question: &Question<'_>,
@@ -308,14 +308,14 @@ fn put_denied_refutation<R: AllocGlobal + Files>(
     }
 }
 
-/// Writes what a refusal is about: a place of a document, a line or a step of a text, or what stands in a stream.
+/// Writes what a refusal is about: a place of a document, a line or a step of a text, or what is in a stream.
 fn put_refused_words<R: AllocGlobal + Files>(
     rt: &R,
     question: &Question<'_>,
     fault: &Fault,
     words: &mut Words,
 ) {
-    // A line that is too long can't be told, and a failed read is no place.
+    // A line that is too long can't be printed, and a failed read is no place.
     if fault.number >= refusals::WANT_OF_MEMORY {
         return;
     }
@@ -375,7 +375,7 @@ fn put_unsummed_words<R: AllocGlobal + Files>(
     }
 }
 
-/// Writes which document a refusal is about, and what stands there.
+/// Writes which document a refusal is about, and what is there.
 fn put_document_place(alloc: Global, question: &Question<'_>, fault: &Fault, words: &mut Words) {
     let Some(network) = question.network else {
         return;
@@ -456,7 +456,7 @@ fn put_metering_words<R: AllocGlobal + Files>(
     }
 }
 
-/// Writes what stands in the place of a capture that is refused.
+/// Writes what is there instead of a capture that is refused.
 fn put_captured_words<R: AllocGlobal + Files>(
     rt: &R,
     capture: &str,
@@ -498,7 +498,7 @@ fn put_packet_words<R: AllocGlobal + Files>(
     }
 }
 
-/// Writes which message of a stream is refused, and what stands there.
+/// Writes which message of a stream is refused, and what is there.
 fn put_message_words<R: AllocGlobal + Files>(
     rt: &R,
     stream: &str,
@@ -511,7 +511,7 @@ fn put_message_words<R: AllocGlobal + Files>(
     }
 }
 
-/// Writes what stands in the text of a replay, and what its run leaves undone where that can be read once more.
+/// Writes what the lines of a replay mean, and what its run leaves undone if that can be read again.
 fn put_replayed_words<R: AllocGlobal + Files>(
     rt: &R,
     run: LinesAt<'_>,
@@ -528,7 +528,7 @@ fn put_replayed_words<R: AllocGlobal + Files>(
     }
 }
 
-/// Writes what stands in the text of a collection, and what its totals leave out where the stream can be read once more.
+/// Writes what the lines of a collection mean, and what its totals leave out if the stream can be read again.
 fn put_collected_words<R: AllocGlobal + Files>(
     rt: &R,
     stream: &str,

@@ -23,7 +23,7 @@ impl<D: io::Read + Drop> Origin<'_, D> {
     }
 }
 
-/// A text that is read once more. It tells no octets.
+/// A text that is read again. Its octets are not known.
 #[derive(Drop)]
 pub(crate) struct TextAgain<'a, D> {
     origin: Origin<'a, D>,

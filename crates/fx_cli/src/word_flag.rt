@@ -2,7 +2,7 @@
 ghost use Rattle.std.specs.Prelude.{string_bytes};
 ghost use Rattle.fx_cli.specs.WordFlag.{IsFlagPlace};
 
-/// Where this option stands among the words: behind the first, which is the program's own name, and before any `--`.
+/// Returns the place of this option among the arguments: after the first, which is the program's own name, and before any `--`.
 pub fn place_of_flag(words: &[String], flag: &str) -> Option<usize>
     ensures { IsFlagPlace flag.now string_bytes words.now result }
 {

@@ -37,9 +37,9 @@ fn status_of_words(kind: ErrorKind) -> u8
     }
 }
 
-/// The error's text, with what to do behind it.
+/// Returns the error's text, followed by what to do.
 ///
-/// Fails for want of memory.
+/// Fails where memory runs out.
 fn told_text(alloc: Global, error: &Error) -> Result<String, AllocError> {
     match error.to_string(alloc) {
         Ok(text) => with_advice(alloc, error.kind(), text.as_str()),
@@ -83,7 +83,7 @@ pub fn finish_words<S: Sink>(alloc: Global, error: &Error, sink: &mut S) -> u8
 
 /// Ends a command whose words the system doesn't hand over.
 ///
-/// 4 for want of memory, 6 where a word is no UTF-8 text, else 5 (`device 901`); 5 also where nothing can be
+/// 4 if memory runs out, 6 if an argument is no UTF-8 text, else 5 (`device 901`); 5 also where nothing can be
 /// written.
 pub fn finish_unread<S: Sink>(kind: io::ErrorKind, sink: &mut S) -> u8
     ensures ended { EndsWith S.taken S.failed

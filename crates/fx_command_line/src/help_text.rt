@@ -16,27 +16,27 @@ The way through:
   once draw NETWORK TRAFFIC ANSWER     all of it as a picture (Graphviz)
 
 NETWORK is a JSON document of devices, links and the report, TRAFFIC one of the classes of packets
-and their paths: `once help lint` shows both whole. `once help COMMAND` tells what a command's files
-are, with an example. `once explain NUMBER` tells what a refusal means.
+and their paths: `once help lint` shows both whole. `once help COMMAND` says what a command's files
+are, with an example. `once explain NUMBER` says what a refusal means.
 
-With no words, a bundle (a command and its files in one text) is read from standard input: a line
+Without arguments, a bundle (a command and its files in one text) is read from standard input: a line
 `audit`, `check`, `confirm` or `replay`, then its texts in their order, each with a line feed at its
 end and followed by a line `%%`:
 
   (echo audit; cat network.json; echo; echo %%; cat traffic.json; echo; echo %%) | once
 
---words, with any command or a bundle: in sentences behind the answer, what it means and what to do.
-There are none behind a graph, nor behind what `explain` tells of a number.
---progress, with audit, collect and run: how far it has come, on standard error.
-It is told at most once a second.
+--words, with any command or a bundle: in sentences after the answer, what it means and what to do.
+There are none after a graph, nor after what `explain` prints about a number.
+--progress, with audit, collect and run: how far it has come, on standard error, at most once a
+second.
 
 Exit status:
-  0  the answer stands on standard output
+  0  the answer is on standard output
   1  the answer is no: `no NUMBER PLACE` of check and confirm, a refutation of audit,
      `unknown number` of explain
   2  a text is refused: `refused NUMBER PLACE`
   3  `unknown 601`: an audit found neither within its limits
-  4  want of memory: `memory 900`
+  4  out of memory: `memory 900`
   5  a read or a write failed, or a file can't be opened: `device 901`, `device 902`
   6  the words don't parse";
 
@@ -51,15 +51,15 @@ Files:
   TRAFFIC  JSON: \"classes\", each with a \"name\", a \"region\" of packet fields and \"paths\" of crossings
 
 Prints a certificate (status 0): lines that `once check` takes; after it every complete run counts
-each packet exactly once. Or a refutation (status 1): a run of one packet that `once confirm` takes,
+each packet exactly once. Or a refutation (status 1): a run of one packet that `once confirm` reads,
 which ends in a wrong total. Or `unknown 601` (status 3): neither was found within the limits; raise
---limit, or cut the traffic into several declarations. A document that is refused:
+--limit, or split the traffic into several declarations. A document that is refused:
 `refused NUMBER PLACE` (status 2), PLACE a JSON Pointer (RFC 6901), in which entries of lists count
 from 0. What the lines of both answers say: `once help check`, `once help confirm`.
 
---words tells the answer in sentences: of a refutation what each of its steps does, by name, and
+--words explains the answer in sentences: of a refutation what each of its steps does, by name, and
 what to do about it.
---progress tells on standard error, at most once a second, how many lines of a certificate were
+--progress prints on standard error, at most once a second, how many lines of a certificate were
 found.";
 
 /// Behind the help of `check`.
@@ -75,11 +75,11 @@ Files:
 
 Lines of a certificate:
   once-certificate 1        the first line; once-certificate 2 where a class is exempt
-  class CLASS path PATH     for each class, in order, and each of its paths, in order; behind it
-                            stands a tree, which speaks of the class's region
-  S AXIS AT                 a split of the region: behind it stands the tree of the values below AT,
-                            and behind that the tree of the others
-  L CROSSING POINT PROCESS  a leaf: all packets of the region are counted once, where they make this
+  class CLASS path PATH     for each class, in order, and each of its paths, in order; a tree
+                            follows, which is about the class's region
+  S AXIS AT                 a split of the region: the tree of the values below AT follows, and then
+                            the tree of the others
+  L CROSSING POINT PROCESS  a leaf: all packets of the region are counted once, when they make this
                             crossing, at this observation point, by this selection process
   N                         a leaf: none of the packets of the region is counted; of classes that
                             are exempt, which have no other leaves
@@ -106,8 +106,8 @@ Prints `yes` (status 0) only where every complete run counts each packet exactly
 text, 406 to 410, 413, 415 about the network. A document that is refused: `refused NUMBER PLACE`
 (status 2).
 
---words tells the line: its class, path and region by name, and what to do. For that the certificate
-is read once more, which a pipe can't be.";
+--words explains the line: its class, path and region by name, and what to do. For that the
+certificate is read once more, which a pipe can't be.";
 
 /// Behind the help of `confirm`.
 pub const CONFIRM: &str = "\
@@ -120,7 +120,7 @@ Files:
   TRAFFIC     JSON: \"classes\" with regions and paths
   REFUTATION  lines, as `once audit` prints them: `once-refutation 2`, one `packet` line, at most
               1,000,000 steps (`cross`, `expire`, `arrive`), `end`; packet and steps are written as
-              in `once help replay`, which tells what their words stand for
+              in `once help replay`, which says what their words mean
 
 Example of a refutation:
   once-refutation 2
@@ -129,14 +129,14 @@ Example of a refutation:
   expire cache 1 1 1
   end
 
-It is confirmed for the first network in `once help lint` with \"links\": [] in place of its link, and
+It is confirmed for the first network in `once help lint` with \"links\": [] instead of its link, and
 the traffic through it: the record is lost.
 
-Prints `refuted` (status 0), then behind the line `run` what the collector counts in that run, and
-behind the line `plain` what it should; or `no NUMBER PLACE` (status 1), 501 to 505. A document that
+Prints `refuted` (status 0), then after the line `run` what the collector counts in that run, and
+after the line `plain` what it should; or `no NUMBER PLACE` (status 1), 501 to 505. A document that
 is refused: `refused NUMBER PLACE` (status 2).
 
---words tells the run step by step, by name: where the packet is metered, or which observation
+--words explains the run step by step, by name: where the packet is metered, or which observation
 points pass it over and why; and what to do about it. For that the refutation is read once more,
 which a pipe can't be.";
 
@@ -161,7 +161,7 @@ Forms of the lines:
   end
 
 A packet makes a crossing of its path; a record leaves a cache or an aggregation; a record that is
-on a link reaches its collecting process. What the words stand for; things are counted from 1:
+on a link reaches its collecting process. What the words mean; things are counted from 1:
 
   CLASS, PATH                    in \"classes\", and in the class's \"paths\"
   SOURCE, DESTINATION            as 10.0.0.1; 0.0.0.0 of packets of IPv6
@@ -176,10 +176,10 @@ on a link reaches its collecting process. What the words stand for; things are c
                                  \"once-audit:aggregation\"
   LINK                           in \"links\"
   POSITION                       of the record among those that the cache or the aggregation holds,
-                                 or that are on the link, in the order in which they came; where one
-                                 leaves, those behind it move up
+                                 or that are on the link, in the order in which they came; if one
+                                 leaves, those after it move up
   CHOICES                        no word or several, one for each choice that the step leaves open,
-                                 as told below
+                                 as listed below
 
 CHOICES of a step:
   cross    for each selection process with a cache that meters the packet there, in the order of the
@@ -208,7 +208,7 @@ Prints the collector's totals at the run's end (status 0): `keys N`, a line for 
 `unassigned N`, and `complete yes` or `complete no`. A text that is refused: `refused NUMBER PLACE`
 (status 2); 851 to 853 are steps that can't be made, 854 to 856 lines.
 
---words tells which step it was, by name, and of a run that isn't complete what it leaves undone.
+--words says which step it was, by name, and of a run that isn't complete what it leaves undone.
 For that the run is read once more, which a pipe can't be.";
 
 /// Behind the help of `collect`.
@@ -228,10 +228,10 @@ whose sequence number isn't the next one), `skipped N` (records that lack a coun
 is refused: `refused NUMBER octet N` (status 2), 611 to 620, at the first octet of the message,
 counted from 0. Counters must have 8 octets (618).
 
---words tells of a refused message which it is and what stands there: its set, template, field or
+--words says of a refused message which it is and what is there: its set, template, field or
 record; of totals which messages leave a gap, and which templates lack a field of the key or a
 counter. For that the stream is read once more, which a pipe can't be.
---progress tells on standard error, at most once a second, how many octets of the stream were read.";
+--progress prints on standard error, at most once a second, how many octets of the stream were read.";
 
 /// Behind the help of `run`.
 pub const RUN: &str = "\
@@ -278,10 +278,11 @@ go to the file PREFIX1, and so on; files of these names are written over, but wh
 given by that very name it ends with `device 902`. A text that is refused: `refused NUMBER PLACE`
 (status 2), 701 to 704 of the capture, 801 to 804 of the schedule.
 
---words tells of a refused line what it is about: of 802 what isn't there, of 803 and 804 which
-packet, and which of its fields lie outside of which class. For that the capture and the schedule
+--words says of a refused line what it is about: of 802 what isn't there, of 803 and 804 which
+packet, and which of its fields are outside of which class. For that the capture and the schedule
 are read once more, which a pipe can't be.
---progress tells on standard error, at most once a second, how many octets of the capture were read.";
+--progress prints on standard error, at most once a second, how many octets of the capture were
+read.";
 
 /// Behind the help of `lint`.
 pub const LINT: &str = "\
@@ -386,12 +387,12 @@ Members and their values:
                           prefix
   cache                   has one of \"immediateCache\", \"timeoutCache\", \"naturalCache\" and
                           \"permanentCache\", each with \"cacheLayout\"; \"maxFlows\", \"activeTimeout\",
-                          \"idleTimeout\" and \"exportInterval\" may stand there too: of these
+                          \"idleTimeout\" and \"exportInterval\" may be there too: of these
                           `once run` heeds \"maxFlows\", and an audit none
-  cacheField              \"isFlowKey\": [null] for a field of packets by which records are told apart
+  cacheField              \"isFlowKey\": [null] for a field of packets by which records are distinguished
                           (in an immediateCache each field of packets is one); octetDeltaCount and
                           packetDeltaCount must be there, 8 octets long; other elements may be, but
-                          octetTotalCount and packetTotalCount, and tell no records apart
+                          octetTotalCount and packetTotalCount, and distinguish no records
   exportMode              \"parallel\" (to all destinations), which it is where it is left out;
                           \"loadBalancing\" or \"fallback\" (to any one of them)
   destination             one of \"tcpExporter\", \"sctpExporter\" and \"udpExporter\"; a link leads from
@@ -419,15 +420,15 @@ Fields of packets, as \"ieName\" or, by the number, as \"ieId\", and their value
 Other elements:
   sourceIPv4Prefix, destinationIPv4Prefix          44, 45: in filters, matches and keys; in filters
                                                    and matches as \"10.0.0.0/9\"
-  sourceIPv6Prefix, destinationIPv6Prefix          170, 169: likewise, as \"2001:db8::/32\"
+  sourceIPv6Prefix, destinationIPv6Prefix          170, 169: also, as \"2001:db8::/32\"
   octetDeltaCount, packetDeltaCount                1, 2: in cacheField
 
 Prints `ok` (status 0) where every command would take the document; else its first fault,
 `refused NUMBER PLACE` (status 2), PLACE a JSON Pointer (RFC 6901), in which entries of lists count
 from 0.
 
---words tells the fault in sentences, and of a document that is taken what was read in silence: a
-member that stands twice, members that aren't read, a destination without a link, a cache that
+--words explains the fault in sentences, and of an accepted document what was accepted silently: a
+member that occurs twice, members that aren't read, a destination without a link, a cache that
 nothing feeds, a class that is exempt, a crossing at an interface that no observation point has, a
 path of which no observation point sees a crossing.";
 
@@ -451,7 +452,7 @@ refutation in orange the steps of its run, and in red what it comes to. A text t
 `once confirm` refuses. Where dot says `syntax error near 'refused'` or `near 'device'`, run
 `once draw .. --words` without dot.
 
---words tells what is refused in sentences. For that ANSWER is read once more, which a pipe can't
+--words explains what is refused in sentences. For that ANSWER is read once more, which a pipe can't
 be.";
 
 /// Behind the help of `sum`.
@@ -468,11 +469,11 @@ Files:
   NETWORK  JSON: the whole document, of which the report's key alone counts here; an example:
            `once help lint`
   TOTALS   lines: one or more totals as `once collect`, `once run` or `once replay` print them, one
-           directly behind the other, of networks with this report
+           directly after another, of networks with this report
 
 Lines of totals, in this order:
   keys N                         how many lines of keys follow
-  KEY packets P octets O         keys ascend, and none stands twice
+  KEY packets P octets O         keys ascend, and none occurs twice
   unassigned N                   records without the report's key
   complete yes                   or complete no; of a replay
   skipped other N malformed N    of a run over a capture
@@ -493,11 +494,11 @@ Example of totals:
 
 Prints totals again (status 0): for each key the sums of its packets and octets, `unassigned N` and,
 where one of the texts has them, `complete`, `skipped other N malformed N`, `gaps N` and
-`skipped N`, added up likewise. So what was collected apart and summed is what would have been
+`skipped N`, added up too. So what was collected apart and summed is what would have been
 collected together, in any order; and sums can be summed. A text that is refused:
 `refused 861 line N` (status 2).
 
---words tells what is refused in sentences, and what is due at that line. For that the totals are
+--words explains what is refused in sentences, and what is due at that line. For that the totals are
 read once more, which a pipe can't be: `cat totals/* > all.txt` makes a file of them.";
 
 /// Behind the help of `explain`.

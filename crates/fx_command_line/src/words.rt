@@ -92,7 +92,7 @@ pub enum Call {
     Sum {
         /// The network document.
         network: String,
-        /// The texts of totals, one behind the other.
+        /// The texts of totals, one after another.
         totals: String,
     },
     /// Explains the refusals of a number.
@@ -103,7 +103,7 @@ pub enum Call {
 }
 
 impl Drop for Call {
-    /// Lets its words go: proved once, and one call wherever one is let go.
+    /// Drops its arguments: proved once, and one call wherever a call is dropped.
     fn drop(self) {
         match self {
             Call::Replay {
@@ -429,7 +429,7 @@ fn sum_command<'a>(alloc: Global) -> Result<Command<'a>, AllocError>
         "Adds up totals of one report that were collected apart",
         help_text::SUM,
         "TOTALS",
-        "The texts of totals, one behind the other",
+        "The texts of totals, one after another",
     )
 }
 
@@ -445,7 +445,7 @@ fn explain_command<'a>(alloc: Global) -> Result<Command<'a>, AllocError>
         alloc,
         command,
         "NUMBER",
-        "A number as `refused` and `no` tell it, or `all`",
+        "A number as `refused` and `no` print it, or `all`",
     )
 }
 
