@@ -19,16 +19,16 @@ NETWORK is a JSON document of devices, links and the report, TRAFFIC one of the 
 and their paths: `once help lint` shows both whole. `once help COMMAND` says what a command's files
 are, with an example. `once explain NUMBER` says what a refusal means.
 
-Without arguments, a bundle (a command and its files in one text) is read from standard input: a line
-`audit`, `check`, `confirm` or `replay`, then its texts in their order, each with a line feed at its
-end and followed by a line `%%`:
+Without arguments, a bundle (a command and its files in one text) is read from standard input: a
+line `audit`, `check`, `confirm` or `replay`, then its texts in their order, each with a line feed at
+its end and followed by a line `%%`:
 
   (echo audit; cat network.json; echo; echo %%; cat traffic.json; echo; echo %%) | once
 
 --words, with any command or a bundle: in sentences after the answer, what it means and what to do.
 There are none after a graph, nor after what `explain` prints about a number.
---progress, with audit, collect and run: how far it has come, on standard error, at most once a
-second.
+--progress, with audit, collect and run: how far it has come, on standard error.
+It is printed at most once a second.
 
 Exit status:
   0  the answer is on standard output
@@ -389,8 +389,8 @@ Members and their values:
                           \"permanentCache\", each with \"cacheLayout\"; \"maxFlows\", \"activeTimeout\",
                           \"idleTimeout\" and \"exportInterval\" may be there too: of these
                           `once run` heeds \"maxFlows\", and an audit none
-  cacheField              \"isFlowKey\": [null] for a field of packets by which records are distinguished
-                          (in an immediateCache each field of packets is one); octetDeltaCount and
+  cacheField              \"isFlowKey\": [null] for a field of packets that distinguishes records (in an
+                          immediateCache each field of packets does); octetDeltaCount and
                           packetDeltaCount must be there, 8 octets long; other elements may be, but
                           octetTotalCount and packetTotalCount, and distinguish no records
   exportMode              \"parallel\" (to all destinations), which it is where it is left out;
