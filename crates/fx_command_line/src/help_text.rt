@@ -20,8 +20,8 @@ and their paths: `once help lint` shows both whole. `once help COMMAND` says wha
 are, with an example. `once explain NUMBER` says what a refusal means.
 
 Without arguments, a bundle (a command and its files in one text) is read from standard input: a
-line `audit`, `check`, `confirm` or `replay`, then its texts in their order, each with a line feed at
-its end and followed by a line `%%`:
+line `audit`, `check`, `confirm` or `replay`, then its texts in their order, each with a line feed
+at its end and followed by a line `%%`:
 
   (echo audit; cat network.json; echo; echo %%; cat traffic.json; echo; echo %%) | once
 
@@ -389,8 +389,8 @@ Members and their values:
                           \"permanentCache\", each with \"cacheLayout\"; \"maxFlows\", \"activeTimeout\",
                           \"idleTimeout\" and \"exportInterval\" may be there too: of these
                           `once run` heeds \"maxFlows\", and an audit none
-  cacheField              \"isFlowKey\": [null] for a field of packets that distinguishes records (in an
-                          immediateCache each field of packets does); octetDeltaCount and
+  cacheField              \"isFlowKey\": [null] for a field of packets that distinguishes records (in
+                          an immediateCache each field of packets does); octetDeltaCount and
                           packetDeltaCount must be there, 8 octets long; other elements may be, but
                           octetTotalCount and packetTotalCount, and distinguish no records
   exportMode              \"parallel\" (to all destinations), which it is where it is left out;
