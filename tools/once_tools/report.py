@@ -1,8 +1,7 @@
-"""Reports: findings with their grades as text, as JSON, or as annotations of GitHub, and the exit status they make."""
+"""Reports: findings with their grades as text or as JSON, and the exit status they make."""
 from __future__ import annotations
 
 import json
-import os
 from dataclasses import replace
 from typing import Iterable, Sequence
 
@@ -11,7 +10,6 @@ from once_tools.project import Accept
 
 NO_DOCUMENT, FAILED = 2, 5
 ORDER = [Grade.WRONG, Grade.NOT_CARRIED_OVER, Grade.WARNING, Grade.PREMISE, Grade.NOTE]
-FORMATS = ("text", "json", "github")
 LONGEST = 160
 
 
@@ -79,19 +77,6 @@ def also(lines: list[int]) -> str:
     return f" (also line{'s' if len(lines) > 1 else ''} {shown})"
 
 
-LEVELS = {Grade.WRONG: "error", Grade.NOT_CARRIED_OVER: "error", Grade.WARNING: "warning"}
-
-
-def annotation_of(finding: Finding, accepted: bool, folder: str = "") -> str:
-    """Returns a finding as a workflow command of GitHub; files are cited from `folder`."""
-    level = "notice" if accepted else LEVELS.get(finding.grade, "notice")
-    message = line_of(finding, accepted).replace("%", "%25")
-    file = os.path.normpath(os.path.join(folder, finding.place.file)) if finding.place.file else ""
-    file = printable(file).replace("%", "%25").replace(",", "%2C").replace(":", "%3A")
-    place = f" file={file},line={finding.place.line or 1}" if file else ""
-    return f"::{level}{place}::{message}"
-
-
 class Report:
     """The findings of a project, worst first, and what an answer means."""
 
@@ -130,16 +115,6 @@ class Report:
         findings = [entry_of(one, self.accepted(one)) for one in self.findings]
         document = {"status": self.status, "findings": findings, "meaning": list(self.meaning)}
         return json.dumps(document, indent=1, ensure_ascii=False) + "\n"
-
-    def github(self, folder: str = "") -> str:
-        """Returns the report as workflow commands of GitHub; files are cited from `folder`, that of the project."""
-        return "".join(annotation_of(one, self.accepted(one), folder) + "\n" for one in self.findings)
-
-    def form(self, name: str, folder: str = "") -> str:
-        """Returns the report in one of `FORMATS`."""
-        if name == "github":
-            return self.github(folder)
-        return self.json() if name == "json" else self.text()
 
 
 def of_device(findings: Iterable[Finding], device: str) -> list[Finding]:

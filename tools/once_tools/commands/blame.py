@@ -10,7 +10,8 @@ from once_tools.blame import blame
 from once_tools.commands.options import Subparsers, print_report
 from once_tools.model import Place, Unusable
 from once_tools.network_view import Json
-from once_tools.report import FORMATS, Report
+from once_tools.report import Report
+from once_tools.report_forms import FORMATS
 from once_tools.source import read_source
 
 NAME = "blame"

@@ -7,7 +7,8 @@ from pathlib import Path
 from typing import TYPE_CHECKING
 
 from once_tools.importing import Options
-from once_tools.report import FORMATS, Report
+from once_tools.report import Report
+from once_tools.report_forms import FORMATS, form as form_of
 
 if TYPE_CHECKING:
     Subparsers = argparse._SubParsersAction[argparse.ArgumentParser]
@@ -34,4 +35,4 @@ def options_of(arguments: argparse.Namespace) -> Options:
 
 def print_report(report: Report, form: str, folder: Path = Path(".")) -> None:
     """Prints a report on standard output; `folder` is that of the project."""
-    sys.stdout.write(report.form(form, str(folder)))
+    sys.stdout.write(form_of(report, form, str(folder)))
