@@ -1,10 +1,12 @@
 #!/usr/bin/env python3
-"""filter_lists.py PROGRAM: audits paths of meters whose filters are lists of networks, in order and shuffled.
+"""filter_lists.py PROGRAM: audits paths of meters whose filters are lists of networks, and mediators whose matches are, in order and shuffled.
 
 Each filter of each meter selects another network of 256 addresses, and together they are the packets of the class, so each leaf of a
 certificate has one filter and there are as many leaves as filters. `audit` must print a certificate with one split fewer than
 leaves, none of them deeper than 2 log2 of the number of filters, plus 2, in whatever order the filters come; each leaf must name
 the filter of its network; and `check` must say yes. With one filter less, `audit` must print a refutation that `confirm` confirms.
+So it must with a meter that counts all packets and collecting processes of a mediator, to each of which it sends, whose aggregations
+each take in the records of another network.
 
 Prints a line for each that fails, and last `N passed, M failed`; the exit status is 1 if one failed. It takes some seconds.
 """
@@ -21,6 +23,8 @@ from verdict import report_named
 
 # How many meters, how many filters each has, and how they stand.
 LISTS = [(1, 64, "ascending"), (9, 64, "ascending"), (4, 250, "ascending"), (4, 250, "descending"), (4, 250, "shuffled"), (2, 3, "shuffled")]
+# How many collecting processes a mediator has, how many aggregations each has, and how they stand.
+MATCHES = [(1, 256, "ascending"), (1, 256, "descending"), (1, 256, "shuffled"), (3, 200, "ascending"), (3, 200, "descending"), (3, 200, "shuffled")]
 FIRST = int(ipaddress.ip_address("10.0.0.0"))
 SIZE = 256
 
@@ -39,33 +43,73 @@ def field(name, is_key):
     return {"name": name, "ieName": name, **({"isFlowKey": [None]} if is_key else {})}
 
 
+def prefix_of(number):
+    """Returns a network by its number, as a prefix."""
+    return f"{ipaddress.ip_address(FIRST + number * SIZE)}/24"
+
+
 def selection(number):
     """Returns a selection process of a network."""
-    prefix = f"{ipaddress.ip_address(FIRST + number * SIZE)}/24"
+    prefix = prefix_of(number)
     tests = (("ipVersion", "4"), ("sourceIPv4Prefix", prefix))
     matches = [{"name": name, "filterMatch": {"ieName": name, "value": value}} for name, value in tests]
     return {"name": prefix, "selector": matches, "cache": "sources"}
 
 
-def meter(name, numbers):
-    """Returns a device that counts packets by source, from these networks."""
-    selections = [selection(it) for it in numbers]
+def exporter(destinations):
+    """Returns an exporting process with these destinations."""
+    there = [{"name": it, "udpExporter": {"destinationIPAddress": "192.0.2.1", "destinationPort": 4739}} for it in destinations]
+    return {"name": "out", "exportMode": "parallel", "destination": there}
+
+
+def device(name, parts):
+    return {"name": name, "config": {"ietf-ipfix-psamp:ipfix": parts}}
+
+
+def metering(name, selections, destinations):
+    """Returns a device that counts packets by source, with these selection processes, and sends to these destinations."""
     fields = [field("sourceIPv4Address", True), field("octetDeltaCount", False), field("packetDeltaCount", False)]
     point = {"name": "in", "observationDomainId": 1, "ifName": ["eth0"], "direction": "ingress", "selectionProcess": [it["name"] for it in selections]}
     cache = {"name": "sources", "timeoutCache": {"maxFlows": 1000, "activeTimeout": 60, "cacheLayout": {"cacheField": fields}}, "exportingProcess": ["out"]}
-    destination = {"name": "collector", "udpExporter": {"destinationIPAddress": "192.0.2.1", "destinationPort": 4739}}
-    exporter = {"name": "out", "exportMode": "parallel", "destination": [destination]}
-    parts = {"observationPoint": [point], "selectionProcess": selections, "cache": [cache], "exportingProcess": [exporter]}
-    return {"name": name, "config": {"ietf-ipfix-psamp:ipfix": parts}}
+    return device(name, {"observationPoint": [point], "selectionProcess": selections, "cache": [cache], "exportingProcess": [exporter(destinations)]})
+
+
+def meter(name, numbers):
+    """Returns a device that counts packets by source, from these networks."""
+    return metering(name, [selection(it) for it in numbers], ["collector"])
+
+
+def aggregation(number):
+    """Returns an aggregation that takes in the records of a network."""
+    prefix = prefix_of(number)
+    return {"name": prefix, "key": [{"ieName": "sourceIPv4Address"}], "match": [{"ieName": "sourceIPv4Prefix", "value": prefix}], "exportingProcess": ["out"]}
+
+
+def link(name, destination, to, process):
+    return {"device": name, "exportingProcess": "out", "destination": destination, "toDevice": to, "toProcess": process}
+
+
+def collecting(devices, links):
+    """Returns the document of a network of these devices and a collector that reports."""
+    collector = device("collector", {"collectingProcess": [{"name": "records"}]})
+    report = {"device": "collector", "collectingProcess": "records", "key": [{"ieName": "sourceIPv4Address"}]}
+    return {"devices": [*devices, collector], "links": links, "report": report}
 
 
 def network(lists):
     """Returns the document of a network of meters with these lists of networks."""
     names = [f"meter {it}" for it in range(len(lists))]
-    collector = {"name": "collector", "config": {"ietf-ipfix-psamp:ipfix": {"collectingProcess": [{"name": "records"}]}}}
-    links = [{"device": it, "exportingProcess": "out", "destination": "collector", "toDevice": "collector", "toProcess": "records"} for it in names]
-    report = {"device": "collector", "collectingProcess": "records", "key": [{"ieName": "sourceIPv4Address"}]}
-    return {"devices": [*map(meter, names, lists), collector], "links": links, "report": report}
+    return collecting(map(meter, names, lists), [link(it, "collector", "collector", "records") for it in names])
+
+
+def mediated(lists):
+    """Returns the document of a network of a meter that counts all packets and a mediator with a collecting process for each list of networks."""
+    everything = {"name": "all", "selector": [{"name": "all", "selectAll": [None]}], "cache": "sources"}
+    names = [f"records {it}" for it in range(len(lists))]
+    processes = [{"name": name, "once-audit:aggregation": [aggregation(it) for it in numbers]} for name, numbers in zip(names, lists)]
+    mediator = device("mediator", {"collectingProcess": processes, "exportingProcess": [exporter(["collector"])]})
+    links = [*(link("meter 0", it, "mediator", it) for it in names), link("mediator", "collector", "collector", "records")]
+    return collecting([metering("meter 0", [everything], names), mediator], links)
 
 
 def traffic(meters, count):
@@ -105,42 +149,67 @@ def written(folder, name, value):
     return path
 
 
-def certificate_faults(program, folder, documents, lists, count):
-    """Yields what is wrong with the answer where each network has a filter."""
+def certificate_faults(program, folder, documents, wanted):
+    """Yields what is wrong with the answer where each network is counted, by what its leaf should say."""
     answer = answered(program, "audit", *documents)
     if answer.returncode:
         yield f"audit ends with {answer.returncode}: {answer.stdout[:40]!r}"
         return
-    leaves, deepest = leaves_of(answer.stdout, count)
-    wanted = {number: (str(at + 1), "1", str(place + 1)) for at, numbers in enumerate(lists) for place, number in enumerate(numbers)}
+    leaves, deepest = leaves_of(answer.stdout, len(wanted))
     if leaves != sorted(wanted.items()):
         yield "the leaves do not name the filters of their networks"
-    if deepest > 2 * math.log2(count) + 2:
-        yield f"a split of depth {deepest} for {count} filters"
+    if deepest > 2 * math.log2(len(wanted)) + 2:
+        yield f"a split of depth {deepest} for {len(wanted)} networks"
     said = answered(program, "check", *documents, written(folder, "certificate.txt", answer.stdout)).stdout
     if said != "yes\n":
         yield f"check says {said[:40]!r}"
 
 
 def refutation_faults(program, folder, documents):
-    """Yields what is wrong with the answer where a network has no filter."""
+    """Yields what is wrong with the answer where a network is not counted."""
     answer = answered(program, "audit", *documents)
     if answer.returncode != 1:
-        yield f"audit without a filter ends with {answer.returncode}"
+        yield f"audit with a network less ends with {answer.returncode}"
     said = answered(program, "confirm", *documents, written(folder, "refutation.txt", answer.stdout)).stdout
     if not said.startswith("refuted\n"):
         yield f"confirm says {said[:40]!r}"
 
 
+def documents_of(folder, made, meters, count):
+    """Writes the network and the traffic, and returns their files."""
+    return written(folder, "network.json", made), written(folder, "traffic.json", traffic(meters, count))
+
+
+def lists_of(count, size, order):
+    """Returns the numbers of the networks in `count` lists of this size each."""
+    numbers = networks_of(count * size, order)
+    return [numbers[it * size:(it + 1) * size] for it in range(count)]
+
+
 def faults_of(program, folder, meters, filters, order):
     """Yields what is wrong with the audits of such a path."""
-    count = meters * filters
-    numbers = networks_of(count, order)
-    lists = [numbers[it * filters:(it + 1) * filters] for it in range(meters)]
-    documents = written(folder, "network.json", network(lists)), written(folder, "traffic.json", traffic(meters, count))
-    yield from certificate_faults(program, folder, documents, lists, count)
-    written(folder, "network.json", network([*lists[:-1], lists[-1][:-1]]))
-    yield from refutation_faults(program, folder, documents)
+    count, lists = meters * filters, lists_of(meters, filters, order)
+    wanted = {number: (str(at + 1), "1", str(place + 1)) for at, numbers in enumerate(lists) for place, number in enumerate(numbers)}
+    yield from certificate_faults(program, folder, documents_of(folder, network(lists), meters, count), wanted)
+    fewer = network([*lists[:-1], lists[-1][:-1]])
+    yield from refutation_faults(program, folder, documents_of(folder, fewer, meters, count))
+
+
+def faults_of_matches(program, folder, processes, matches, order):
+    """Yields what is wrong with the audits of such a mediator."""
+    count, lists = processes * matches, lists_of(processes, matches, order)
+    wanted = {number: ("1", "1", "1") for number in range(count)}
+    yield from certificate_faults(program, folder, documents_of(folder, mediated(lists), 1, count), wanted)
+    fewer = mediated([*lists[:-1], lists[-1][:-1]])
+    yield from refutation_faults(program, folder, documents_of(folder, fewer, 1, count))
+
+
+def cases(program, folder):
+    """Yields the name of each case, and what is wrong with it."""
+    for meters, filters, order in LISTS:
+        yield f"{meters} meters of {filters} filters, {order}", faults_of(program, folder, meters, filters, order)
+    for processes, matches, order in MATCHES:
+        yield f"{processes} collecting processes of {matches} matches, {order}", faults_of_matches(program, folder, processes, matches, order)
 
 
 def main(arguments):
@@ -148,7 +217,7 @@ def main(arguments):
         sys.exit(__doc__)
     with tempfile.TemporaryDirectory() as folder:
         program = os.path.abspath(arguments[0])
-        return report_named((f"{meters} meters of {filters} filters, {order}", faults_of(program, folder, meters, filters, order)) for meters, filters, order in LISTS)
+        return report_named(cases(program, folder))
 
 
 if __name__ == "__main__":

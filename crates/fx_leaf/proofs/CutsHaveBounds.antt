@@ -5,13 +5,13 @@ use Rattle.fx_elements.specs.declared.axis.Axis.{Axis}
 use Rattle.fx_elements.specs.declared.axis.Axis.TheVariants.{Source}
 use Rattle.fx_elements.specs.Axes.{Fields, axes, axis_count, axis_index}
 use Rattle.fx_elements.proofs.EveryAxis.{axis_at, index_below, on_none}
-use Rattle.fx_boxes.specs.Boxes.{Bounds, IsRegion, Holds}
+use Rattle.fx_boxes.specs.Boxes.{Bounds, IsRegion, IsInside, IsDisjoint, Holds}
 use Rattle.fx_tables.specs.declared.aggregation.MatchEntry.{MatchEntry}
 use Rattle.fx_leaf.specs.declared.regions.Overlap.TheVariants.{Whole, Part, Nothing}
 use Rattle.fx_leaf.specs.SoundLeaves.{matches_packet}
 use Rattle.fx_leaf.specs.Splits.{IsBound, IsSplitBy, NoSplitBy}
 use Rattle.fx_leaf.specs.Overlaps.{low_at, high_at, common, is_empty, is_within, region_overlap, match_fields}
-use Rattle.fx_leaf.proofs.OverlapsAreRight.{In, not_all_of, one_of, not_below, common_low, common_high, common_left, common_right, match_in, match_out, all_in, to_in, from_in}
+use Rattle.fx_leaf.proofs.OverlapsAreRight.{In, not_all_of, one_of, not_below, common_low, common_high, common_left, common_right, match_in, match_out, all_in, to_in, from_in, cut_overlap}
 
 -- nothing splits on any axis
 pub on_each : (region other : Bounds) → ((k : ℕ) → k < axis_count → NoSplitBy region other (get_or axes k Source)) → (axis : Axis) → NoSplitBy region other axis
@@ -102,3 +102,23 @@ none_cut region es e h = let k : Nothing ≡ Part = e ∙ h in absurd (cc)
 pub no_split : (region left : Bounds) (es : List MatchEntry) (o : Option (Axis × ℕ)) → region_overlap region left ≡ region_overlap region (match_fields es) → IfNone o (region_overlap region left ≡ Part → ⊥) → IfNone o (region_overlap region (match_fields es) ≡ Part → ⊥)
 no_split region left es None e h = λ k. h (e ∙ k)
 no_split region left es (Some s) e h = tt
+
+-- what overlaps a region and has a bound strictly inside it cuts the region
+pub overlap_cut : (region other : Bounds) (axis : Axis) (at : ℕ) → IsRegion region → (IsDisjoint region other → ⊥) → IsSplitBy region other axis at → region_overlap region other ≡ Part
+overlap_cut region other axis at r some by = cut_overlap region other some (λ inside. out inside by.bound)
+  where
+    low_held : Holds region region.low
+    low_held k lt = let bounds = r k lt in (omega arith, bounds.0)
+
+    high_held : Holds region region.high
+    high_held k lt = let bounds = r k lt in (bounds.0, omega arith)
+
+    out : IsInside region other → IsBound other axis at → ⊥
+    out inside (inl e) =
+        let m = (to_in other region.low (inside region.low low_held)).low axis in
+        let below = by.inside.0 in
+        absurd (omega (arith, e, m, below))
+    out inside (inr e) =
+        let m = (to_in other region.high (inside region.high high_held)).high axis in
+        let above = by.inside.1 in
+        absurd (omega (arith, e, m, above))

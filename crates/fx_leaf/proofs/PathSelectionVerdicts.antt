@@ -5,7 +5,7 @@ use Rattle.std.proofs.lemmas.List.{take_more}
 use Rattle.std.proofs.lemmas.List.Elements.{Contains-append_left, Contains-append_right, Contains-append_cases}
 use Rattle.std.proofs.lemmas.List.Sorted.{IsPermutation-map, IsPermutation-sym, Contains-permutation}
 use Rattle.fx_elements.specs.declared.axis.Axis.{Axis}
-use Rattle.fx_boxes.specs.Boxes.{Bounds, IsRegion}
+use Rattle.fx_boxes.specs.Boxes.{Bounds, IsDisjoint, IsRegion}
 use Rattle.fx_tables.specs.declared.observation.Selection.{Selection}
 use Rattle.fx_tables.specs.declared.traffic.Crossing.{Crossing}
 use Rattle.fx_tables.specs.Network.{Net, Point, points_of}
@@ -21,6 +21,7 @@ use Rattle.fx_leaf.specs.PathSelections.{PathSelection, point_selections, watchi
 use Rattle.fx_leaf.specs.Splits.{Meets, IsSplit, IsSplitBy, joint_verdict}
 use Rattle.fx_leaf.specs.Splits.IsSplit.{of_selection}
 use Rattle.fx_leaf.specs.Verdicts.{Verdict, VerdictAt, SelectionVerdict, verdict, verdict_of_both, verdict_of_all, overlap_verdict, holder_verdict, selection_verdicts, point_verdicts, crossing_verdicts, path_verdicts, path_verdict, verdicts_of, last_counter}
+use Rattle.fx_leaf.proofs.CutsHaveBounds.{overlap_cut}
 use Rattle.fx_leaf.proofs.CountedOnce.{one_counter, the_counter, in_any_order}
 use Rattle.fx_leaf.proofs.JoinedVerdicts.{never_joined}
 use Rattle.fx_leaf.proofs.OverlapsAreRight.{disjoint_overlap, region_overlap_is}
@@ -218,3 +219,14 @@ on_ok_more P Q (Err e) f h = tt
 -- a bound of what cuts the region splits it
 pub split_by_cut : (net : Net) (path : List Crossing) (region other : Bounds) (s : Selection) (axis : Axis) (at : ℕ) → IsRegion region → s.holder ≢ None → s.region ≡ Some other → region_overlap region other ≡ Part → IsSplitBy region other axis at → Meets net path s → IsSplit net path region axis at
 split_by_cut net path region other s axis at r cached selected cut by meets = of_selection s other meets cached selected ((region_overlap_is region other r).part cut) by
+
+-- a bound strictly inside the region, of what isn't apart from it, splits it
+pub split_by_bound : (net : Net) (path : List Crossing) (region other : Bounds) (s : Selection) (axis : Axis) (at : ℕ) → IsRegion region → (IsApart region s → ⊥) → s.region ≡ Some other → IsSplitBy region other axis at → Meets net path s → IsSplit net path region axis at
+split_by_bound net path region other s axis at r near selected by meets =
+    split_by_cut net path region other s axis at r (λ none. near (inl none)) selected (overlap_cut region other axis at r overlaps by) by meets
+  where
+    overlaps : IsDisjoint region other → ⊥
+    overlaps apart = near (inr (λ x is.
+        let both : Some other ≡ Some x = sym selected ∙ is in
+        let same : other ≡ x = cc in
+        subst (IsDisjoint region) same apart))

@@ -9,7 +9,8 @@ use Rattle.fx_leaf.specs.declared.regions.Overlap.TheVariants.{Whole, Part}
 use Rattle.fx_leaf.specs.declared.cause.Cause.{Cause}
 use Rattle.fx_leaf.specs.declared.cause.Cause.TheVariants.{Split, Behind}
 use Rattle.fx_leaf.specs.SoundLeaves.{Reached}
-use Rattle.fx_leaf.specs.Splits.{IsSplitBy}
+use Rattle.fx_leaf.specs.declared.split.MatchCut.{MatchCut}
+use Rattle.fx_leaf.specs.Splits.{IsSplit, IsSplitBy}
 use Rattle.fx_leaf.specs.Overlaps.{region_overlap, match_fields}
 use Rattle.fx_leaf.specs.Tables.{Tables, Table, number_of_layout, entry}
 use Rattle.fx_leaf.specs.Verdicts.{layout_reads}
@@ -73,3 +74,8 @@ pub record Starts (t : Tables) (region : Bounds) (path : List Crossing) (process
 -- there is such a layout, and no verdict on it there
 abbrev pub HasNoVerdict : Tables → Table → ℕ → ℕ → Type 0
 HasNoVerdict t table process number = (entry table process number ≡ None) × ((layout : Layout) × (slice_get t.numbering.layouts number ≡ Some layout))
+
+-- a record of the region's packets comes to where a match cuts the region, at a bound of it
+pub record IsCutBy (t : Tables) (path : List Crossing) (region : Bounds) (cut : MatchCut) : Type 0 where
+  pub starts : Starts t region path cut.process cut.number
+  pub splits : IsSplit t.net path region cut.axis cut.at

@@ -1,24 +1,23 @@
 //! The split that halves what cuts a region.
-ghost use Rattle.std.specs.Prelude.{◌≡◌, ◌≢◌, ◌⊎◌, ℕ, List, None, Some, Contains, IfOk, IfSome, OnOk};
-ghost use Rattle.fx_boxes.specs.Boxes.{IsRegion};
+ghost use Rattle.std.specs.Prelude.{◌≡◌, ◌⊎◌, ◌<◌, ℕ, List, Some, Contains, length, slice_index_or, IfOk, IfSome, OnOk};
 ghost use Rattle.fx_tables.specs.Network.{Net};
 ghost use Rattle.fx_tables.specs.declared.traffic.Crossing.{Crossing};
-ghost use Rattle.fx_leaf.specs.declared.regions.Overlap.TheVariants as overlap;
-ghost use Rattle.fx_leaf.specs.Overlaps as overlaps;
-ghost use Rattle.fx_leaf.specs.PathSelections.{PathSelection as OfSelection};
+ghost use Rattle.fx_leaf.specs.PathSelections as of_path;
 ghost use Rattle.fx_leaf.specs.Splits as splits;
 
 use crate::path_selections::PathSelection;
-use crate::regions::{Overlap, bounds_hold, region_overlap};
+use crate::regions::bounds_hold;
 use fx_boxes::Region;
 use fx_elements::{AXES, Axis, EVERY_AXIS};
-use fx_tables::Selection;
 use std::alloc::{AllocError, Global};
+
+/// An axis is chosen by at most this many selection processes, and at least half of it, where there are as many.
+const SAMPLE: usize = 32;
 
 /// Room for the bounds of one axis that cut a region.
 #[derive(Debug, Drop)]
 pub struct CutBounds {
-    values: Vec<u128>,
+    pub(crate) values: Vec<u128>,
 }
 
 impl CutBounds {
@@ -27,24 +26,6 @@ impl CutBounds {
         CutBounds {
             values: Vec::new(alloc),
         }
-    }
-}
-
-/// The region that a selection process selects, if the process has a cache and the region cuts this one.
-fn cutting<'s>(region: &Region, selection: &'s Selection) -> Option<&'s Region>
-    ensures { IfSome result (λ other. (selection.now.holder ≢ None)
-        × (selection.now.region ≡ Some other.now)
-        × (overlaps.region_overlap region.now other.now ≡ overlap.Part)) }
-{
-    if selection.holder.is_none() {
-        return None;
-    }
-    match &selection.region {
-        None => None,
-        Some(other) => match region_overlap(region, other) {
-            Overlap::Part => Some(other),
-            _ => None,
-        },
     }
 }
 
@@ -72,30 +53,40 @@ fn high_bound(region: &Region, other: &Region, axis: Axis) -> Option<u128>
     }
 }
 
-/// Adds how many bounds of the other region are strictly inside the region, by axis.
-fn count_bounds(counts: &mut [u64; AXES], region: &Region, other: &Region) {
-    for axis in EVERY_AXIS {
-        let bounds = u64::from(low_bound(region, other, axis).is_some())
-            + u64::from(high_bound(region, other, axis).is_some());
-        let count = &mut counts[axis.index()];
-        *count = count.saturating_add(bounds);
+/// Adds how many bounds of the other region, which overlaps the region, are strictly inside it, by axis.
+pub(crate) fn count_bounds(counts: &mut [u64; AXES], region: &Region, other: &Region) {
+    let least = region.corner();
+    let most = region.far_corner();
+    let low = other.corner();
+    let high = other.far_corner();
+    for k in 0..AXES {
+        let bounds = u64::from(least.value_at(k) < low.value_at(k))
+            + u64::from(high.value_at(k) < most.value_at(k));
+        counts[k] = counts[k].saturating_add(bounds);
     }
 }
 
-/// How many bounds of what cuts the region are strictly inside it, by axis.
-fn count_by_axis(selections: &[PathSelection<'_>], region: &Region) -> [u64; AXES] {
+/// How many bounds of selection processes that overlap the region are strictly inside it, by axis: of `many` at most, every
+/// `step`th.
+fn count_by_axis(
+    selections: &[PathSelection<'_>],
+    region: &Region,
+    many: usize,
+    step: usize,
+) -> [u64; AXES] {
     let mut counts = [0; AXES];
-    for place in 0..selections.len() {
-        let met = &selections[place];
-        if let Some(other) = cutting(region, met.selection) {
-            count_bounds(&mut counts, region, other);
+    for k in 0..many {
+        if let Some(met) = selections.get(k.saturating_mul(step)) {
+            if let Some(other) = &met.selection.region {
+                count_bounds(&mut counts, region, other);
+            }
         }
     }
     counts
 }
 
-/// The axis with the most, the first of them if there are several.
-fn axis_with_most(counts: &[u64; AXES]) -> Axis {
+/// The axis with the greatest count, the first of them if there are several.
+pub(crate) fn axis_with_most(counts: &[u64; AXES]) -> Axis {
     let mut most = Axis::Source;
     for axis in EVERY_AXIS {
         if counts[axis.index()] > counts[most.index()] {
@@ -103,6 +94,18 @@ fn axis_with_most(counts: &[u64; AXES]) -> Axis {
         }
     }
     most
+}
+
+/// The axis on which most bounds of these selection processes, which overlap the region, are strictly inside it, by a
+/// sample of them; by all of them, if those of the sample have none.
+fn axis_to_split(selections: &[PathSelection<'_>], region: &Region) -> Axis {
+    let step = selections.len() / SAMPLE + 1;
+    let counts = count_by_axis(selections, region, SAMPLE, step);
+    let axis = axis_with_most(&counts);
+    if counts[axis.index()] != 0 {
+        return axis;
+    }
+    axis_with_most(&count_by_axis(selections, region, selections.len(), 1))
 }
 
 /// Adds a bound, if there is one.
@@ -117,7 +120,7 @@ fn push_bound(values: &mut Vec<u128>, bound: Option<u128>) -> Result<(), AllocEr
 }
 
 /// Adds the bounds of the other region on an axis that are strictly inside the region.
-fn push_bounds(
+pub(crate) fn push_bounds(
     values: &mut Vec<u128>,
     region: &Region,
     other: &Region,
@@ -130,15 +133,19 @@ fn push_bounds(
     push_bound(values, high_bound(region, other, axis))
 }
 
-/// Collects the bounds on an axis of what cuts the region, where they are strictly inside it.
+/// Collects the bounds on an axis of these selection processes, none of which is apart from the region, where they are
+/// strictly inside it.
 fn collect_bounds(
     values: &mut Vec<u128>,
     selections: &[PathSelection<'_>],
     region: &Region,
     axis: Axis,
 ) -> Result<(), AllocError>
+    requires { (k : ℕ) (d : of_path.PathSelection) → k < length selections.now
+        → of_path.IsApart region.now (slice_index_or selections.now k d).selection → ⊥ }
     ensures { OnOk result ((net : Net) (path : List Crossing) (at : ℕ)
-        → ((s : OfSelection) → Contains selections.now s → splits.Meets net path s.selection)
+        → ((s : of_path.PathSelection) → Contains selections.now s
+        → splits.Meets net path s.selection)
         → Contains values.new.items at → splits.IsSplit net path region.now axis at) }
 {
     // For the prover alone: the bounds of a region hold.
@@ -146,7 +153,7 @@ fn collect_bounds(
     values.clear();
     for place in 0..selections.len() {
         let met = &selections[place];
-        if let Some(other) = cutting(region, met.selection) {
+        if let Some(other) = &met.selection.region {
             push_bounds(values, region, other, axis)?;
         }
     }
@@ -154,33 +161,33 @@ fn collect_bounds(
 }
 
 /// The value in the middle of all, in ascending order, if there is any.
-fn median(values: &mut [u128]) -> Option<u128>
+pub(crate) fn median(values: &mut [u128]) -> Option<u128>
     ensures { IfSome result (Contains values.old) }
 {
     values.sort_unstable();
     values.get(values.len() / 2).copied()
 }
 
-/// Where to split a region that one of these selection processes may cut: at the bound in the middle of those on the axis
-/// that has the most, which halves them; at `other`, if there is none.
+/// The bound that halves those of these selection processes, none of which is apart from the region: the one in the
+/// middle of those on the axis that has the most. None where none of them cuts the region.
 ///
 /// Fails where memory runs out.
-pub(crate) fn halving_bound(
+pub(crate) fn halving_selections(
     bounds: &mut CutBounds,
     selections: &[PathSelection<'_>],
     region: &Region,
-    other: (Axis, u128),
-) -> Result<(Axis, u128), AllocError>
-    ensures { IfOk result (λ s. (net : Net) (path : List Crossing)
-        → ((each : OfSelection) → Contains selections.now each
+) -> Result<Option<(Axis, u128)>, AllocError>
+    requires { (k : ℕ) (d : of_path.PathSelection) → k < length selections.now
+        → of_path.IsApart region.now (slice_index_or selections.now k d).selection → ⊥ }
+    ensures { IfOk result (λ o. IfSome o (λ s. (net : Net) (path : List Crossing)
+        → ((each : of_path.PathSelection) → Contains selections.now each
         → splits.Meets net path each.selection)
-        → splits.IsSplit net path region.now other.0 other.1
-        → splits.IsSplit net path region.now s.0 s.1) }
+        → splits.IsSplit net path region.now s.0 s.1)) }
 {
-    let axis = axis_with_most(&count_by_axis(selections, region));
+    let axis = axis_to_split(selections, region);
     collect_bounds(&mut bounds.values, selections, region, axis)?;
     match median(&mut bounds.values) {
-        Some(at) => Ok((axis, at)),
-        None => Ok(other),
+        Some(at) => Ok(Some((axis, at))),
+        None => Ok(None),
     }
 }

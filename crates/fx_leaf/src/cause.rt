@@ -27,7 +27,11 @@ pub(crate) enum Cause {
 
 impl Verdicts<'_, '_> {
     /// The place of the collecting process to which a destination leads, if there is no verdict there.
-    fn cause_at_destination(&self, number: usize, destination: Option<usize>) -> Option<usize>
+    pub(crate) fn cause_at_destination(
+        &self,
+        number: usize,
+        destination: Option<usize>,
+    ) -> Option<usize>
         ensures some { let net = self.now.tables.now.net in
             let table = self.now.rows.now in
             IfSome result (λ process. by_cause.LeadsOn table net number

@@ -56,7 +56,7 @@ pub fn exactly_once()
     ensures modulo { the_laws.TheoremModulo }
 {}
 
-/// The verdict on a region, which is worked out by layouts alone, tells whether something cuts the region, which
+/// The verdict on a region, which is worked out by layouts alone, says whether something cuts the region, which
 /// fate its packets have, and which leaf is sound.
 pub fn verdicts_judge_regions()
     // Where there is no verdict, something cuts the region.

@@ -9,6 +9,8 @@ mod entry;
 mod judgement;
 mod laws;
 mod leaf;
+mod match_bounds;
+mod middle;
 mod path;
 mod path_scratch;
 mod path_selections;

@@ -23,14 +23,14 @@ use fx_tables::{Crossing, Point, Selection};
 /// What is known of the packets, from the selection processes that were met. None of them cuts the region.
 #[derive(Clone, Copy)]
 pub(crate) struct PathFate {
-    /// What comes of all of them together.
+    /// How often all of them together count a packet.
     pub(crate) fate: Fate,
     /// The last of them by which a packet is counted once.
     pub(crate) counted: Option<Counted>,
 }
 
 impl PathFate {
-    /// A selection process more: what comes of it, and its numbers.
+    /// What is known with one more selection process: how often it counts a packet, and its numbers.
     fn with(self, fate: Fate, numbers: Counted) -> PathFate
         ensures { leaves.AddsVerdicts self result
             (record {

@@ -13,7 +13,7 @@ ghost use Rattle.fx_leaf.specs.Tables as by_table;
 ghost use Rattle.fx_leaf.specs.Tables.{Tables as TableView};
 ghost use Rattle.fx_leaf.specs.Verdicts as verdicts;
 
-use crate::balance::{CutBounds, halving_bound};
+use crate::balance::{CutBounds, halving_selections};
 use crate::judgement::{Judgement, judgement_of};
 use crate::leaf::{Counted, leaf_of, never_of};
 use crate::path::{PathFate, PathReader};
@@ -93,7 +93,7 @@ impl<'a> PathScratch<'a> {
         })
     }
 
-    /// Makes room for the selection processes of a path too. After it no path is begun.
+    /// Makes room for the selection processes of a path too.
     ///
     /// Fails with 900, at no place, where memory runs out.
     pub fn reserve(&mut self, tables: &Tables<'_>, path: &[Crossing]) -> Result<(), Fault>
@@ -194,6 +194,8 @@ impl<'a> PathScratch<'a> {
         ensures ok { IfOk result (leaves.IsPathFate tables.now.net path.now region.now) }
         ensures err { IfErr result (λ s. splits.IsSplit tables.now.net path.now region.now s.0
             s.1) }
+        ensures filled { reach.IsFilled tables.now.net tables.now.numbering region.now
+            self.new.marks self.new.table }
         ensures begun { path_tables.IsPathBegun tables.now path.now self.new }
         ensures room { path_tables.HasProcessRoom tables.now self.new }
         ensures kept { self.new.selections ≡ self.old.selections }
@@ -285,6 +287,8 @@ impl<'a> PathScratch<'a> {
         requires begun { path_tables.IsPathBegun tables.now path.now self.old }
         requires narrowed { of_path.IsNarrowed self.old.selections region.now active }
         ensures judged { judgements.IsJudged tables.now.net path.now region.now result }
+        ensures filled { reach.IsFilled tables.now.net tables.now.numbering region.now
+            self.new.marks self.new.table }
         ensures begun { path_tables.IsPathBegun tables.now path.now self.new }
         ensures room { path_tables.HasProcessRoom tables.now self.new }
         ensures kept { self.new.selections ≡ self.old.selections }
@@ -295,26 +299,47 @@ impl<'a> PathScratch<'a> {
         judgement_of(self.path_verdict(tables, path, region, active))
     }
 
-    /// Where to split a region that is cut at `other`, so that the split halves what cuts the region: at the bound in the middle
-    /// of those on the axis that has the most, among the first `active` selection processes; at `other` itself, if none
-    /// of them cuts the region.
+    /// Where to split a region that is cut at `other`, so that the split halves what cuts the region: at the bound in the
+    /// middle of those on the axis that has the most. The bounds are those of the first `active` selection processes, or,
+    /// where none of these cuts the region, of the matches that cut it at one collecting process. The verdicts on the
+    /// region's packets are worked out.
     ///
     /// Fails with 900, at no place, where memory runs out.
     pub fn halving_bound(
         &self,
         bounds: &mut CutBounds,
+        tables: &Tables<'_>,
+        path: &[Crossing],
         region: &Region,
         active: usize,
         other: (Axis, u128),
     ) -> Result<(Axis, u128), Fault>
-        ensures ok { IfOk result (λ s. (t : TableView) (path : List OfCrossing)
-            → path_tables.IsPathBegun t path self.now
-            → splits.IsSplit t.net path region.now other.0 other.1
-            → splits.IsSplit t.net path region.now s.0 s.1) }
+        requires tables { by_table.AreTables tables.now }
+        requires begun { path_tables.IsPathBegun tables.now path.now self.now }
+        requires filled { reach.IsFilled tables.now.net tables.now.numbering region.now
+            self.now.marks self.now.table }
+        requires overlapping { (k : ℕ) (d : of_path.PathSelection) → k < active
+            → of_path.IsApart region.now (slice_index_or self.now.selections k d).selection → ⊥ }
+        ensures ok { IfOk result (λ s. splits.IsSplit tables.now.net path.now region.now
+            other.0 other.1 → splits.IsSplit tables.now.net path.now region.now s.0 s.1) }
         ensures err { IfErr result IsMemory }
     {
+        // For the prover alone: the bounds of a region hold.
+        bounds_hold(region);
         let active = active.min(self.selections.len());
         let selections = &self.selections.as_slice()[..active];
-        Ok(halving_bound(bounds, selections, region, other)?)
+        if let Some(split) = halving_selections(bounds, selections, region)? {
+            return Ok(split);
+        }
+        let verdicts = Verdicts {
+            tables,
+            rows: &self.rows,
+            region,
+        };
+        let reader = PathReader {
+            verdicts,
+            marks: &self.marks,
+        };
+        Ok(reader.halving_match(bounds, selections, other)?)
     }
 }

@@ -86,7 +86,9 @@ fn narrow(selections: &mut [PathSelection<'_>], region: &Region, active: usize) 
 }
 
 impl<'a> PathSelections<'a> {
-    /// Room for so many selection processes, and none of them.
+    /// Returns room for `room` selection processes, and none of them.
+    ///
+    /// Fails where memory runs out.
     pub(crate) fn new(alloc: Global, room: usize) -> Result<PathSelections<'a>, AllocError>
         ensures { IfOk result (λ s. (s.items ≡ []) × (s.room ≡ room)) }
     {
@@ -95,7 +97,9 @@ impl<'a> PathSelections<'a> {
         })
     }
 
-    /// Makes room for so many.
+    /// Makes room for `count` selection processes.
+    ///
+    /// Fails where memory runs out.
     pub(crate) fn reserve(&mut self, count: usize) -> Result<(), AllocError>
         ensures ok { OnOk result (count ≤ self.new.room) }
         ensures more { self.old.room ≤ self.new.room }

@@ -25,16 +25,28 @@ use fx_boxes::Region;
 use fx_elements::Axis;
 use fx_tables::{Crossing, Selection};
 
+/// A match that cuts a region.
+#[derive(Clone, Copy)]
+pub(crate) struct MatchCut {
+    /// The place of its collecting process, from 0.
+    pub(crate) process: usize,
+    /// The number of the layout of the records that come there, from 0.
+    pub(crate) number: usize,
+    /// The axis of a bound of the match that is strictly inside the region.
+    pub(crate) axis: Axis,
+    /// That bound: the least value of the upper part.
+    pub(crate) at: u128,
+}
+
 impl PathReader<'_, '_> {
-    /// Where what cuts the region behind a collecting process splits it.
-    fn split_behind(&self, process: usize, number: usize) -> Option<(Axis, u128)>
+    /// The match that cuts the region behind a collecting process.
+    pub(crate) fn cut_behind(&self, process: usize, number: usize) -> Option<MatchCut>
         requires tables { by_table.AreTables self.now.verdicts.tables.now }
         requires marked { reach.IsMarked self.now.marks.now process number }
         ensures some { let t = self.now.verdicts.tables.now in
             let region = self.now.verdicts.region.now in
-            IfSome result (λ s. (path : List of_crossing.Crossing)
-            → by_cause.Starts t region path process number
-            → splits.IsSplit t.net path region s.0 s.1) }
+            IfSome result (λ cut. (path : List of_crossing.Crossing)
+            → by_cause.Starts t region path process number → by_cause.IsCutBy t path region cut) }
         ensures none { let t = self.now.verdicts.tables.now in
             let table = self.now.verdicts.rows.now in
             IfNone result (by_cause.HasNoVerdict t table process number → ⊥) }
@@ -44,7 +56,14 @@ impl PathReader<'_, '_> {
         for _step in 0..self.verdicts.tables.net().processes().len() {
             match self.verdicts.cause_at(place, layout) {
                 None => return None,
-                Some(Cause::Split(axis, at)) => return Some((axis, at)),
+                Some(Cause::Split(axis, at)) => {
+                    return Some(MatchCut {
+                        process: place,
+                        number: layout,
+                        axis,
+                        at,
+                    });
+                }
                 Some(Cause::Behind(next, its)) => {
                     place = next;
                     layout = its;
@@ -54,15 +73,15 @@ impl PathReader<'_, '_> {
         None
     }
 
-    /// Where what cuts the region behind a cache splits it.
-    fn split_behind_holder(&self, holder: usize) -> Option<(Axis, u128)>
+    /// The match that cuts the region behind a cache.
+    fn cut_behind_holder(&self, holder: usize) -> Option<MatchCut>
         requires tables { by_table.AreTables self.now.verdicts.tables.now }
         requires along { let t = self.now.verdicts.tables.now in
             reach.HoldsBehindHolder t.net t.numbering (reach.IsMarked self.now.marks.now) holder }
-        ensures some { let net = self.now.verdicts.tables.now.net in
+        ensures some { let t = self.now.verdicts.tables.now in
             let region = self.now.verdicts.region.now in
-            IfSome result (λ s. (path : List of_crossing.Crossing)
-            → splits.HeldAlong net path region holder → splits.IsSplit net path region s.0 s.1) }
+            IfSome result (λ cut. (path : List of_crossing.Crossing)
+            → splits.HeldAlong t.net path region holder → by_cause.IsCutBy t path region cut) }
         ensures none { let net = self.now.verdicts.tables.now.net in
             let region = self.now.verdicts.region.now in
             IfNone result (verdicts.holder_verdict (verdicts.verdict net region) net holder ≡ None
@@ -71,7 +90,7 @@ impl PathReader<'_, '_> {
         match self.verdicts.cause_by_holder(holder) {
             None => None,
             Some(Cause::Split(_, _)) => None,
-            Some(Cause::Behind(process, number)) => self.split_behind(process, number),
+            Some(Cause::Behind(process, number)) => self.cut_behind(process, number),
         }
     }
 
@@ -96,7 +115,10 @@ impl PathReader<'_, '_> {
             return None;
         };
         match selection_overlap(self.verdicts.region, &selection.region) {
-            Overlap::Whole => self.split_behind_holder(holder),
+            Overlap::Whole => match self.cut_behind_holder(holder) {
+                None => None,
+                Some(cut) => Some((cut.axis, cut.at)),
+            },
             Overlap::Nothing => None,
             Overlap::Part => match &selection.region {
                 None => None,

@@ -92,7 +92,9 @@ impl Model for Scratch {
     ghost view = { λ s. s.rows.items };
 }
 
-/// So many rows without entries.
+/// Returns `count` rows, whose entries are yet to be set.
+///
+/// Fails where memory runs out.
 pub(crate) fn empty_rows(alloc: Global, count: usize) -> Result<Vec<VerdictRow>, AllocError>
     ensures { IfOk result (λ rows. length rows.items ≡ count) }
 {
@@ -103,7 +105,9 @@ pub(crate) fn empty_rows(alloc: Global, count: usize) -> Result<Vec<VerdictRow>,
     Ok(rows)
 }
 
-/// So many processes without marks.
+/// Returns marks of `count` processes, none of which has one.
+///
+/// Fails where memory runs out.
 pub(crate) fn no_marks(alloc: Global, count: usize) -> Result<Vec<u64>, AllocError>
     ensures { IfOk result (λ marks. length marks.items ≡ count) }
 {
@@ -115,7 +119,9 @@ pub(crate) fn no_marks(alloc: Global, count: usize) -> Result<Vec<u64>, AllocErr
 }
 
 impl Scratch {
-    /// Room for the collecting processes of these tables. Fails with 900, for want of memory, alone.
+    /// Room for the collecting processes of these tables.
+    ///
+    /// Fails with 900, at no place, where memory runs out.
     pub fn new(alloc: Global, tables: &Tables<'_>) -> Result<Scratch, Fault>
         ensures ok { IfOk result (λ scratch. length scratch ≡ length tables.now.net.processes) }
         ensures err { IfErr result IsMemory }

@@ -114,7 +114,7 @@ fn asked(rt: &impl Abort, alloc: Global, net: &Net, low: u128, high: u128) -> An
         None => None,
         Some(first) => Some(
             along
-                .halving_bound(&mut bounds, &region, active, first)
+                .halving_bound(&mut bounds, &tables, &path, &region, active, first)
                 .expect(rt, "memory"),
         ),
     };

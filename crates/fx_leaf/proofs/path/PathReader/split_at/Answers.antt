@@ -4,11 +4,11 @@ use Rattle.fx_leaf.specs.Overlaps.{region_overlap, selection_overlap}
 use Rattle.fx_leaf.proofs.PathSplits.{some_more, none_more, meets_held, selection_split}
 use Rattle.fx_leaf.proofs.path.PathReader.split_at.Goals as goal
 
-pub returns-in-Whole-clause-some : goal.returns-in-Whole-clause-some
-returns-in-Whole-clause-some c =
+pub returns-in-Some-cut_behind_holder-clause-some : goal.returns-in-Some-cut_behind_holder-clause-some
+returns-in-Some-cut_behind_holder-clause-some c = λ path meets.
     let reader = c.args.self.now in
     let all : selection_overlap reader.verdicts.region.now c.args.selection.now.region ≡ Whole = sym c.selection_overlap.ensures ∙ c.in-Whole.is in
-    some_more _ _ c.split_behind_holder.result (λ x. λ h. λ path. λ meets. h path (meets_held reader.verdicts.tables.now.net path reader.verdicts.region.now c.args.selection.now c.in-Some.holder reader.bounded c.in-Some.is all meets)) c.split_behind_holder.ensures.some
+    (c.in-Some-cut_behind_holder.ensures.some path (meets_held reader.verdicts.tables.now.net path reader.verdicts.region.now c.args.selection.now c.in-Some.holder reader.bounded c.in-Some.is all meets)).splits
 
 pub returns-in-Some-region-clause-some : goal.returns-in-Some-region-clause-some
 returns-in-Some-region-clause-some c =

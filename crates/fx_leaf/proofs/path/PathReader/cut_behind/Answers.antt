@@ -3,7 +3,7 @@ use Rattle.fx_leaf.specs.declared.cause.Cause.{Cause}
 use Rattle.fx_leaf.specs.declared.cause.Cause.TheVariants.{Split, Behind}
 use Rattle.fx_leaf.specs.Causes.{IsCauseAt}
 use Rattle.fx_leaf.proofs.CausesCut.{follow_split, follow_on, no_verdict_on, cause_is_marked, ranks_rise, some_verdict}
-use Rattle.fx_leaf.proofs.path.PathReader.split_behind.Goals as goal
+use Rattle.fx_leaf.proofs.path.PathReader.cut_behind.Goals as goal
 
 pub returns-in-None-clause-none : goal.returns-in-None-clause-none
 returns-in-None-clause-none c = λ none.
@@ -14,7 +14,9 @@ pub returns-in-Some-Split-clause-some : goal.returns-in-Some-Split-clause-some
 returns-in-Some-Split-clause-some c = λ path. λ starts.
     let reader = c.args.self.now in
     let from : IsCauseAt reader.verdicts.tables.now reader.verdicts.region.now reader.verdicts.rows.now c.loop-step.place c.loop-step.layout (Split c.in-Some-Split.axis c.in-Some-Split.at) = subst (λ (l : Cause). IsCauseAt reader.verdicts.tables.now reader.verdicts.region.now reader.verdicts.rows.now c.loop-step.place c.loop-step.layout l) c.in-Some-Split.field-0-is c.in-Some-Split.ensures.some in
-    follow_split reader.verdicts.tables.now c.requires.tables reader.verdicts.region.now reader.bounded reader.verdicts.rows.now path c.loop-step.place c.loop-step.layout (c.loop-step.invariant.starts path starts) c.in-Some-Split.axis c.in-Some-Split.at from
+    let here = c.loop-step.invariant.starts path starts in
+    let at_bound = follow_split reader.verdicts.tables.now c.requires.tables reader.verdicts.region.now reader.bounded reader.verdicts.rows.now path c.loop-step.place c.loop-step.layout here c.in-Some-Split.axis c.in-Some-Split.at from in
+    record { starts = here; splits = at_bound }
 
 pub loop-step-preserved : goal.loop-step-preserved
 loop-step-preserved c =

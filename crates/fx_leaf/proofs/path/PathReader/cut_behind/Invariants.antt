@@ -3,7 +3,7 @@ use Rattle.fx_tables.specs.declared.traffic.Crossing.{Crossing}
 use Rattle.fx_tables.specs.Ranks.{IsRanked}
 use Rattle.fx_leaf.specs.Causes.{Starts, HasNoVerdict}
 use Rattle.fx_leaf.specs.Reach.{IsMarked}
-use Rattle.fx_leaf.proofs.path.PathReader.split_behind.Given as goal
+use Rattle.fx_leaf.proofs.path.PathReader.cut_behind.Given as goal
 
 abbrev pub invariant-loop-step : goal.invariant-loop-step
 invariant-loop-step l = record {

@@ -1,0 +1,119 @@
+//! The collecting process in the middle of those to which records are sent and where something cuts the region, so that
+//! splits halve what cuts it at several processes, too.
+ghost use Rattle.std.specs.Prelude.{◌≡◌, List, slice_get, [], ◌∷◌, IfSome};
+ghost use Rattle.fx_tables.specs.Network as network;
+ghost use Rattle.fx_tables.specs.declared.traffic.Crossing as of_crossing;
+ghost use Rattle.fx_leaf.specs.Causes as by_cause;
+ghost use Rattle.fx_leaf.specs.Reach as reach;
+ghost use Rattle.fx_leaf.specs.Splits as splits;
+ghost use Rattle.fx_leaf.specs.Tables as by_table;
+
+use crate::path::PathReader;
+use crate::split::MatchCut;
+use crate::table::Verdicts;
+
+impl Verdicts<'_, '_> {
+    /// How many of these destinations lead to a collecting process at which there is no verdict.
+    fn count_destinations(&self, number: usize, destinations: &[Option<usize>]) -> usize {
+        let mut count: usize = 0;
+        for destination in destinations {
+            if self.cause_at_destination(number, *destination).is_some() {
+                count = count.saturating_add(1);
+            }
+        }
+        count
+    }
+
+    /// The collecting process behind a destination at which there is no verdict, after `skipped` others.
+    fn destination_after(
+        &self,
+        number: usize,
+        destinations: &[Option<usize>],
+        skipped: usize,
+    ) -> Option<usize>
+        ensures { let net = self.now.tables.now.net in
+            let table = self.now.rows.now in
+            IfSome result (λ process. by_cause.LeadsOn table net number destinations.now process) }
+    {
+        let mut left = skipped;
+        for destination in destinations {
+            if let Some(process) = self.cause_at_destination(number, *destination) {
+                if left == 0 {
+                    return Some(process);
+                }
+                left -= 1;
+            }
+        }
+        None
+    }
+
+    /// The collecting process in the middle of those behind the exporting process at this place at which there is no
+    /// verdict.
+    fn middle_at_exporter(&self, number: usize, place: usize) -> Option<usize>
+        ensures { let net = self.now.tables.now.net in
+            let table = self.now.rows.now in
+            IfSome result (λ process. by_cause.SendsOn table net number
+            (network.before (slice_get net.exporters place) []) process) }
+    {
+        match self.tables.net().exporters().get(place) {
+            None => None,
+            Some(exporter) => {
+                let destinations = exporter.destinations();
+                let count = self.count_destinations(number, destinations);
+                self.destination_after(number, destinations, count / 2)
+            }
+        }
+    }
+
+    /// How many of the exporting processes at these places send to a collecting process at which there is no verdict.
+    fn count_exporters(&self, number: usize, places: &[usize]) -> usize {
+        let mut count: usize = 0;
+        for place in places {
+            if self.middle_at_exporter(number, *place).is_some() {
+                count = count.saturating_add(1);
+            }
+        }
+        count
+    }
+
+    /// The collecting process in the middle behind an exporting process, after `skipped` others that send to one at which
+    /// there is no verdict.
+    fn exporter_after(&self, number: usize, places: &[usize], skipped: usize) -> Option<usize>
+        ensures { let net = self.now.tables.now.net in
+            let table = self.now.rows.now in
+            IfSome result (λ process. by_cause.SendsOn table net number
+            (network.at_places net.exporters places.now) process) }
+    {
+        let mut left = skipped;
+        for place in places {
+            if let Some(process) = self.middle_at_exporter(number, *place) {
+                if left == 0 {
+                    return Some(process);
+                }
+                left -= 1;
+            }
+        }
+        None
+    }
+}
+
+impl PathReader<'_, '_> {
+    /// The match that cuts the region behind a cache, where there are several at the collecting process in the middle.
+    pub(crate) fn middle_cut_behind_holder(&self, holder: usize) -> Option<MatchCut>
+        requires tables { by_table.AreTables self.now.verdicts.tables.now }
+        requires along { let t = self.now.verdicts.tables.now in
+            reach.HoldsBehindHolder t.net t.numbering (reach.IsMarked self.now.marks.now) holder }
+        ensures { let t = self.now.verdicts.tables.now in
+            let region = self.now.verdicts.region.now in
+            IfSome result (λ cut. (path : List of_crossing.Crossing)
+            → splits.HeldAlong t.net path region holder → by_cause.IsCutBy t path region cut) }
+    {
+        let number = self.verdicts.tables.number_of_layout(holder);
+        let places = self.verdicts.tables.net().named_by(holder);
+        let count = self.verdicts.count_exporters(number, places);
+        match self.verdicts.exporter_after(number, places, count / 2) {
+            None => None,
+            Some(process) => self.cut_behind(process, number),
+        }
+    }
+}
