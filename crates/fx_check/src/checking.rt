@@ -122,9 +122,9 @@ pub fn check<R: Source>(
     ensures err { IfErr result (λ e. (IsMemory e × (lines.new ≡ lines.old))
         ⊎ (Fails lines.old lines.new e
         ⊎ MayBeRefused (net_of plan.now) (targets_of traffic.now) lines.old lines.new e)) }
-    // No such certificate is refused: where its text is told, only want of memory or a read that failed stops it.
+    // No such certificate is refused: where its text is read, only a lack of memory or a read that failed stops it.
     ensures accepts { IfErr result (Accepts (net_of plan.now) traffic.now lines.old lines.new) }
-    // Whatever the reader tells of its bytes: 900 or 901, 903 at a line, or 401 to 415 at a line.
+    // Whatever bytes the reader gives: 900 or 901, 903 at a line, or 401 to 415 at a line.
     ensures numbers { IfErr result (IsToldBy lines.old) }
 {
     let tables = tables_of(plan);

@@ -17,7 +17,7 @@ pub(crate) enum LineFault {
     SplitPlace,
     /// The text ends inside the line, or before the last one.
     Cut,
-    /// The line stands behind the last one.
+    /// The line comes after the last one.
     BehindEnd,
     /// A split is too deep.
     SplitDepth,

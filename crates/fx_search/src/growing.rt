@@ -1,11 +1,12 @@
 //! A certificate that grows, and what is still ahead of it.
-ghost use Rattle.std.specs.Prelude.{◌≡◌, ◌≤◌, ℕ, List, IfErr, ◌+◌, ◌<◌, ◌++◌, [], ◌∷◌, IfOk, OnOk, option_to_list, IfNone};
+ghost use Rattle.std.specs.Prelude.{◌≡◌, ◌≤◌, ℕ, List, IfErr, ◌+◌, ◌<◌, ◌++◌, [], ◌∷◌, IfOk, OnOk, option_to_list, IfNone, slice_index_or};
 ghost use Rattle.std.specs.List.{AllByRecursion};
 ghost use Rattle.fx_cert.specs.declared.item.Item.TheVariants as of_item;
 ghost use Rattle.fx_base.specs.Fault.{IsMemory};
 ghost use Rattle.fx_boxes.specs.Boxes.{Bounds, Holds, IsRegion, IsStrictlyInside};
 ghost use Rattle.fx_leaf.specs.Judgements.{IsJudged};
-ghost use Rattle.fx_leaf.specs.PathSelections.{IsNarrowed};
+ghost use Rattle.fx_leaf.specs.PathSelections.{IsApart, IsNarrowed, PathSelection};
+ghost use Rattle.fx_leaf.specs.Reach.{IsFilled};
 ghost use Rattle.fx_leaf.specs.PathTables.{HasProcessRoom, IsPathBegun};
 ghost use Rattle.fx_leaf.specs.Splits.{IsSplit};
 ghost use Rattle.fx_leaf.specs.Tables.{AreTables, Tables as TableView};
@@ -49,6 +50,8 @@ impl<'a> Ahead<'a> {
     pub(crate) fn narrow(&self, scratch: &mut PathScratch<'_>, active: usize) -> usize
         requires narrowed { IsNarrowed scratch.old.selections self.now.region active }
         ensures narrowed { IsNarrowed scratch.new.selections self.now.region result }
+        ensures overlapping { (k : ℕ) (d : PathSelection) → k < result
+            → IsApart self.now.region (slice_index_or scratch.new.selections k d).selection → ⊥ }
         ensures fewer { result ≤ active }
         ensures others { (other : Bounds) (more : ℕ) → active ≤ more
             → IsNarrowed scratch.old.selections other more
@@ -73,6 +76,8 @@ impl<'a> Ahead<'a> {
         requires begun { IsPathBegun tables.now self.now.target.crossings scratch.old }
         requires narrowed { IsNarrowed scratch.old.selections self.now.region active }
         ensures judged { IsJudged tables.now.net self.now.target.crossings self.now.region result }
+        ensures filled { IsFilled tables.now.net tables.now.numbering self.now.region
+            scratch.new.marks scratch.new.table }
         ensures region { IsRegion self.now.region }
         ensures begun { IsPathBegun tables.now self.now.target.crossings scratch.new }
         ensures room { HasProcessRoom tables.now scratch.new }
@@ -89,16 +94,30 @@ impl<'a> Ahead<'a> {
         &self,
         scratch: &PathScratch<'_>,
         bounds: &mut CutBounds,
+        tables: &Tables<'_>,
         active: usize,
         other: (Axis, u128),
     ) -> Result<(Axis, u128), Fault>
-        ensures ok { IfOk result (λ s. (t : TableView)
-            → IsPathBegun t self.now.target.crossings scratch.now
-            → IsSplit t.net self.now.target.crossings self.now.region other.0 other.1
-            → IsSplit t.net self.now.target.crossings self.now.region s.0 s.1) }
+        requires tables { AreTables tables.now }
+        requires begun { IsPathBegun tables.now self.now.target.crossings scratch.now }
+        requires filled { IsFilled tables.now.net tables.now.numbering self.now.region
+            scratch.now.marks scratch.now.table }
+        requires overlapping { (k : ℕ) (d : PathSelection) → k < active
+            → IsApart self.now.region (slice_index_or scratch.now.selections k d).selection → ⊥ }
+        ensures ok { IfOk result (λ s. IsSplit tables.now.net self.now.target.crossings
+            self.now.region other.0 other.1
+            → IsSplit tables.now.net self.now.target.crossings self.now.region s.0 s.1) }
         ensures err { IfErr result IsMemory }
     {
-        scratch.halving_bound(bounds, &self.region, active, other)
+        let target = self.target;
+        scratch.halving_bound(
+            bounds,
+            tables,
+            target.crossings,
+            &self.region,
+            active,
+            other,
+        )
     }
 
     /// Whether the packets must never be counted.
@@ -189,7 +208,7 @@ impl<'a> Growth<'a> {
         })
     }
 
-    /// A target comes next, whose path meets so many selection processes.
+    /// A target comes next, whose path meets `active` selection processes.
     pub(crate) fn open(&mut self, target: &'a Target<'a>, active: usize) -> Result<(), AllocError>
         ensures ahead { OnOk result (self.new.ahead.items
             ≡ self.old.ahead.items ++ record { ahead = root target.now; active = active } ∷ []) }
@@ -227,8 +246,8 @@ impl<'a> Growth<'a> {
         Ok(())
     }
 
-    /// A split is the region's tree: that of its lower part comes next, then that of its upper part. So many selection
-    /// processes may count packets of the region.
+    /// A split is the region's tree: that of its lower part comes next, then that of its upper part. The first `active`
+    /// selection processes may count packets of the region.
     pub(crate) fn split(
         &mut self,
         here: &Ahead<'a>,

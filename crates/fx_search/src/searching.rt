@@ -97,7 +97,7 @@ fn take<'a>(
         if growth.lines >= most || here.depth >= DEPTHS {
             return Err(Fault::bare(refusals::SEARCH_TOO_LARGE));
         }
-        let bound = here.halving_bound(scratch, bounds, active, (axis, at))?;
+        let bound = here.halving_bound(scratch, bounds, tables, active, (axis, at))?;
         growth.split(here, active, bound.0, bound.1)?;
         return Ok(true);
     }
@@ -254,12 +254,12 @@ fn certificate(growth: Growth<'_>) -> Result<Found, Fault>
 ///
 /// Where it finds a certificate, [`check`](fx_check::check) accepts it: each packet of the traffic is counted exactly
 /// once, and never where its class is exempt. Where it finds a run, [`confirm`](fx_refute::confirm) confirms it: that
-/// isn't so. `watch` is told of each line that is found.
+/// isn't so. `watch` is called for each line that is found.
 ///
 /// Fails with 601, at no place, where a certificate that goes on like this needs more lines, or a split at depth 512
 /// (the first has depth 0), or where a region that nothing cuts has no sound leaf of the kind that its class wants and no run of at
-/// most 1,000,000 steps brings its least packet to another fate than the wanted one; and with 900, at no place, for
-/// want of memory.
+/// most 1,000,000 steps brings its least packet to another fate than the wanted one; and with 900, at no place,
+/// where memory runs out.
 pub fn search<W: Watch>(
     alloc: Global,
     plan: &Plan,

@@ -1,12 +1,12 @@
-//! Who is told how far a search has come.
+//! Watching the progress of a search.
 
-/// Who is told how far a search has come. It finds out nothing that changes what the search answers.
+/// Watches the progress of a search. What it does has no effect on what the search returns.
 pub trait Watch {
-    /// So many split and leaf lines of a certificate stand by now; at most a line more than when it was told last.
+    /// A certificate has `lines` split and leaf lines so far: at most one more than at the last call.
     fn on_lines(&mut self, lines: u64);
 }
 
-/// Nobody.
+/// Does not watch.
 #[derive(Debug, Drop)]
 pub struct Unwatched;
 

@@ -28,7 +28,7 @@ returns-in-Cut-clause-on c targets version later g =
     let depth : c.here.inside.depth ≡ a.depth = ap (λ (x : RegionAhead). x.depth) c.here.view_is in
     let deep : a.depth < depth_limit = omega (arith, c.if-here-ge-DEPTHS.false, depth) in
     let less : c.args.growth.now.lines < c.args.most = omega (arith, c.if-growth-most.false) in
-    let split = c.in_ok-bound.ensures.ok c.args.tables.now c.in-Cut.ensures.begun c.in-Cut.ensures.judged.1 in
+    let split = c.in_ok-bound.ensures.ok c.in-Cut.ensures.judged.1 in
     let now = two_next c.args.growth.now.ahead.items c.split.new.self.ahead.items (record { ahead = upper a axis at; active = c.narrow-active.result }) (record { ahead = lower a axis at; active = c.narrow-active.result }) later c.in_ok-split.ensures.ahead in
     rw (c.in_ok-split.ensures.lines, now) (cut_taken c.args.tables.now.net targets version c.args.most c.args.growth.now.items.items c.split.new.self.items.items c.args.growth.now.lines a (front c.args.growth.now.ahead.items ++ later) g axis at (c.in-Cut.ensures.judged.0, split) less deep c.in_ok-split.ensures.items (c.in_ok-split.ensures.written g.written))
 
@@ -44,7 +44,7 @@ returns-in-Cut-clause-narrowed c = λ ahead.
     let high : Waiting = record { ahead = upper a axis at; active = active } in
     let low : Waiting = record { ahead = lower a axis at; active = active } in
     let keeps = λ (b : Bounds) (m : ℕ) (le : c.args.active ≤ m) (h : IsNarrowed xs b m). subst (λ (zs : List PathSelection). IsNarrowed zs b m) (sym c.in-Cut.ensures.kept) (c.narrow-active.ensures.others b m le h) in
-    let split = c.in_ok-bound.ensures.ok c.args.tables.now c.in-Cut.ensures.begun c.in-Cut.ensures.judged.1 in
+    let split = c.in_ok-bound.ensures.ok c.in-Cut.ensures.judged.1 in
     let inside = split_inside c.args.tables.now.net a.target.crossings a.region axis at split in
     let narrowed = subst (λ (zs : List PathSelection). IsNarrowed zs a.region active) (sym c.in-Cut.ensures.kept) c.narrow-active.ensures.narrowed in
     rw c.in_ok-split.ensures.ahead (split_ahead xs ys a.target c.args.growth.now.ahead.items here keeps ahead axis at active high low refl refl inside c.narrow-active.ensures.fewer narrowed)
@@ -52,7 +52,7 @@ returns-in-Cut-clause-narrowed c = λ ahead.
 pub split-requires-clause-inside : goal.split-requires-clause-inside
 split-requires-clause-inside c =
     let a = c.args.here.now in
-    split_inside c.args.tables.now.net a.target.crossings a.region c.in_ok-bound.bound.0 c.in_ok-bound.bound.1 (c.in_ok-bound.ensures.ok c.args.tables.now c.in-Cut.ensures.begun c.in-Cut.ensures.judged.1)
+    split_inside c.args.tables.now.net a.target.crossings a.region c.in_ok-bound.bound.0 c.in_ok-bound.bound.1 (c.in_ok-bound.ensures.ok c.in-Cut.ensures.judged.1)
 
 pub returns-in_default-leaf_for : goal.returns-in_default-leaf_for
 returns-in_default-leaf_for c =
