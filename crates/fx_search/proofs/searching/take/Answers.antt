@@ -1,7 +1,7 @@
-use Rattle.std.proofs.Common.{◌≡◌, ◌⊎◌, inl, inr, ℕ, ◌≤◌, ◌<◌, ◌++◌, List, refl, sym, ap, subst, ◌∙◌, arith, [], None}
+use Rattle.std.proofs.Common.{◌≡◌, ◌⊎◌, inl, inr, ℕ, ◌≤◌, ◌<◌, ◌++◌, List, refl, slice_index_or, sym, ap, subst, ◌∙◌, arith, [], None}
 use Rattle.fx_boxes.specs.Boxes.{Bounds}
 use Rattle.fx_check.specs.FirstRefusal.{depth_limit}
-use Rattle.fx_leaf.specs.PathSelections.{IsNarrowed, PathSelection}
+use Rattle.fx_leaf.specs.PathSelections.{IsApart, IsNarrowed, PathSelection}
 use Rattle.fx_search.specs.declared.growing.Waiting.{Waiting}
 use Rattle.fx_search.specs.Fronts.{RegionAhead, lower, upper}
 use Rattle.fx_search.specs.Growing.{front, leaf_item}
@@ -101,3 +101,7 @@ returns c =
       room = c.judge-judgement.ensures.room;
       narrowed = λ ahead. rw c.in_ok-add.ensures.ahead (leaf_ahead xs ys a.target c.args.growth.now.ahead.items here keeps ahead);
     }
+
+pub halving_bound-requires-clause-overlapping : goal.halving_bound-requires-clause-overlapping
+halving_bound-requires-clause-overlapping c = λ k d less apart.
+    c.narrow-active.ensures.overlapping k d less (subst (λ (zs : List PathSelection). IsApart c.args.here.now.region (slice_index_or zs k d).selection) c.in-Cut.ensures.kept apart)
