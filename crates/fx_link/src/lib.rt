@@ -4,6 +4,7 @@
 mod laws;
 mod link;
 mod links;
+mod opened;
 mod outlet;
 mod records;
 mod sender;
@@ -14,4 +15,5 @@ mod templates;
 pub use laws::{links_keep_records, records_are_read};
 pub use link::Link;
 pub use links::{Links, Nowhere};
+pub use opened::{MakeSink, OpenedSinks};
 pub use sinks::Sinks;

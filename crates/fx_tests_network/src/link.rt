@@ -1,9 +1,13 @@
-//! What is put on one link, octet by octet.
-use fx_base::{Counts, Room};
+//! What is put on links, octet by octet.
+ghost use Rattle.std.specs.Prelude.{None, false};
+
+use fx_base::{Counts, Fault, Room, Sink, refusals};
 use fx_boxes::Fields;
 use fx_elements::Axis;
 use fx_layout::Layout;
-use fx_link::{Link, Links, Nowhere, Sinks, links_keep_records, records_are_read};
+use fx_link::{
+    Link, Links, MakeSink, Nowhere, OpenedSinks, Sinks, links_keep_records, records_are_read,
+};
 use fx_tables::Record;
 use std::alloc::Global;
 use std::process::Abort;
@@ -178,4 +182,79 @@ fn carries_records_across_a_cut(rt: HostRuntime) {
     assert!(rt; link.queue_length() == 1);
     link.carry(1).expect(&rt, "memory");
     assert!(rt; !early & is_carried(link.next_record()));
+}
+
+/// A sink that counts its octets.
+#[derive(Drop)]
+struct Count {
+    octets: usize,
+    failed: bool,
+}
+
+impl Sink for Count {
+    ghost taken = { λ _. None };
+
+    ghost failed = { λ s. s.failed };
+
+    ghost holds_back = { λ _. false };
+
+    fn write(&mut self, octets: &[u8]) -> Result<usize, Fault> {
+        self.octets = self.octets.saturating_add(octets.len());
+        self.failed = false;
+        Ok(octets.len())
+    }
+
+    fn flush(&mut self) -> Result<(), Fault> {
+        self.failed = false;
+        Ok(())
+    }
+}
+
+/// Makes sinks that count, except for link 9, and counts them.
+#[derive(Drop)]
+struct Opening {
+    made: usize,
+    failed: u64,
+}
+
+impl MakeSink<Count> for Opening {
+    ghost begun = { λ _. None };
+
+    fn make(&mut self, link: u64) -> Result<Count, Fault> {
+        if link == 9 {
+            return Err(Fault::bare(refusals::FAILED_WRITE));
+        }
+        self.made = self.made.saturating_add(1);
+        Ok(Count {
+            octets: 0,
+            failed: false,
+        })
+    }
+
+    fn note_failure(&mut self, link: u64) {
+        self.failed = link;
+    }
+}
+
+/// How many octets the sink of a link has taken.
+fn taken(links: &OpenedSinks<Count, Opening>, link: u64) -> usize {
+    match links.sink(link) {
+        Some(sink) => sink.octets,
+        None => 0,
+    }
+}
+
+#[test]
+fn opens_a_sink_for_each_link(rt: HostRuntime) {
+    let mut links = OpenedSinks::new(rt.alloc(), Opening { made: 0, failed: 0 });
+    links.put(3, b"ab").expect(&rt, "a sink");
+    links.put(2, b"c").expect(&rt, "a sink");
+    links.put(3, b"def").expect(&rt, "a sink");
+    assert!(rt; taken(&links, 2) == 1);
+    assert!(rt; taken(&links, 3) == 5);
+    assert!(rt; taken(&links, 1) == 0);
+    assert!(rt; links.put(9, b"g").is_err());
+    let maker = links.into_maker();
+    assert!(rt; maker.made == 2);
+    assert!(rt; maker.failed == 9);
 }
