@@ -67,7 +67,7 @@ action_listed old at to number asked e going (not_in is at_frame class) = ap (λ
 action_listed old at to number asked e going (in_none is at_frame class) = ap (λ (f : Fault). is_refusal_number f.number) is
 
 line_listed : (line : List ℕ) (number : ℕ) (old : RunningNetwork) (at to : CaptureState) (e : Fault) → at.stopped ≡ None → RefusesLine line number old at to e → is_refusal_number e.number ≡ true
-line_listed line number old at to e going (inl (is, asks)) = ap (λ (f : Fault). is_refusal_number f.number) is
+line_listed line number old at to e going (inl (is, asks, stays)) = ap (λ (f : Fault). is_refusal_number f.number) is
 line_listed line number old at to e going (inr (asked, asks, refuses)) = action_listed old at to number asked e going refuses
 
 close_listed : (old : RunningNetwork) (at to : CaptureState) (e : Fault) → at.stopped ≡ None → RefusesClose old at to e → is_refusal_number e.number ≡ true

@@ -59,12 +59,13 @@ pub acts_carry : (link octets : ℕ) (old new : RunningNetwork) (at : captures.C
 acts_carry link octets old new at h rest = record { frame = None; goes = refl; does = h; rest = rest }
 
 -- a line that names nothing is refused for it
-pub names_nothing : {X : Type 0} (r : Result X Stop) (old : RunningNetwork) (at to : captures.CaptureState) (line : ℕ) (asked named : Action) → asked ≡ named
-    → IfErr r (λ s. (s ≡ stop.Bare want_of_memory) ⊎ ((s ≡ stop.Line nothing_there line) × NamesNothing old at to named))
+pub names_nothing : {X Says : Type 0} (r : Result X Stop) (old : RunningNetwork) (at to : captures.CaptureState) (line : ℕ) (asked named : Action) → asked ≡ named
+    → (Says → NamesNothing old at to named)
+    → IfErr r (λ s. (s ≡ stop.Bare want_of_memory) ⊎ ((s ≡ stop.Line nothing_there line) × Says))
     → IfErr r (λ s. (s ≡ stop.Bare want_of_memory) ⊎ RefusesAction old at to line asked (fault_of s))
-names_nothing (Ok x) old at to line asked named is h = tt
-names_nothing (Err s) old at to line asked named is (inl memory) = inl memory
-names_nothing (Err s) old at to line asked named is (inr h) = inr (nothing_named (ap fault_of h.0) (subst (NamesNothing old at to) (sym is) h.1))
+names_nothing (Ok x) old at to line asked named is says h = tt
+names_nothing (Err s) old at to line asked named is says (inl memory) = inl memory
+names_nothing (Err s) old at to line asked named is says (inr h) = inr (nothing_named (ap fault_of h.0) (subst (NamesNothing old at to) (sym is) (says h.1)))
 
 -- ---- a packet of the class and the path that a line names
 

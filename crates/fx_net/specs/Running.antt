@@ -107,14 +107,15 @@ abbrev pub HasNoDestination : NetworkDocument → ℕ → ℕ → ℕ → Type 0
 HasNoDestination network device exporter destination =
     (place : ℕ) (e : Exporter) → exporter_place network device exporter ≡ Some place → slice_get (net_of network).exporters place ≡ Some e → entry_numbered e.destinations destination ≡ None
 
--- a number that names nothing, a holder that holds nothing, too few octets, or no packet
+-- a number that names nothing, a holder that holds nothing, too few octets, or no packet; a line that reads no packet
+-- leaves the capture as it was
 abbrev pub NamesNothing : RunningNetwork → captures.CaptureState → captures.CaptureState → Action → Type 0
 NamesNothing old at to action.Next = captures.AtCaptureEnd at to
 NamesNothing old at to (action.NextOf class path) = captures.AtCaptureEnd at to
-NamesNothing old at to (action.Expire device cache) = HoldsNothing old (holder.Cache device cache)
-NamesNothing old at to (action.Emit device process aggregation) = HoldsNothing old (holder.Aggregation device process aggregation)
-NamesNothing old at to (action.Carry link octets) = HasTooFew old.contents link octets
-NamesNothing old at to (action.Use device exporter destination) = HasNoDestination old.network device exporter destination
+NamesNothing old at to (action.Expire device cache) = HoldsNothing old (holder.Cache device cache) × (to ≡ at)
+NamesNothing old at to (action.Emit device process aggregation) = HoldsNothing old (holder.Aggregation device process aggregation) × (to ≡ at)
+NamesNothing old at to (action.Carry link octets) = HasTooFew old.contents link octets × (to ≡ at)
+NamesNothing old at to (action.Use device exporter destination) = HasNoDestination old.network device exporter destination × (to ≡ at)
 
 -- the class and the path that a line names aren't those of the packet
 abbrev pub IsNotIn : List Class → captures.Seen → Action → Type 0
@@ -137,19 +138,23 @@ pub data RefusesAction (old : RunningNetwork) (at to : captures.CaptureState) (n
   not_in : e ≡ fault_at not_in_named_class (places.Line number) → captures.AtFrame at to → IsNotIn old.classes to.seen asked → RefusesAction old at to number asked e
   in_none : e ≡ fault_at in_no_class (places.Line number) → captures.AtFrame at to → IsInNone old.classes to.seen asked → RefusesAction old at to number asked e
 
--- 801 goes first
+-- 801 goes first, and leaves the capture as it was
 abbrev pub RefusesLine : List ℕ → ℕ → RunningNetwork → captures.CaptureState → captures.CaptureState → Fault → Type 0
 RefusesLine line number old at to e =
-    ((e ≡ fault_at schedule_or_bundle (places.Line number)) × ((asked : Action) → AsksFor line asked → ⊥))
+    ((e ≡ fault_at schedule_or_bundle (places.Line number)) × ((asked : Action) → AsksFor line asked → ⊥) × (to ≡ at))
     ⊎ ((asked : Action) × AsksFor line asked × RefusesAction old at to number asked e)
 
--- want of memory, or what links' octets are put on failed, whatever the line
+-- out of memory, or a failed write of octets of links, whatever the line
 abbrev pub FailsOutside : Bool → Fault → Type 0
 FailsOutside failed e = (e ≡ fault_at want_of_memory places.None) ⊎ ((e ≡ fault_at failed_write places.None) × (failed ≡ true))
 
 -- a network that has answered a fault answers it again, and nothing changes
 abbrev pub AnswersAgain : RunningNetwork → RunningNetwork → Result (Unit {0}) Fault → Type 0
 AnswersAgain old new result = IfSome old.fault (λ e. (result ≡ Err e) × (new ≡ old))
+
+-- where a network has answered a fault, the capture and the links stay as they were
+abbrev pub LeavesBoth : {L : Type 0} → RunningNetwork → captures.CaptureState → captures.CaptureState → L → L → Type 0
+LeavesBoth old at to before after = IfSome old.fault (λ _. (to ≡ at) × (after ≡ before))
 
 -- ---- the closing phase
 

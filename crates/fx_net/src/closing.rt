@@ -304,8 +304,8 @@ impl<'a> Network<'a> {
     /// order, the least key first; then, collecting process by collecting process in the order of ranks, the links into it
     /// are carried whole, in order, and its aggregations are emptied.
     ///
-    /// Fails with 804, at no place, where no class holds a packet, and as the capture does; with 902 where the links fail
-    /// and with 900 for want of memory. From then on it answers its fault again.
+    /// Fails with 804, at no place, if no class holds a packet, and as the capture does; with 902 if the links fail
+    /// and with 900 if memory runs out. From then on each call repeats the fault and changes nothing.
     pub fn close<R: Source, L: Links>(
         &mut self,
         capture: &mut Capture<R>,
@@ -319,6 +319,8 @@ impl<'a> Network<'a> {
             ⊎ running.RefusesClose self.old capture.old capture.new e) }
         ensures stopped { IfErr result (λ e. self.new.fault ≡ Some e) }
         ensures again { running.AnswersAgain self.old self.new result }
+        ensures untouched { running.LeavesBoth self.old capture.old capture.new links.old
+            links.new }
     {
         if let Some(stop) = self.stopped {
             return Err(stop.fault());

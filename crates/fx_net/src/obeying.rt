@@ -259,7 +259,7 @@ impl<'a> Network<'a> {
         }
     }
 
-    /// A line is obeyed, whatever was answered before.
+    /// Obeys a line, whatever was answered before.
     fn try_line<R: Source, L: Links>(
         &mut self,
         line: &Line<'_>,
@@ -275,6 +275,9 @@ impl<'a> Network<'a> {
             ⊎ running.RefusesLine line.now.bytes.now line.now.number self.old capture.old
             capture.new
             (running.fault_of s)) }
+        ensures links { IfErr result (λ s. running.FailsOutside (L.failed links.new)
+            (running.fault_of s)
+            ⊎ (links.new ≡ links.old)) }
     {
         let Some(asked) = read_action(line.bytes) else {
             return Err(Stop::Line {
@@ -292,10 +295,12 @@ impl<'a> Network<'a> {
     /// A line is `next` or `next CLASS PATH`, `expire DEVICE CACHE`, `emit DEVICE PROCESS AGGREGATION`, `carry LINK OCTETS`
     /// or `use DEVICE EXPORTER DESTINATION`; numbers count from 1, in document order.
     ///
-    /// Fails, at the line, with 801 where it is none of these; with 802 where a number names nothing, the holder holds
-    /// nothing, fewer octets wait on the link or no packet is left; with 803 where the packet isn't in the class or the
-    /// class hasn't the path, and with 804 where no class holds it. Fails as the capture does where a packet is read, with
-    /// 902 where the links fail and with 900 for want of memory. From then on it answers its fault again.
+    /// Fails, at the line, with 801 if it is none of these; with 802 if a number names nothing, the holder holds
+    /// nothing, fewer octets wait on the link or no packet is left; with 803 if the packet isn't in the class or the
+    /// class doesn't have the path, and with 804 if no class holds it. Fails as the capture does if a packet is read, with
+    /// 902 if the links fail and with 900 if memory runs out. A line that fails puts nothing on the links, except
+    /// possibly with 900 or 902, and moves the capture only if it reads a packet. From then on each call repeats the
+    /// fault and changes nothing.
     pub fn obey<R: Source, L: Links>(
         &mut self,
         line: &Line<'_>,
@@ -310,8 +315,12 @@ impl<'a> Network<'a> {
             (λ e. running.FailsOutside (L.failed links.new) e
             ⊎ running.RefusesLine line.now.bytes.now line.now.number self.old capture.old
             capture.new e) }
+        ensures links { IfErr result (λ e. running.FailsOutside (L.failed links.new) e
+            ⊎ (links.new ≡ links.old)) }
         ensures stopped { IfErr result (λ e. self.new.fault ≡ Some e) }
         ensures again { running.AnswersAgain self.old self.new result }
+        ensures untouched { running.LeavesBoth self.old capture.old capture.new links.old
+            links.new }
     {
         if let Some(stop) = self.stopped {
             return Err(stop.fault());

@@ -1,4 +1,4 @@
-use Rattle.std.proofs.Common.{sym, subst}
+use Rattle.std.proofs.Common.{refl, sym, subst}
 use Rattle.fx_net.specs.declared.action.Action.{Action}
 use Rattle.fx_net.specs.declared.action.Action.TheVariants as action
 use Rattle.fx_net.specs.Running.{Acts}
@@ -37,16 +37,16 @@ returns-in-Carry-clause-ok g c =
 
 pub returns-in-Expire-clause-err : goal.returns-in-Expire-clause-err
 returns-in-Expire-clause-err g c =
-    names_nothing c.expire.result c.args.self.now c.args.capture.now c.args.capture.now c.args.line c.args.asked (action.Expire c.in-Expire.device c.in-Expire.cache) c.in-Expire.is c.expire.ensures.err
+    names_nothing c.expire.result c.args.self.now c.args.capture.now c.args.capture.now c.args.line c.args.asked (action.Expire c.in-Expire.device c.in-Expire.cache) c.in-Expire.is (λ h. (h, refl)) c.expire.ensures.err
 
 pub returns-in-Emit-clause-err : goal.returns-in-Emit-clause-err
 returns-in-Emit-clause-err g c =
-    names_nothing c.expire-in-Emit.result c.args.self.now c.args.capture.now c.args.capture.now c.args.line c.args.asked (action.Emit c.in-Emit.device c.in-Emit.process c.in-Emit.aggregation) c.in-Emit.is c.expire-in-Emit.ensures.err
+    names_nothing c.expire-in-Emit.result c.args.self.now c.args.capture.now c.args.capture.now c.args.line c.args.asked (action.Emit c.in-Emit.device c.in-Emit.process c.in-Emit.aggregation) c.in-Emit.is (λ h. (h, refl)) c.expire-in-Emit.ensures.err
 
 pub returns-in-Carry-clause-err : goal.returns-in-Carry-clause-err
 returns-in-Carry-clause-err g c =
-    names_nothing c.carry.result c.args.self.now c.args.capture.now c.args.capture.now c.args.line c.args.asked (action.Carry c.in-Carry.link c.in-Carry.octets) c.in-Carry.is c.carry.ensures.err
+    names_nothing c.carry.result c.args.self.now c.args.capture.now c.args.capture.now c.args.line c.args.asked (action.Carry c.in-Carry.link c.in-Carry.octets) c.in-Carry.is (λ h. (h, refl)) c.carry.ensures.err
 
 pub returns-in-Use-clause-err : goal.returns-in-Use-clause-err
 returns-in-Use-clause-err g c =
-    names_nothing c.use_destination.result c.args.self.now c.args.capture.now c.args.capture.now c.args.line c.args.asked (action.Use c.in-Use.device c.in-Use.exporter c.in-Use.destination) c.in-Use.is c.use_destination.ensures.err
+    names_nothing c.use_destination.result c.args.self.now c.args.capture.now c.args.capture.now c.args.line c.args.asked (action.Use c.in-Use.device c.in-Use.exporter c.in-Use.destination) c.in-Use.is (λ h. (h, refl)) c.use_destination.ensures.err

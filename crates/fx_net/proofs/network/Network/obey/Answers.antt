@@ -1,4 +1,4 @@
-use Rattle.std.proofs.Common.{◌⊎◌, sym, subst}
+use Rattle.std.proofs.Common.{◌≡◌, ◌⊎◌, sym, subst}
 use Rattle.fx_base.specs.declared.fault.Fault.{Fault}
 use Rattle.fx_net.specs.Running.{FailsOutside, RefusesLine}
 use Rattle.fx_net.proofs.network.Network.obey.Goals as goal
@@ -6,3 +6,7 @@ use Rattle.fx_net.proofs.network.Network.obey.Goals as goal
 pub returns-in-Err-clause-err : goal.returns-in-Err-clause-err
 returns-in-Err-clause-err g c = λ _.
     subst (λ (e : Fault). FailsOutside (g.L.Links.failed c.try_line.new.links) e ⊎ RefusesLine c.args.line.now.bytes.now c.args.line.now.number c.args.self.now c.args.capture.now c.try_line.new.capture e) (sym c.fault-in-Err.ensures) c.in-Err.ensures.err
+
+pub returns-in-Err-clause-links : goal.returns-in-Err-clause-links
+returns-in-Err-clause-links g c =
+    subst (λ (e : Fault). FailsOutside (g.L.Links.failed c.try_line.new.links) e ⊎ (c.try_line.new.links ≡ c.args.links.now)) (sym c.fault-in-Err.ensures) c.in-Err.ensures.links

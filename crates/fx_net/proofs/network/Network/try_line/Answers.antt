@@ -1,4 +1,4 @@
-use Rattle.std.proofs.Common.{◌⊎◌, sym, subst}
+use Rattle.std.proofs.Common.{◌≡◌, ◌⊎◌, inr, refl, sym, subst}
 use Rattle.fx_base.specs.declared.fault.Fault.{Fault}
 use Rattle.fx_net.specs.declared.stop.Stop.{Stop}
 use Rattle.fx_net.specs.Running.{RunningNetwork, Acts, FailsOutside, RefusesLine, fault_of}
@@ -14,6 +14,16 @@ returns-in_err-act-clause-err g c =
     (λ (s : Stop). FailsOutside failed (fault_of s) ⊎ RefusesLine line.bytes.now line.number c.args.self.now c.args.capture.now c.act.new.capture (fault_of s))
     c.from_residual.ensures
     (act_refused line.bytes.now c.in-Some.asked line.number c.args.self.now c.args.capture.now c.act.new.capture failed c.in_err-act.field-0.0 c.in-Some.ensures c.in_err-act.ensures.err)
+
+pub returns-in_err-act-clause-links : goal.returns-in_err-act-clause-links
+returns-in_err-act-clause-links g c =
+    let failed = g.L.Links.failed c.args.links.now in
+    exit_with c.from_residual.result c.in_err-act.field-0.0 (λ (s : Stop). FailsOutside failed (fault_of s) ⊎ (c.args.links.now ≡ c.args.links.now)) c.from_residual.ensures (inr refl)
+
+pub returns-in_err-finish-clause-links : goal.returns-in_err-finish-clause-links
+returns-in_err-finish-clause-links g c =
+    outside_exit c.from_residual-in_err-finish.result c.in_err-finish.field-0.0 (g.L.Links.failed c.finish.new.links)
+    (λ (e : Fault). c.finish.new.links ≡ c.args.links.now) c.from_residual-in_err-finish.ensures c.in_err-finish.ensures.err
 
 pub returns-in_err-finish-clause-err : goal.returns-in_err-finish-clause-err
 returns-in_err-finish-clause-err g c =
