@@ -62,7 +62,7 @@ unmetered O W R (inr refused) = inr (inr refused)
 -- it is a complete run of the abstract network
 run_complete : (network : NetworkDocument) (classes : List Class) (left : Option (List ℕ)) (asked : ℕ) (from last : Lines) (before after : Put) (text traffic_octets : List ℕ)
     → IsSound (net_of network) → IsTraffic network traffic_octets classes → (metered : IsMeteredIn network classes left asked from last before after text)
-    → IsRunOf (net_of network) classes metered.ran.at metered.ran.to from last before after metered.totals
+    → IsRunOf network classes metered.ran.at metered.ran.to from last before after metered.totals
 run_complete network classes left asked from last before after text traffic_octets sound traffic metered =
     let paths : HavePaths classes = subst HavePaths (sym traffic.means) (declarations_have_paths (device_names network) [] traffic.value traffic.faultless) in
     runs_are_complete network classes metered.ran.at metered.ran.to from last before after metered.totals sound paths metered.ran.runs

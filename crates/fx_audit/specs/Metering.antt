@@ -10,7 +10,6 @@ use Rattle.fx_collect.specs.Report.{KeysAscend, number_line, totals_text}
 use Rattle.fx_pcap.specs.declared.skipped.Skipped.{Skipped}
 use Rattle.fx_pcap.specs.Captures.{IsOpened, IsRefusedCapture, CaptureState}
 use Rattle.fx_topology.specs.declared.network.NetworkDocument.{NetworkDocument}
-use Rattle.fx_plan.specs.Tables.{net_of}
 use Rattle.fx_net.specs.Running.{RefusesRun, RunsTo, begun}
 use Rattle.fx_conform.specs.Whole.{IsRunOf}
 use Rattle.fx_audit.specs.Documents.{IsNetworkDocument, IsRefusedIn, IsTraffic}
@@ -68,7 +67,7 @@ pub record IsMetered (network_octets traffic_octets : List ℕ) (left : Option (
   pub network_is : IsNetworkDocument network_octets network
   pub traffic_is : IsTraffic network traffic_octets classes
   pub metered : IsMeteredIn network classes left asked from last before after text
-  pub complete : IsRunOf (net_of network) classes metered.ran.at metered.ran.to from last before after metered.totals
+  pub complete : IsRunOf network classes metered.ran.at metered.ran.to from last before after metered.totals
 
 -- the first refusal: that of the documents, then the capture's file header's, then the run's
 abbrev pub IsRefusedMetering : List ℕ → List ℕ → Option (List ℕ) → ℕ → Type 0 → (CaptureState → Type 0) → Lines → Lines → Put → Fault → Type 0

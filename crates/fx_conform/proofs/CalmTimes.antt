@@ -1,34 +1,25 @@
 -- What a running network does between two times at which nothing is on its way.
-use Rattle.std.proofs.Common.{◌≡◌, ◌≢◌, ℕ, zero, suc, ◌+◌, ◌^◌, ◌<◌, Bool, true, false, List, [], ◌∷◌, ◌++◌, length, map, slice_get, refl, ap, sym, ◌∙◌, subst, arith, append_assoc, append-nil, Option, Some, None, Ok}
+use Rattle.std.proofs.Common.{◌≡◌, ℕ, suc, ◌^◌, ◌<◌, List, [], ◌∷◌, ◌++◌, length, slice_get, refl, ap, sym, ◌∙◌, subst, append_assoc, Option, Some, None, Ok}
 use Rattle.std.specs.List.{AllByRecursion}
 use Rattle.fx_base.specs.Device.{Writes}
-use Rattle.fx_boxes.specs.Boxes.{IsFields}
-use Rattle.fx_elements.specs.Axes.{Fields}
 use Rattle.fx_tables.specs.declared.packet.Packet.{Packet}
-use Rattle.fx_tables.specs.declared.record.Record.{Record}
-use Rattle.fx_tables.specs.declared.holder_name.HolderName.{HolderName}
 use Rattle.fx_run_text.specs.declared.step.Step.{Step}
-use Rattle.fx_run_text.specs.declared.step.Step.TheVariants.{Cross, Expire, Arrive}
-use Rattle.fx_tables.specs.declared.traffic.Crossing.{Crossing}
-use Rattle.fx_tables.specs.Network.{Net, holder_place}
+use Rattle.fx_tables.specs.Network.{Net}
 use Rattle.fx_base.specs.Entries.{entry_numbered}
 use Rattle.fx_tables.specs.Classes.{Class, path}
-use Rattle.fx_machine.specs.States.{State, Coming, opening, crossings_from, told_state}
-use Rattle.fx_machine.specs.Steps.{run, one_packet}
+use Rattle.fx_machine.specs.States.{State, Coming, opening, crossings_from}
+use Rattle.fx_machine.specs.Steps.{run}
 use Rattle.fx_link.specs.Links.{Put}
-use Rattle.fx_link.specs.Ongoing.{after_finish}
-use Rattle.fx_pcap.specs.Captures.{Seen}
 use Rattle.fx_runs.specs.PutOn.{put_on}
 use Rattle.fx_runs.specs.Extending.{crossings_of, with_packet}
 use Rattle.fx_runs.proofs.RunsGoOn.{runs_extend, opening_push}
 use Rattle.fx_runs.proofs.PutOn.{put_extends}
-use Rattle.fx_net.specs.declared.action.Action.{Action}
 use Rattle.fx_net.specs.Contents.{Contents}
-use Rattle.fx_net.specs.Doings.{Making, Doing, Ended, ReadsFrame, Nothing, Then, Each, after_packet}
+use Rattle.fx_net.specs.Doings.{Making, Doing, Ended, Nothing, Then, Each}
 use Rattle.fx_net.specs.Finishing.{PutsAll, after_finishing, to_put_on}
 use Rattle.fx_conform.specs.OnLinks.{none_pending}
 use Rattle.fx_conform.specs.Conforming.{Conforms, StoresConform, put_by_run}
-use Rattle.fx_conform.specs.Rows.{InTurn, Followed}
+use Rattle.fx_conform.specs.Rows.{Followed, InTurn, NoStep, Row}
 use Rattle.fx_conform.proofs.LinkLaws.{finishing_rests, still_carries}
 use Rattle.fx_conform.proofs.NetworkMidway.{IsAmid, carried_alike}
 use Rattle.fx_conform.proofs.PacketsCross.{Then as Made}
@@ -39,11 +30,12 @@ writes_join (Some xs) b c first rest h k = subst (λ (o : Option (List ℕ)). Wr
 
 module _ (net : Net) (classes : List Class) (begin : Put) where
   -- Some steps over these packets have followed.
-  pub record Went (packets : List Packet) (shape : List Step → Type 0) (put : Put) (c : Contents) (steps : List Step) : Type 0 where
-    pub more : List Step
+  pub record Went (packets : List Packet) (chosen : List ℕ) (row : Row) (put : Put) (c : Contents) (steps : List Step) : Type 0 where
+    pub to : List Step
     pub state : State
-    pub shaped : shape more
-    pub conforms : Conforms net classes begin put c packets (steps ++ more) state
+    pub shaped : row steps to
+    pub chosen_are : c.chosen ≡ chosen
+    pub conforms : Conforms net classes begin put c packets to state
 
   pub amid_of : (put : Put) (c : Contents) (packets : List Packet) (steps : List Step) (s : State) (h : Conforms net classes begin put c packets steps s)
       → IsAmid net classes packets c none_pending h.history [] steps s
@@ -75,49 +67,45 @@ module _ (net : Net) (classes : List Class) (begin : Put) where
     second = a.second;
   }
 
-  pub ended : (packets : List Packet) (shape : List Step → Type 0) (makes : Making) (before after : Put) (old new : Contents) (steps : List Step) (history : ℕ → List ℕ)
-      → ((link : ℕ) → Writes (begin (suc link)) (before (suc link)) (history link)) → (e : Ended makes before old after new)
-      → Made net classes packets shape e.done none_pending history [] steps → Went packets shape after new steps
-  ended packets shape makes before after old new steps history written e made = record {
-    more = made.more;
+  pub ended : (packets : List Packet) (chosen : List ℕ) (row : Row) (makes : Making) (before after : Put) (old new : Contents) (steps : List Step) (history : ℕ → List ℕ)
+      → ((link : ℕ) → Writes (begin (suc link)) (before (suc link)) (history link)) → (e : Ended makes before old after new) → e.done.chosen ≡ chosen
+      → Made net classes packets row e.done none_pending history [] steps → Went packets chosen row after new steps
+  ended packets chosen row makes before after old new steps history written e same made = record {
+    to = made.to;
     state = made.state;
     shaped = made.shaped;
-    conforms = subst (λ (c : Contents). Conforms net classes begin after c packets (steps ++ made.more) made.state) (sym e.new_is)
-        (finished before after e.done packets (steps ++ made.more) made.state history made.amid made.stores written e.put);
+    chosen_are = ap (λ (c : Contents). c.chosen) e.new_is ∙ same;
+    conforms = subst (λ (c : Contents). Conforms net classes begin after c packets made.to made.state) (sym e.new_is)
+        (finished before after e.done packets made.to made.state history made.amid made.stores written e.put);
   }
 
   -- ---- one thing after another
 
-  abbrev pub Goes : List Packet → (List Step → Type 0) → Doing → Type 0
-  Goes packets shape do_ =
+  abbrev pub Goes : List Packet → List ℕ → Row → Doing → Type 0
+  Goes packets chosen row do_ =
       (before : Put) (old : Contents) (after : Put) (new : Contents) (steps : List Step) (s : State)
-      → Conforms net classes begin before old packets steps s → do_ before old after new → Went packets shape after new steps
+      → Conforms net classes begin before old packets steps s → old.chosen ≡ chosen → do_ before old after new → Went packets chosen row after new steps
 
-  pub goes_nothing : (packets : List Packet) → Goes packets (λ more. more ≡ []) Nothing
-  goes_nothing packets before old after new steps s h e = record {
-    more = [];
+  pub goes_nothing : (packets : List Packet) (chosen : List ℕ) → Goes packets chosen NoStep Nothing
+  goes_nothing packets chosen before old after new steps s h same e = record {
+    to = steps;
     state = s;
     shaped = refl;
-    conforms = subst (λ (put : Put). Conforms net classes begin put new packets (steps ++ []) s) (sym e.0)
-        (subst (λ (c : Contents). Conforms net classes begin before c packets (steps ++ []) s) (sym e.1)
-        (subst (λ (ss : List Step). Conforms net classes begin before old packets ss s) (sym (append-nil steps)) h));
+    chosen_are = ap (λ (c : Contents). c.chosen) e.1 ∙ same;
+    conforms = subst (λ (put : Put). Conforms net classes begin put new packets steps s) (sym e.0)
+        (subst (λ (c : Contents). Conforms net classes begin before c packets steps s) (sym e.1) h);
   }
 
-  pub goes_then : (packets : List Packet) (one other : List Step → Type 0) (first rest : Doing) → Goes packets one first → Goes packets other rest → Goes packets (Followed one other) (Then first rest)
-  goes_then packets one other first rest g k before old after new steps s h e =
-      let a = g before old e.0 e.1 steps s h e.2 in
-      let b = k e.0 e.1 after new (steps ++ a.more) a.state a.conforms e.3 in
-      record {
-        more = a.more ++ b.more;
-        state = b.state;
-        shaped = (a.more, b.more, a.shaped, b.shaped, refl);
-        conforms = subst (λ (ss : List Step). Conforms net classes begin after new packets ss b.state) (append_assoc steps a.more b.more) b.conforms;
-      }
+  pub goes_then : (packets : List Packet) (chosen : List ℕ) (one other : Row) (first rest : Doing) → Goes packets chosen one first → Goes packets chosen other rest → Goes packets chosen (Followed one other) (Then first rest)
+  goes_then packets chosen one other first rest g k before old after new steps s h same e =
+      let a = g before old e.0 e.1 steps s h same e.2 in
+      let b = k e.0 e.1 after new a.to a.state a.conforms a.chosen_are e.3 in
+      record { to = b.to; state = b.state; shaped = (a.to, a.shaped, b.shaped); chosen_are = b.chosen_are; conforms = b.conforms }
 
-  pub goes_each : {A : Type 0} (packets : List Packet) (P : A → Type 0) (shape : A → List Step → Type 0) (do_ : A → Doing) → ((x : A) → P x → Goes packets (shape x) (do_ x)) → (xs : List A) → AllByRecursion P xs → Goes packets (InTurn shape xs) (Each do_ xs)
-  goes_each packets P shape do_ g [] all = goes_nothing packets
-  goes_each packets P shape do_ g (x ∷ xs) all =
-      goes_then packets (shape x) (InTurn shape xs) (do_ x) (Each do_ xs) (g x all.0) (goes_each packets P shape do_ g xs all.1)
+  pub goes_each : {A : Type 0} (packets : List Packet) (chosen : List ℕ) (P : A → Type 0) (row : A → Row) (do_ : A → Doing) → ((x : A) → P x → Goes packets chosen (row x) (do_ x)) → (xs : List A) → AllByRecursion P xs → Goes packets chosen (InTurn row xs) (Each do_ xs)
+  goes_each packets chosen P row do_ g [] all = goes_nothing packets chosen
+  goes_each packets chosen P row do_ g (x ∷ xs) all =
+      goes_then packets chosen (row x) (InTurn row xs) (do_ x) (Each do_ xs) (g x all.0) (goes_each packets chosen P row do_ g xs all.1)
 
 -- ---- a packet is read
 

@@ -1,11 +1,16 @@
 -- The record of the least key leaves a holder, until it holds nothing.
-use Rattle.std.proofs.Common.{◌≡◌, ℕ, zero, suc, ◌<◌, cond, List, [], ◌∷◌, length, Option, Some, None, option_map, refl, sym, ap, ◌∙◌, subst, arith, slice_get, slice_set}
+use Rattle.std.proofs.Common.{◌≡◌, ℕ, zero, suc, ◌<◌, Bool, true, false, ◌&&◌, T, cond, Ordering, Less, Equal, Greater, List, [], ◌∷◌, length, Option, Some, None, option_map, refl, sym, ap, ◌∙◌, subst, arith, slice_get, slice_set}
 use Rattle.std.specs.Cmp.{tied_itself}
-use Rattle.std.specs.Ordering.{is_eq}
-use Rattle.std.specs.FinMap.{entries, find, get, remove, get-entries}
-use Rattle.fx_layout.specs.Keys.{Key}
+use Rattle.std.specs.List.{AllByRecursion}
+use Rattle.std.specs.Ordering.{is_eq, is_gt, is_lt, ordering_reverse}
+use Rattle.std.specs.Prelude.{is_some}
+use Rattle.std.specs.FinMap.{entries, entries_sorted, find, get, remove, get-entries}
+use Rattle.std.specs.FinMap.Entries.{below_all, is_sorted}
+use Rattle.fx_layout.specs.Keys.{Key, same_key}
+use Rattle.fx_layout.proofs.Projections.{key_same}
 use Rattle.fx_tables.specs.declared.record.Record.{Record}
 use Rattle.fx_machine.specs.States.{without}
+use Rattle.fx_machine.specs.Sums.{total_at}
 use Rattle.fx_store.specs.Order.{key_cmp}
 use Rattle.fx_store.specs.KeyOrder.{key_cmp_total}
 use Rattle.fx_store.specs.Flows.{Flows, Entry, least}
@@ -32,6 +37,67 @@ first_found e (f ∷ es) h =
     ap (λ (x : Entry). cond (is_eq (key_cmp x.0 f.0)) (Some f.1) (find key_cmp x.0 es)) is
     ∙ ap (λ o. cond (is_eq o) (Some f.1) (find key_cmp f.0 es)) (tied_itself key_cmp_total f.0)
     ∙ ap (λ (x : Entry). Some x.1) (sym is)
+
+missed : (k e : Key) (es : List Entry) → key_cmp k e ≡ Less → T (below_all key_cmp e es) → find key_cmp k es ≡ None
+missed k e [] lt h = refl
+missed k e (f ∷ es) lt h =
+    let low : (key_cmp e f.0 ≡ Less) × T (below_all key_cmp e es) = both (key_cmp e f.0) (below_all key_cmp e es) h in
+    ap (λ o. cond (is_eq o) (Some f.1) (find key_cmp k es)) (key_cmp_total.trans k e f.0 lt low.0) ∙ missed k e es lt low.1
+  where
+    both : (o : Ordering) (b : Bool) → T (is_lt o && b) → (o ≡ Less) × T b
+    both Less true g = (refl, tt)
+    both Less false g = absurd g
+    both Equal b g = absurd g
+    both Greater b g = absurd g
+
+-- no key that is there is below the first
+above_first : (es : List Entry) (e : Entry) (q : Key) → T (is_sorted key_cmp es) → slice_get es 0 ≡ Some e → is_some (find key_cmp q es) ≡ true → is_gt (key_cmp e.0 q) ≡ false
+above_first [] e q sorted h there = absurd (cc)
+above_first (f ∷ es) e q sorted h there =
+    let is : e ≡ f = cc in
+    subst (λ (x : Entry). is_gt (key_cmp x.0 q) ≡ false) (sym is) (by (key_cmp f.0 q) refl)
+  where
+    first : (a b : Bool) → T (a && b) → T a
+    first true b g = tt
+    first false b g = absurd g
+
+    by : (o : Ordering) → key_cmp f.0 q ≡ o → is_gt o ≡ false
+    by Less is = refl
+    by Equal is = refl
+    by Greater is =
+        let below : key_cmp q f.0 ≡ Less = key_cmp_total.antisymm q f.0 ∙ ap ordering_reverse is in
+        let gone : find key_cmp q (f ∷ es) ≡ None =
+        ap (λ o. cond (is_eq o) (Some f.1) (find key_cmp q es)) below ∙ missed q f.0 es below (first (below_all key_cmp f.0 es) (is_sorted key_cmp es) sorted) in
+        let no : false ≡ true = ap is_some (sym gone) ∙ there in
+        absurd (cc)
+
+-- so of the records for these flows none has a key below the least
+above_least : (held : Flows) (e : Entry) (rs : List Record) → IsHeld held rs → least held ≡ Some e → AllByRecursion (λ (r : Record). is_gt (key_cmp e.0 r.key) ≡ false) rs
+above_least held e rs h low = each rs (λ key there. there) where
+  still : (t : Record) (ts : List Record) (key : Key) → is_some (total_at ts key) ≡ true → is_some (total_at (t ∷ ts) key) ≡ true
+  still t ts key there = elim (same_key t.key key) as (λ b. is_some (cond b (Some t.counts) (total_at ts key)) ≡ true) [ true ↦ refl | false ↦ there ]
+
+  own : (t : Record) (ts : List Record) → is_some (total_at (t ∷ ts) t.key) ≡ true
+  own t ts = ap (λ b. is_some (cond b (Some t.counts) (total_at ts t.key))) (key_same t.key)
+
+  each : (ts : List Record) → ((key : Key) → is_some (total_at ts key) ≡ true → is_some (total_at rs key) ≡ true) → AllByRecursion (λ (r : Record). is_gt (key_cmp e.0 r.key) ≡ false) ts
+  each [] within = tt
+  each (t ∷ ts) within = (
+    above_first (entries held) e t.key (entries_sorted held) low (ap is_some (sym (h.same t.key ∙ get-entries held t.key)) ∙ within t.key (own t ts)),
+    each ts (λ key there. within key (still t ts key there)),
+  )
+
+-- of the records that are held none has a key below that of the entry that leaves
+pub none_below_least : (stores : List (Option Stored)) (held : List (List Record)) (place : ℕ) (e : Entry) (rs : List Record) → AreHeld stores held → least_of (stored_at stores place) ≡ Some e → slice_get held place ≡ Some rs
+    → AllByRecursion (λ (r : Record). is_gt (key_cmp e.0 r.key) ≡ false) rs
+none_below_least [] [] place e rs h low there = absurd (cc)
+none_below_least [] (ts ∷ held) place e rs h low there = absurd h
+none_below_least (s ∷ stores) [] place e rs h low there = absurd h
+none_below_least (None ∷ stores) (ts ∷ held) zero e rs h low there = absurd (cc)
+none_below_least (Some s ∷ stores) (ts ∷ held) zero e rs h low there =
+    let is : ts ≡ rs = cc in
+    above_least (flows_in s) e rs (subst (IsHeld (flows_in s)) is h.0) low
+none_below_least (s ∷ stores) (ts ∷ held) (suc place) e rs h low there = none_below_least stores held place e rs h.1 low there
 
 pub least_there : (held : Flows) (e : Entry) → least held ≡ Some e → get held e.0 ≡ Some e.1
 least_there held e h = get-entries held e.0 ∙ first_found e (entries held) h
@@ -92,7 +158,7 @@ record SomeLeave (stores : List (Option Stored)) (held : List (List Record)) (pl
   all_held : AllHeld (without_leasts place stores n) now
 
 -- where there is none, nothing is taken out
-none_out : (stores : List (Option Stored)) (place : ℕ) → with_changed (option_map (taken_out None)) stores place ≡ stores
+pub none_out : (stores : List (Option Stored)) (place : ℕ) → with_changed (option_map (taken_out None)) stores place ≡ stores
 none_out [] place = refl
 none_out (None ∷ stores) zero = refl
 none_out (Some s ∷ stores) zero = refl

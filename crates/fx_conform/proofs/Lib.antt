@@ -16,6 +16,7 @@ pub mod OneLink
 pub mod AllLinks
 pub mod LinkLaws
 pub mod CanBeSent
+pub mod DestinationsStay
 pub mod NetworkMidway
 pub mod PacketsCross
 pub mod RecordsArrive

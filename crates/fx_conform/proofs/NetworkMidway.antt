@@ -1,16 +1,14 @@
 -- A running network in the middle of what it does, and the steps that it has made so far.
-use Rattle.std.proofs.Common.{◌≡◌, ℕ, zero, suc, ◌+◌, ◌^◌, ◌<◌, ◌==◌, ◌&&◌, true, cond, remove, List, [], ◌∷◌, ◌++◌, length, slice_get, slice_set, refl, ap, sym, ◌∙◌, subst, arith, append_assoc, append-nil, Option, Some, None, Ok}
+use Rattle.std.proofs.Common.{◌≡◌, ℕ, zero, suc, ◌^◌, ◌<◌, ◌==◌, ◌&&◌, true, cond, remove, List, [], ◌∷◌, ◌++◌, length, slice_get, slice_set, refl, ap, sym, ◌∙◌, subst, arith, append-nil, Some, Ok}
 use Rattle.std.specs.List.{AllByRecursion}
 use Rattle.std.proofs.lemmas.Bool.Decides.{nat_tests}
-use Rattle.fx_base.specs.declared.counts.Counts.{Counts}
-use Rattle.fx_tables.specs.declared.holding.Holding.{Holding}
 use Rattle.fx_tables.specs.declared.packet.Packet.{Packet}
 use Rattle.fx_tables.specs.declared.record.Record.{Record}
 use Rattle.fx_tables.specs.declared.holder_name.HolderName.{HolderName}
 use Rattle.fx_run_text.specs.declared.step.Step.{Step}
-use Rattle.fx_run_text.specs.declared.step.Step.TheVariants.{Cross, Expire, Arrive}
+use Rattle.fx_run_text.specs.declared.step.Step.TheVariants.{Cross, Expire}
 use Rattle.fx_tables.specs.declared.traffic.Crossing.{Crossing}
-use Rattle.fx_tables.specs.Network.{Net, named_by, holder_place}
+use Rattle.fx_tables.specs.Network.{Net, named_by}
 use Rattle.fx_base.specs.Entries.{entry_numbered}
 use Rattle.fx_tables.specs.Classes.{Class, path}
 use Rattle.fx_machine.specs.States.{State, Coming, opening, told_state, put_last}
@@ -18,13 +16,12 @@ use Rattle.fx_machine.specs.Acts.{Choices, Outcome}
 use Rattle.fx_machine.specs.Sends.{put_all}
 use Rattle.fx_machine.specs.Holds.{hold_all}
 use Rattle.fx_machine.specs.Steps.{run, after, then_run, one_packet, place, later}
-use Rattle.fx_collect.specs.Totals.{Totals, totals_in}
-use Rattle.fx_link.specs.Sending.{IsSent}
+use Rattle.fx_collect.specs.Totals.{totals_in}
 use Rattle.fx_link.specs.Ongoing.{Ongoing}
 use Rattle.fx_runs.specs.Destinations.{AllUsable, links_used, sent_by}
 use Rattle.fx_runs.specs.Given.{records_given}
 use Rattle.fx_runs.specs.Making.{intakes_at}
-use Rattle.fx_runs.specs.PutOn.{put_by, put_on}
+use Rattle.fx_runs.specs.PutOn.{put_by}
 use Rattle.fx_runs.proofs.RunsGoOn.{runs_join}
 use Rattle.fx_runs.proofs.RecordsGiven.{expire_puts, cross_puts}
 use Rattle.fx_runs.proofs.StepsThatCanBeMade.{expires_are_made, crosses_are_made}
@@ -36,7 +33,7 @@ use Rattle.fx_conform.specs.OnLinks.{AreCarried, IsCarried}
 use Rattle.fx_conform.specs.Sendable.{AreSent}
 use Rattle.fx_conform.specs.Closing.{CanBeNamed}
 use Rattle.fx_conform.specs.Conforming.{put_by_run}
-use Rattle.fx_conform.specs.Rows.{AreExpiries, IsExpiry}
+use Rattle.fx_conform.specs.Rows.{Expires, Repeated, Row, expiry}
 use Rattle.fx_conform.proofs.LinkLaws.{puts_carry}
 use Rattle.fx_conform.proofs.CanBeSent.{leavings_can_be_sent}
 
@@ -108,17 +105,17 @@ module _ (net : Net) (classes : List Class) (packets : List Packet) where
   -- ---- records leave
 
   -- what follows by some steps
-  pub record Follows (shape : List Step → Type 0) (c : Contents) (pending : ℕ → List Record) (history : ℕ → List ℕ) (coming : List Coming) (steps : List Step) (held : List (List Record)) : Type 0 where
-    pub more : List Step
+  pub record Follows (row : Row) (c : Contents) (pending : ℕ → List Record) (history : ℕ → List ℕ) (coming : List Coming) (steps : List Step) (held : List (List Record)) : Type 0 where
+    pub to : List Step
     pub state : State
-    pub shaped : shape more
-    pub amid : IsAmid net classes packets c pending history coming (steps ++ more) state
+    pub shaped : row steps to
+    pub amid : IsAmid net classes packets c pending history coming to state
     pub held_is : state.held ≡ held
 
   module _ (pending : ℕ → List Record) (history : ℕ → List ℕ) (coming : List Coming) where
     pub one_leaves : (l : Leaver) (c : Contents) (steps : List Step) (s : State) (now : List (List Record)) (named : CanBeNamed net l.holder)
-        → IsAmid net classes packets c pending history coming steps s → AreSent s.held → Leave l s.held now
-        → Follows (IsExpiry named.0) (after_leave net l c) pending history coming steps now
+        → IsAmid net classes packets c pending history coming steps s → AreSent s.held → (leave : Leave l s.held now)
+        → Follows (λ from to. to ≡ from ++ expiry net c.chosen named.0 l.holder leave.number ∷ []) (after_leave net l c) pending history coming steps now
     one_leaves l c steps s now named a sent leave =
         let name : HolderName = named.0 in
         let places : List ℕ = named_by (slice_get net.holders l.holder) in
@@ -129,9 +126,9 @@ module _ (net : Net) (classes : List Class) (packets : List Packet) where
         expires_are_made net classes packets c.chosen s name l.holder leave.number leave.rs l.flow a.chosen named.1 leave.there leave.flow_is
         ∙ ap (λ (h : List (List Record)). let u : Outcome = Ok (record s { held = h; carried = put_all links l.flow s.carried }) in u) (sym leave.now_is) in
         record {
-          more = step ∷ [];
+          to = steps ++ step ∷ [];
           state = t;
-          shaped = record { number = leave.number; choices = sent_by net c.chosen places; steps_are = refl };
+          shaped = refl;
           amid = record {
             run_is = run_one steps step s t a.run_is made;
             coming_is = a.coming_is;
@@ -146,35 +143,22 @@ module _ (net : Net) (classes : List Class) (packets : List Packet) where
           held_is = refl;
         }
 
-    expiries_join : (first rest : List Step) → AreExpiries first → AreExpiries rest → AreExpiries (first ++ rest)
-    expiries_join [] rest a b = b
-    expiries_join (Expire name number choices ∷ first) rest a b = expiries_join first rest a b
-    expiries_join (Cross packet crossing choices ∷ first) rest a b = absurd a
-    expiries_join (Arrive link number choices ∷ first) rest a b = absurd a
-
-    expires_one : (name : HolderName) (steps : List Step) → IsExpiry name steps → AreExpiries steps
-    expires_one name steps h = subst AreExpiries (sym h.steps_are) tt
-
     -- one after another
     pub all_leave_so : (ls : List Leaver) (c : Contents) (steps : List Step) (s : State) (held now : List (List Record)) → AllByRecursion (λ (l : Leaver). CanBeNamed net l.holder) ls
         → IsAmid net classes packets c pending history coming steps s → s.held ≡ held → AreSent held → AllLeave ls held now
-        → Follows AreExpiries (after_leaves net ls c) pending history coming steps now
-    all_leave_so [] c steps s held now named a is sent leave = record {
-      more = [];
-      state = s;
-      shaped = tt;
-      amid = subst (λ (ss : List Step). IsAmid net classes packets c pending history coming ss s) (sym (append-nil steps)) a;
-      held_is = is ∙ sym leave;
-    }
+        → Follows (Repeated (Expires net c.chosen)) (after_leaves net ls c) pending history coming steps now
+    all_leave_so [] c steps s held now named a is sent leave =
+        record { to = steps; state = s; shaped = (0, refl); amid = a; held_is = is ∙ sym leave }
     all_leave_so (l ∷ ls) c steps s held now named a is sent leave =
         let there : Leave l s.held leave.0 = subst (λ (h : List (List Record)). Leave l h leave.0) (sym is) leave.1 in
         let first = one_leaves l c steps s leave.0 named.0 a (subst AreSent (sym is) sent) there in
-        let rest = all_leave_so ls (after_leave net l c) (steps ++ first.more) first.state leave.0 now named.1 first.amid first.held_is (leavings_can_be_sent l held leave.0 leave.1 sent).1 leave.2 in
+        let rest = all_leave_so ls (after_leave net l c) first.to first.state leave.0 now named.1 first.amid first.held_is (leavings_can_be_sent l held leave.0 leave.1 sent).1 leave.2 in
+        let expires : Expires net c.chosen steps first.to = record { name = named.0.0; place = l.holder; named = named.0.1; number = there.number; to_is = first.shaped } in
         record {
-          more = first.more ++ rest.more;
+          to = rest.to;
           state = rest.state;
-          shaped = expiries_join first.more rest.more (expires_one named.0.0 first.more first.shaped) rest.shaped;
-          amid = subst (λ (ss : List Step). IsAmid net classes packets (after_leaves net ls (after_leave net l c)) pending history coming ss rest.state) (append_assoc steps first.more rest.more) rest.amid;
+          shaped = (suc rest.shaped.0, (first.to, expires, rest.shaped.1));
+          amid = rest.amid;
           held_is = rest.held_is;
         }
 
@@ -189,7 +173,7 @@ module _ (net : Net) (classes : List Class) (packets : List Packet) where
     pub crosses : (c : Contents) (steps : List Step) (s : State) (choices : Choices) (now : List (List Record)) → entry_numbered packets i ≡ Some p → entry_numbered (path classes p) j ≡ Some crossing
         → IsAmid net classes packets c pending history (record { packet = i; crossing = j } ∷ rest) steps s
         → hold_all (one_packet p) (intakes_at net p.fields crossing) s.held choices ≡ Some now
-        → Follows (λ more. more ≡ Cross i j choices ∷ []) c pending history rest steps now
+        → Follows (λ from to. to ≡ from ++ Cross i j choices ∷ []) c pending history rest steps now
     crosses c steps s choices now is on a taken =
         let step : Step = Cross i j choices in
         let t : State = record s { coming = rest; held = now } in
@@ -197,7 +181,7 @@ module _ (net : Net) (classes : List Class) (packets : List Packet) where
         crosses_are_made net classes packets s i j 0 p crossing choices now is (first_place s.coming a.coming_is) on taken
         ∙ ap (λ (cs : List Coming). let u : Outcome = Ok (record s { coming = remove cs 0; held = now }) in u) a.coming_is in
         record {
-          more = step ∷ [];
+          to = steps ++ step ∷ [];
           state = t;
           shaped = refl;
           amid = record {

@@ -1,9 +1,8 @@
 -- A network before anything is read, as the opening of a run over no packets.
-use Rattle.std.proofs.Common.{◌≡◌, ◌≢◌, ℕ, zero, suc, ◌+◌, ◌^◌, ◌<◌, ◌≤◌, eqb, Bool, true, false, cond, min, List, [], ◌∷◌, ◌++◌, length, drop, map, slice_get, refl, ap, sym, ◌∙◌, subst, arith, Option, Some, None, All, inr}
+use Rattle.std.proofs.Common.{◌≡◌, ◌≢◌, ℕ, zero, suc, ◌+◌, ◌<◌, ◌≤◌, eqb, Bool, true, false, cond, min, List, [], ◌∷◌, ◌++◌, length, drop, map, slice_get, refl, ap, sym, ◌∙◌, subst, arith, Option, Some, None, inr}
 use Rattle.std.specs.Prelude.{IfSome}
 use Rattle.std.specs.List.{AllByRecursion}
 use Rattle.std.proofs.lemmas.List.{length-drop}
-use Rattle.std.specs.Option.{unwrap_or}
 use Rattle.fx_config.specs.declared.cache.Cache.{Cache}
 use Rattle.fx_config.specs.declared.cache.CacheKind.{CacheKind}
 use Rattle.fx_config.specs.declared.cache.CacheKind.TheVariants as kind
@@ -18,7 +17,7 @@ use Rattle.fx_link.specs.Links.{Put}
 use Rattle.fx_topology.specs.declared.network.NetworkDocument.{NetworkDocument}
 use Rattle.fx_topology.specs.declared.network_device.NetworkDevice.{NetworkDevice}
 use Rattle.fx_plan.specs.Labels.{Label, exporting_labels}
-use Rattle.fx_plan.specs.Tables.{net_of, aggregations_from, processes_from, processes_in, held_by, cache_holders, aggregation_holders, aggregation_holder, cache_holder}
+use Rattle.fx_plan.specs.Tables.{net_of, aggregations_from, processes_from, processes_in, held_by, cache_holders, aggregation_holders, aggregation_holder}
 use Rattle.std.specs.FinMap.{len-empty}
 use Rattle.fx_base.specs.declared.counts.Counts.{Counts}
 use Rattle.fx_store.specs.Order.{key_cmp}
@@ -34,7 +33,7 @@ use Rattle.fx_conform.specs.Held.{AreHeld}
 use Rattle.fx_conform.specs.Emptying.{count_in}
 use Rattle.fx_conform.specs.TakingIn.{IsUnbounded}
 use Rattle.fx_conform.specs.Sendable.{AreSent}
-use Rattle.fx_conform.specs.Conforming.{IsSound, AreBoundless, Conforms, StoresConform}
+use Rattle.fx_conform.specs.Conforming.{IsSound, AreBoundless, Conforms}
 use Rattle.fx_conform.proofs.AllLinks.{links_begin}
 use Rattle.fx_conform.proofs.NothingAtFirst.{begins}
 use Rattle.fx_conform.proofs.PacketsCross.{all_at, all_to_list, all_join}

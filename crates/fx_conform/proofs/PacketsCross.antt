@@ -1,7 +1,7 @@
 -- A packet that crosses an interface: what makes room leaves, holders take it in, and the records of immediate caches leave.
-use Rattle.std.proofs.Common.{◌≡◌, ℕ, zero, suc, ◌+◌, ◌^◌, ◌<◌, Bool, true, false, cond, List, [], ◌∷◌, ◌++◌, length, slice_get, refl, ap, sym, ◌∙◌, subst, arith, append_assoc, append-nil, Option, Some, None, Ok, All}
+use Rattle.std.proofs.Common.{◌≡◌, ℕ, zero, suc, ◌+◌, ◌^◌, ◌<◌, Bool, true, false, cond, List, [], ◌∷◌, ◌++◌, length, slice_get, refl, ap, sym, ◌∙◌, subst, arith, append_assoc, Option, Some, None, All}
 use Rattle.std.proofs.lemmas.List.Elements.{All-head, All-tail}
-use Rattle.std.specs.Prelude.{IfSome, option_and_then}
+use Rattle.std.specs.Prelude.{IfSome}
 use Rattle.std.specs.List.{AllByRecursion}
 use Rattle.fx_base.specs.declared.counts.Counts.{Counts}
 use Rattle.fx_elements.specs.Axes.{Fields}
@@ -12,9 +12,8 @@ use Rattle.fx_tables.specs.declared.observation.Selection.{Selection}
 use Rattle.fx_tables.specs.declared.packet.Packet.{Packet}
 use Rattle.fx_tables.specs.declared.record.Record.{Record}
 use Rattle.fx_run_text.specs.declared.step.Step.{Step}
-use Rattle.fx_run_text.specs.declared.step.Step.TheVariants.{Cross}
 use Rattle.fx_tables.specs.declared.traffic.Crossing.{Crossing}
-use Rattle.fx_tables.specs.Network.{Net, Holder, Point, DeviceEntry, AggregationEntry, points_of, aggregations_of}
+use Rattle.fx_tables.specs.Network.{Net, Point, DeviceEntry, AggregationEntry, points_of, aggregations_of}
 use Rattle.fx_base.specs.Entries.{entry_numbered}
 use Rattle.fx_tables.specs.Classes.{Class, path}
 use Rattle.fx_machine.specs.Holds.{hold_all}
@@ -26,7 +25,7 @@ use Rattle.fx_machine.specs.Steps.{one_packet}
 use Rattle.fx_store.specs.Flows.{Entry}
 use Rattle.fx_runs.specs.Making.{intakes_at}
 use Rattle.fx_net.specs.Contents.{Contents, stored_at, is_immediate}
-use Rattle.fx_net.specs.Stores.{Stored, makes_room}
+use Rattle.fx_net.specs.Stores.{Stored}
 use Rattle.fx_net.specs.Leaving.{leaver, after_leave, after_leaves}
 use Rattle.fx_net.specs.Metering.{after_path}
 use Rattle.fx_net.specs.Taking.{stores_and_leavers, left_by, leaves_at_once, all_leave_at_once, with_stores, after_adding, after_taking}
@@ -35,13 +34,14 @@ use Rattle.fx_conform.specs.TakingIn.{AreThere, TakesIn, IsUnbounded, packet_key
 use Rattle.fx_conform.specs.Sendable.{AreSent}
 use Rattle.fx_conform.specs.Closing.{CanBeNamed}
 use Rattle.fx_conform.specs.Conforming.{IsSound, AreBoundless, StoresConform}
-use Rattle.fx_conform.specs.Rows.{AreExpiries, IsCrossing, AreCrossings}
+use Rattle.fx_conform.specs.Rows.{AreCrossings, Expires, IsCrossing, Repeated, Row}
 use Rattle.fx_conform.proofs.ImmediateCaches.{as_many, taking_in, met_have_keys}
 use Rattle.fx_conform.proofs.CanBeSent.{leavings_can_be_sent, met_can_be_sent, taken_can_be_sent}
 use Rattle.fx_conform.proofs.Takers.{stay_unbounded}
 use Rattle.fx_conform.proofs.CountsTakenIn.{left_then}
 use Rattle.fx_conform.proofs.ClosingNamed.{taking_stays_named}
-use Rattle.fx_conform.proofs.NetworkMidway.{IsAmid, Follows, all_leave_so, crosses}
+use Rattle.fx_conform.proofs.DestinationsStay.{adding_chosen, taking_chosen}
+use Rattle.fx_conform.proofs.NetworkMidway.{IsAmid, all_leave_so, crosses}
 
 -- ---- what meters a packet can be named
 
@@ -144,18 +144,18 @@ module _ (net : Net) where
   -- ---- a crossing
 
   -- what follows, and what the stores are then
-  pub record Then (classes : List Class) (packets : List Packet) (shape : List Step → Type 0) (c : Contents) (pending : ℕ → List Record) (history : ℕ → List ℕ) (coming : List Coming) (steps : List Step) : Type 0 where
-    pub more : List Step
+  pub record Then (classes : List Class) (packets : List Packet) (row : Row) (c : Contents) (pending : ℕ → List Record) (history : ℕ → List ℕ) (coming : List Coming) (steps : List Step) : Type 0 where
+    pub to : List Step
     pub state : State
-    pub shaped : shape more
-    pub amid : IsAmid net classes packets c pending history coming (steps ++ more) state
+    pub shaped : row steps to
+    pub amid : IsAmid net classes packets c pending history coming to state
     pub stores : StoresConform net c.stores state.held
 
   module _ (sound : IsSound net) (classes : List Class) (packets : List Packet)
       (pending : ℕ → List Record) (history : ℕ → List ℕ) (i : ℕ) (p : Packet) (fields_are : IsFields p.fields) (few : p.octets < 2 ^ 64) (packet_is : entry_numbered packets i ≡ Some p) where
     crossed : (j : ℕ) (crossing : Crossing) (rest : List Coming) (c : Contents) (steps : List Step) (s : State) → entry_numbered (path classes p) j ≡ Some crossing
         → IsAmid net classes packets c pending history (record { packet = i; crossing = j } ∷ rest) steps s → StoresConform net c.stores s.held
-        → Then classes packets (IsCrossing i j) (after_taking net (one_packet p) (intakes_at net p.fields crossing) c) pending history rest steps
+        → Then classes packets (IsCrossing net c.chosen i j) (after_taking net (one_packet p) (intakes_at net p.fields crossing) c) pending history rest steps
     crossed j crossing rest c steps s on a st =
         let hs : List Holding = intakes_at net p.fields crossing in
         let counts : Counts = one_packet p in
@@ -168,24 +168,20 @@ module _ (net : Net) where
         record { run_is = a.run_is; coming_is = a.coming_is; as_many = a.as_many; links = a.links; chosen = a.chosen; totals = a.totals; second = a.second } in
         let room = all_leave_so net classes packets pending history coming (stores_and_leavers c.stores counts hs).left kept steps s s.held takes.room (adding_named counts hs c.stores met) amid refl st.sent takes.makes_room in
         let sent_then = all_sent (stores_and_leavers c.stores counts hs).left s.held takes.room takes.makes_room st.sent in
-        let taken = crosses net classes packets pending history rest i j p crossing (after_adding net counts hs c) (steps ++ room.more) room.state takes.choices takes.now packet_is on room.amid
+        let taken = crosses net classes packets pending history rest i j p crossing (after_adding net counts hs c) room.to room.state takes.choices takes.now packet_is on room.amid
         (ap (λ (h : List (List Record)). hold_all counts hs h takes.choices) room.held_is ∙ takes.taken_in) in
         let right = met_can_be_sent net.holders p.fields (occurrences net crossing p.fields) sound.layouts fields_are in
         let sent_now = taken_can_be_sent counts hs takes.room takes.choices takes.now (record { packets = omega arith; octets = few }) right sent_then takes.taken_in in
-        let out = all_leave_so net classes packets pending history rest (all_leave_at_once (stores_and_leavers c.stores counts hs).stores counts hs) (after_adding net counts hs c) ((steps ++ room.more) ++ taken.more) taken.state takes.now takes.final
+        let out = all_leave_so net classes packets pending history rest (all_leave_at_once (stores_and_leavers c.stores counts hs).stores counts hs) (after_adding net counts hs c) taken.to taken.state takes.now takes.final
         (at_once_named counts (stores_and_leavers c.stores counts hs).stores hs met) taken.amid taken.held_is sent_now takes.at_once in
-        let all : List Step = room.more ++ (Cross i j takes.choices ∷ out.more) in
-        let joined : ((steps ++ room.more) ++ taken.more) ++ out.more ≡ steps ++ all =
-        ap (λ (l : List Step). ((steps ++ room.more) ++ l) ++ out.more) taken.shaped
-        ∙ append_assoc (steps ++ room.more) (Cross i j takes.choices ∷ []) out.more
-        ∙ append_assoc steps room.more (Cross i j takes.choices ∷ out.more) in
+        let leave : Repeated (Expires net c.chosen) taken.to out.to = subst (λ (chosen : List ℕ). Repeated (Expires net chosen) taken.to out.to) (adding_chosen net counts hs c) out.shaped in
         let stores_are : (stores_and_leavers c.stores counts hs).stores ≡ (after_taking net counts hs c).stores =
         sym (stores_stay (all_leave_at_once (stores_and_leavers c.stores counts hs).stores counts hs) (after_adding net counts hs c) ∙ stores_stay (stores_and_leavers c.stores counts hs).left kept) in
         record {
-          more = all;
+          to = out.to;
           state = out.state;
-          shaped = record { room = room.more; choices = takes.choices; at_once = out.more; makes_room = room.shaped; leave_at_once = out.shaped; steps_are = refl };
-          amid = subst (λ (ss : List Step). IsAmid net classes packets (after_taking net counts hs c) pending history rest ss out.state) joined out.amid;
+          shaped = record { room = room.to; makes_room = room.shaped; choices = takes.choices; leave_at_once = subst (λ (ss : List Step). Repeated (Expires net c.chosen) ss out.to) taken.shaped leave };
+          amid = out.amid;
           stores = subst (λ (ss : List (Option Stored)). StoresConform net ss out.state.held) stores_are
               (subst (λ (h : List (List Record)). StoresConform net (stores_and_leavers c.stores counts hs).stores h) (sym out.held_is) (record {
                 as_many = as_many counts hs (record { stores = c.stores; left = [] }) ∙ st.as_many;
@@ -208,26 +204,21 @@ module _ (net : Net) where
 
     pub crosses_path : (done rest : List Crossing) (c : Contents) (steps : List Step) (s : State) → path classes p ≡ done ++ rest
         → IsAmid net classes packets c pending history (crossings_from i (suc (length done)) rest) steps s → StoresConform net c.stores s.held
-        → Then classes packets (AreCrossings i (suc (length done)) (length rest)) (after_path net p.fields (one_packet p) rest c) pending history [] steps
-    crosses_path done [] c steps s e a st = record {
-      more = [];
-      state = s;
-      shaped = refl;
-      amid = subst (λ (ss : List Step). IsAmid net classes packets c pending history [] ss s) (sym (append-nil steps)) a;
-      stores = st;
-    }
+        → Then classes packets (AreCrossings net c.chosen i (suc (length done)) (length rest)) (after_path net p.fields (one_packet p) rest c) pending history [] steps
+    crosses_path done [] c steps s e a st = record { to = steps; state = s; shaped = refl; amid = a; stores = st }
     crosses_path done (crossing ∷ rest) c steps s e a st =
         let on : entry_numbered (path classes p) (suc (length done)) ≡ Some crossing = ap (λ (l : List Crossing). slice_get l (length done)) e ∙ at_length done rest crossing in
         let first = crossed (suc (length done)) crossing (crossings_from i (suc (suc (length done))) rest) c steps s on a st in
         let next : Contents = after_taking net (one_packet p) (intakes_at net p.fields crossing) c in
         let longer : suc (length (done ++ crossing ∷ [])) ≡ suc (suc (length done)) = ap suc (length_snoc done crossing) in
-        let then = crosses_path (done ++ crossing ∷ []) rest next (steps ++ first.more) first.state (e ∙ sym (append_assoc done (crossing ∷ []) rest))
-        (subst (λ (n : ℕ). IsAmid net classes packets next pending history (crossings_from i n rest) (steps ++ first.more) first.state) (sym longer) first.amid) first.stores in
+        let then = crosses_path (done ++ crossing ∷ []) rest next first.to first.state (e ∙ sym (append_assoc done (crossing ∷ []) rest))
+        (subst (λ (n : ℕ). IsAmid net classes packets next pending history (crossings_from i n rest) first.to first.state) (sym longer) first.amid) first.stores in
+        let others : AreCrossings net next.chosen i (suc (suc (length done))) (length rest) first.to then.to = subst (λ (n : ℕ). AreCrossings net next.chosen i n (length rest) first.to then.to) longer then.shaped in
         record {
-          more = first.more ++ then.more;
+          to = then.to;
           state = then.state;
-          shaped = (first.more, then.more, first.shaped, subst (λ (n : ℕ). AreCrossings i n (length rest) then.more) longer then.shaped, refl);
-          amid = subst (λ (ss : List Step). IsAmid net classes packets (after_path net p.fields (one_packet p) rest next) pending history [] ss then.state) (append_assoc steps first.more then.more) then.amid;
+          shaped = (first.to, first.shaped, subst (λ (chosen : List ℕ). AreCrossings net chosen i (suc (suc (length done))) (length rest) first.to then.to) (taking_chosen net (one_packet p) (intakes_at net p.fields crossing) c) others);
+          amid = then.amid;
           stores = then.stores;
         } where
           length_snoc : (xs : List Crossing) (x : Crossing) → length (xs ++ x ∷ []) ≡ suc (length xs)

@@ -1,5 +1,5 @@
 -- Records that arrive at a collecting process: each is tallied, sent on and taken in, in one step.
-use Rattle.std.proofs.Common.{◌≡◌, ℕ, zero, suc, ◌+◌, ◌%◌, ◌^◌, ◌<◌, ◌==◌, Bool, true, false, cond, List, [], ◌∷◌, ◌++◌, length, slice_get, slice_set, refl, ap, sym, ◌∙◌, subst, arith, append_assoc, append-nil, Option, Some, None, Ok}
+use Rattle.std.proofs.Common.{◌≡◌, ℕ, suc, ◌+◌, ◌%◌, ◌^◌, ◌<◌, ◌==◌, Bool, true, false, cond, List, [], ◌∷◌, ◌++◌, length, slice_get, slice_set, refl, ap, sym, ◌∙◌, subst, arith, Option, Some, Ok}
 use Rattle.std.specs.List.{AllByRecursion}
 use Rattle.std.specs.Prelude.{IfSome}
 use Rattle.fx_layout.specs.Keys.{Key, Layout, refines, project}
@@ -7,14 +7,14 @@ use Rattle.fx_tables.specs.declared.holding.Holding.{Holding}
 use Rattle.fx_tables.specs.declared.packet.Packet.{Packet}
 use Rattle.fx_tables.specs.declared.record.Record.{Record}
 use Rattle.fx_run_text.specs.declared.step.Step.{Step}
-use Rattle.fx_run_text.specs.declared.step.Step.TheVariants.{Cross, Expire, Arrive}
+use Rattle.fx_run_text.specs.declared.step.Step.TheVariants.{Arrive}
 use Rattle.fx_tables.specs.Network.{Net, Holder, AggregationEntry, Process, aggregations_of, layout_of, process_at, takes_with}
 use Rattle.fx_tables.specs.Classes.{Class}
 use Rattle.fx_machine.specs.Acts.{Choices}
-use Rattle.fx_tables.specs.Takers.{intake_of, intakes}
+use Rattle.fx_tables.specs.Takers.{intakes}
 use Rattle.fx_tables.specs.Runnable.{IsHolder, HasAggregations, IsRunnable}
 use Rattle.fx_machine.specs.Sends.{put_all}
-use Rattle.fx_machine.specs.States.{State, Coming, add_at, after_tally, told_state}
+use Rattle.fx_machine.specs.States.{State, add_at, after_tally, told_state}
 use Rattle.fx_machine.specs.Steps.{after}
 use Rattle.fx_collect.specs.Totals.{Totals, with_record, totals_in}
 use Rattle.fx_link.specs.Sending.{IsSent}
@@ -25,22 +25,22 @@ use Rattle.fx_runs.proofs.RecordsGiven.{arrive_puts}
 use Rattle.fx_runs.proofs.StepsThatCanBeMade.{arrives_are_made}
 use Rattle.fx_net.specs.Contents.{Contents, stored_at}
 use Rattle.fx_net.specs.Stores.{Stored}
-use Rattle.fx_net.specs.Arriving.{takers, exporters_named, process_behind, leads_to_report, after_arrive, after_arrivals, after_carrying}
+use Rattle.fx_net.specs.Arriving.{exporters_named, process_behind, leads_to_report, after_arrive, after_arrivals}
 use Rattle.fx_net.specs.Exporting.{put_each, after_send}
 use Rattle.fx_net.specs.Leaving.{after_leaves}
-use Rattle.fx_net.specs.Taking.{Adding, stores_and_leavers, all_leave_at_once, with_stores, after_taking}
+use Rattle.fx_net.specs.Taking.{stores_and_leavers, all_leave_at_once, with_stores, after_taking}
 use Rattle.fx_conform.specs.Held.{Leaver}
 use Rattle.fx_conform.specs.TakingIn.{IsUnbounded, AreUnbounded, Join}
 use Rattle.fx_conform.specs.OnLinks.{none_pending, pending_from}
-use Rattle.fx_conform.specs.Sendable.{IsKey}
 use Rattle.fx_conform.specs.Closing.{CanBeNamed}
-use Rattle.fx_conform.specs.Conforming.{IsSound, AreBoundless, StoresConform, put_by_run}
-use Rattle.fx_conform.specs.Rows.{AreArrivals}
+use Rattle.fx_conform.specs.Conforming.{IsSound, StoresConform, put_by_run}
+use Rattle.fx_conform.specs.Rows.{Arrives, Repeated}
 use Rattle.fx_conform.proofs.ImmediateCaches.{as_many}
 use Rattle.fx_conform.proofs.Takers.{takers_join}
 use Rattle.fx_conform.proofs.LinkLaws.{arrived_leaves, none_is_left, puts_carry}
 use Rattle.fx_conform.proofs.CanBeSent.{aggregated_can_be_sent, taken_can_be_sent}
 use Rattle.fx_conform.proofs.ClosingNamed.{taking_stays_named}
+use Rattle.fx_conform.proofs.DestinationsStay.{arrive_chosen}
 use Rattle.fx_conform.proofs.NetworkMidway.{IsAmid, run_one, links_then, all_length, set_length, there_is_below}
 use Rattle.fx_conform.proofs.PacketsCross.{Then, all_at, all_to_list, boundless_then}
 
@@ -167,7 +167,7 @@ module _ (net : Net) (sound : IsSound net) (classes : List Class) (packets : Lis
 
   arrives_one : (r : Record) (rest : List Record) (c : Contents) (steps : List Step) (s : State)
       → IsAmid net classes packets c (pending_from link (r ∷ rest)) history [] steps s → StoresConform net c.stores s.held
-      → Then net classes packets (AreArrivals (suc link)) (after_arrive net link r c) (pending_from link rest) history [] steps
+      → Then net classes packets (Arrives net c.chosen link) (after_arrive net link r c) (pending_from link rest) history [] steps
   arrives_one r rest c steps s a st =
       let below : link < length c.links = omega (arith, there_is_below net.links link to leads, a.as_many, a.links.as_many) in
       let h = arrived_leaves c.second link r rest history (put_by_run net classes packets steps) c.links s.carried below a.links in
@@ -186,10 +186,10 @@ module _ (net : Net) (sound : IsSound net) (classes : List Class) (packets : Lis
       arrives_are_made net classes packets c.chosen s link to process r rs join.choices join.now a.chosen h.1 leads is_there join.taken_in in
       let long : length t.carried ≡ length s.carried = all_length links r (slice_set s.carried link rs) ∙ set_length s.carried link rs in
       let right = aggregated_can_be_sent net.holders r.key process.aggregations sound.layouts (record { layout = sent.0; bits = sent.1.bits }) in
-      subst (λ (d : Contents). Then net classes packets (AreArrivals (suc link)) d (pending_from link rest) history [] steps) (sym (arrives_so r c join.none_left join.none_at_once)) (record {
-        more = step ∷ [];
+      subst (λ (d : Contents). Then net classes packets (Arrives net c.chosen link) d (pending_from link rest) history [] steps) (sym (arrives_so r c join.none_left join.none_at_once)) (record {
+        to = steps ++ step ∷ [];
         state = t;
-        shaped = (refl, refl, tt);
+        shaped = record { process = process; process_is = behind; joined = join.choices; to_is = refl };
         amid = record {
           run_is = run_one net classes packets steps step s t a.run_is made;
           coming_is = at_coming net to r left ∙ a.coming_is;
@@ -211,20 +211,14 @@ module _ (net : Net) (sound : IsSound net) (classes : List Class) (packets : Lis
         };
       })
 
-  arrivals_join : (first rest : List Step) → AreArrivals (suc link) first → AreArrivals (suc link) rest → AreArrivals (suc link) (first ++ rest)
-  arrivals_join [] rest a b = b
-  arrivals_join (Arrive from number choices ∷ first) rest a b = (a.0, a.1, arrivals_join first rest a.2 b)
-  arrivals_join (Cross packet crossing choices ∷ first) rest a b = absurd a
-  arrivals_join (Expire name number choices ∷ first) rest a b = absurd a
-
   pub arrive_all : (rs : List Record) (c : Contents) (steps : List Step) (s : State)
       → IsAmid net classes packets c (pending_from link rs) history [] steps s → StoresConform net c.stores s.held
-      → Then net classes packets (AreArrivals (suc link)) (after_arrivals net link rs c) none_pending history [] steps
+      → Then net classes packets (Repeated (Arrives net c.chosen link)) (after_arrivals net link rs c) none_pending history [] steps
   arrive_all [] c steps s a st = record {
-    more = [];
+    to = steps;
     state = s;
-    shaped = tt;
-    amid = subst (λ (ss : List Step). IsAmid net classes packets c none_pending history [] ss s) (sym (append-nil steps)) (record {
+    shaped = (0, refl);
+    amid = record {
       run_is = a.run_is;
       coming_is = a.coming_is;
       as_many = a.as_many;
@@ -232,16 +226,17 @@ module _ (net : Net) (sound : IsSound net) (classes : List Class) (packets : Lis
       chosen = a.chosen;
       totals = a.totals;
       second = a.second;
-    });
+    };
     stores = st;
   }
   arrive_all (r ∷ rs) c steps s a st =
       let first = arrives_one r rs c steps s a st in
-      let then = arrive_all rs (after_arrive net link r c) (steps ++ first.more) first.state first.amid first.stores in
+      let then = arrive_all rs (after_arrive net link r c) first.to first.state first.amid first.stores in
+      let others : Repeated (Arrives net c.chosen link) first.to then.to = subst (λ (chosen : List ℕ). Repeated (Arrives net chosen link) first.to then.to) (arrive_chosen net link r c) then.shaped in
       record {
-        more = first.more ++ then.more;
+        to = then.to;
         state = then.state;
-        shaped = arrivals_join first.more then.more first.shaped then.shaped;
-        amid = subst (λ (ss : List Step). IsAmid net classes packets (after_arrivals net link rs (after_arrive net link r c)) none_pending history [] ss then.state) (append_assoc steps first.more then.more) then.amid;
+        shaped = (suc others.0, (first.to, first.shaped, others.1));
+        amid = then.amid;
         stores = then.stores;
       }

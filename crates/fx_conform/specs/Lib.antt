@@ -10,3 +10,4 @@ pub mod Conforming
 pub mod Rows
 pub mod Whole
 pub mod Closing
+pub mod Calls

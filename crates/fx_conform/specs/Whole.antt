@@ -1,5 +1,5 @@
 -- A whole run of a running network, as a complete run of the abstract one.
-use Rattle.std.specs.Prelude.{◌≡◌, ℕ, suc, ◌<◌, List, [], ◌∷◌, ◌++◌, length, Ok, All}
+use Rattle.std.specs.Prelude.{◌≡◌, ℕ, suc, ◌<◌, List, [], ◌∷◌, length, Ok, All, option_map}
 use Rattle.serde_json.specs.Data.{Data}
 use Rattle.fx_base.specs.Device.{Writes}
 use Rattle.fx_base.specs.Lines.{Lines, AtLine, AtTextEnd as LinesEnd}
@@ -9,7 +9,7 @@ use Rattle.fx_run_text.specs.declared.step.Step.{Step}
 use Rattle.fx_tables.specs.Network.{Net}
 use Rattle.fx_base.specs.Entries.{entry_numbered}
 use Rattle.fx_tables.specs.Classes.{Class, IsOf, to_count}
-use Rattle.fx_machine.specs.Claim.{ExactlyOnce}
+use Rattle.fx_machine.specs.Claim.{ExactlyOnce, OnceModulo, counts_modulo}
 use Rattle.fx_machine.specs.States.{State, Complete, opening, told_state}
 use Rattle.fx_machine.specs.Steps.{run}
 use Rattle.fx_machine.specs.Sums.{SumsFit, plain_sum, total_at}
@@ -24,7 +24,7 @@ use Rattle.fx_net.specs.Doings.{IsFrame}
 use Rattle.fx_net.specs.Running.{RunsTo, begun, GoesOnToFrames}
 use Rattle.fx_conform.specs.Conforming.{IsSound, put_by_run}
 use Rattle.fx_conform.specs.OnLinks.{AreRead}
-use Rattle.fx_conform.specs.Rows.{AreRows, IsClosing}
+use Rattle.fx_conform.specs.Rows.{AreRows, Course, IsClosing, first_course}
 
 -- each frame has its packet, in a class that holds it and with one of its paths
 abbrev pub AreOf : List Class → List captures.Seen → List Packet → Type 0
@@ -43,39 +43,34 @@ abbrev pub ReadsLines : Lines → Lines → List (List ℕ) → Type 0
 ReadsLines from to [] = to ≡ from
 ReadsLines from to (line ∷ lines) = (next : Lines) × AtLine from next × (next.line ≡ line) × ReadsLines next to lines
 
--- the steps of the schedule's lines, over the packets that these read, and then those of the closing phase
-pub record AreInOrder (net : Net) (classes : List Class) (from to : Lines) (packets : List Packet) (steps : List Step) : Type 0 where
+-- the packets and steps of a run are those of the schedule's lines and then those of the closing phase
+pub record AreInOrder (network : NetworkDocument) (classes : List Class) (from to : Lines) (course : Course) : Type 0 where
   pub lines : List (List ℕ)
   pub behind : Lines
   pub read : ReadsLines from behind lines
   pub end : LinesEnd behind to
-  pub by_lines : List Packet
-  pub left : List Packet
-  pub packets_are : packets ≡ by_lines ++ left
-  pub of_lines : List Step
-  pub of_closing : List Step
-  pub steps_are : steps ≡ of_lines ++ of_closing
-  pub rows : AreRows classes lines 1 by_lines of_lines
+  pub mid : Course
+  pub rows : AreRows network classes lines (first_course (net_of network)) mid
   pub ranked : List ℕ
-  pub whole : IsWhole net ranked
-  pub closing : IsClosing net classes ranked (suc (length by_lines)) left of_closing
+  pub whole : IsWhole (net_of network) ranked
+  pub left : List Packet
+  pub closing : IsClosing (net_of network) classes ranked left mid course
 
 -- The capture's frames in order are the packets of a complete run, whose steps are those of the schedule's lines and
 -- then of the closing phase. The totals are that run's, and the octets on each link are its records.
-pub record IsRunOf (net : Net) (classes : List Class) (at to : captures.CaptureState) (from_line to_line : Lines) (before after : Put) (totals : Totals) : Type 0 where
+pub record IsRunOf (network : NetworkDocument) (classes : List Class) (at to : captures.CaptureState) (from_line to_line : Lines) (before after : Put) (totals : Totals) : Type 0 where
   pub frames : List captures.Seen
   pub last : captures.CaptureState
   pub goes_on : GoesOnToFrames at last frames
   pub end : captures.AtCaptureEnd last to
-  pub packets : List Packet
-  pub are_of : AreOf classes frames packets
-  pub steps : List Step
+  pub course : Course
+  pub are_of : AreOf classes frames course.packets
   pub final : State
-  pub run_is : run net classes packets steps (opening net classes packets) ≡ Ok final
+  pub run_is : run (net_of network) classes course.packets course.steps (opening (net_of network) classes course.packets) ≡ Ok final
   pub complete : Complete final
-  pub in_order : AreInOrder net classes from_line to_line packets steps
-  pub totals_are : totals ≡ totals_in net.report_layout (told_state final)
-  pub read : (link : ℕ) → link < length net.links → IsReadOn net classes packets steps before after link
+  pub in_order : AreInOrder network classes from_line to_line course
+  pub totals_are : totals ≡ totals_in (net_of network).report_layout (told_state final)
+  pub read : (link : ℕ) → link < length (net_of network).links → IsReadOn (net_of network) classes course.packets course.steps before after link
 
 -- each class has a path
 abbrev pub HavePaths : List Class → Type 0
@@ -94,7 +89,7 @@ RunsAreComplete =
     (network : NetworkDocument) (classes : List Class) (at to : captures.CaptureState) (from last : Lines) (before after : Put) (totals : Totals)
     → IsSound (net_of network) → HavePaths classes
     → RunsTo (begun network classes) at to from last before after totals
-    → IsRunOf (net_of network) classes at to from last before after totals
+    → IsRunOf network classes at to from last before after totals
 
 -- the totals are the plain sums over these packets, and nothing is unassigned
 pub record ArePlainSums (net : Net) (packets : List Packet) (totals : Totals) : Type 0 where
@@ -105,7 +100,19 @@ pub record ArePlainSums (net : Net) (packets : List Packet) (totals : Totals) : 
 -- 64 bits.
 abbrev pub TotalsArePlainSums : Type 0
 TotalsArePlainSums =
-    (net : Net) (classes : List Class) (at to : captures.CaptureState) (from last : Lines) (before after : Put) (totals : Totals)
-    (of_run : IsRunOf net classes at to from last before after totals)
-    → ExactlyOnce net classes → SumsFit net.report_layout (to_count classes of_run.packets)
-    → ArePlainSums net (to_count classes of_run.packets) totals
+    (network : NetworkDocument) (classes : List Class) (at to : captures.CaptureState) (from last : Lines) (before after : Put) (totals : Totals)
+    (of_run : IsRunOf network classes at to from last before after totals)
+    → ExactlyOnce (net_of network) classes → SumsFit (net_of network).report_layout (to_count classes of_run.course.packets)
+    → ArePlainSums (net_of network) (to_count classes of_run.course.packets) totals
+
+-- the totals are the plain sums over these packets modulo 2 to the 64, and nothing is unassigned
+pub record AreSumsModulo (net : Net) (packets : List Packet) (totals : Totals) : Type 0 where
+  pub sums : (key : Key) → option_map counts_modulo (total_at totals.entries key) ≡ option_map counts_modulo (plain_sum net.report_layout key packets)
+  pub assigned : totals.unassigned ≡ 0
+
+-- They are so modulo 2 to the 64, however large the sums are.
+abbrev pub TotalsAreSumsModulo : Type 0
+TotalsAreSumsModulo =
+    (network : NetworkDocument) (classes : List Class) (at to : captures.CaptureState) (from last : Lines) (before after : Put) (totals : Totals)
+    (of_run : IsRunOf network classes at to from last before after totals)
+    → OnceModulo (net_of network) classes → AreSumsModulo (net_of network) (to_count classes of_run.course.packets) totals

@@ -13,4 +13,4 @@ pub use networks::plans_are_sound;
 pub use stores::{
     holders_are_emptied, nothing_is_held, records_are_kept, stores_stay_usable, stores_take_in,
 };
-pub use whole::{declarations_have_paths, runs_are_complete};
+pub use whole::{calls_are_rows, declarations_have_paths, runs_are_complete};

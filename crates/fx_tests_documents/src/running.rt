@@ -6,9 +6,9 @@ use crate::check::traffic_of;
 use crate::plan::plan_of;
 use fx_base::{Fault, LineReader, Octets};
 use fx_conform::{
-    closing_leaves_nothing, declarations_have_paths, held_can_be_sent, holders_are_emptied,
-    links_are_carried, nothing_is_held, plans_are_sound, records_are_kept, runs_are_complete,
-    stores_stay_usable, stores_take_in,
+    calls_are_rows, closing_leaves_nothing, declarations_have_paths, held_can_be_sent,
+    holders_are_emptied, links_are_carried, nothing_is_held, plans_are_sound, records_are_kept,
+    runs_are_complete, stores_stay_usable, stores_take_in,
 };
 use fx_link::Nowhere;
 use fx_net::{Network, run};
@@ -113,5 +113,6 @@ fn runs_are_runs_of_the_abstract_network() {
     held_can_be_sent();
     closing_leaves_nothing();
     declarations_have_paths();
+    calls_are_rows();
     runs_are_complete();
 }

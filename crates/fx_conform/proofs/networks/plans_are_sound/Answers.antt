@@ -1,5 +1,5 @@
-use Rattle.std.proofs.Common.{◌∙◌, List, ap, subst}
-use Rattle.fx_tables.specs.Network.{Net, Holder}
+use Rattle.std.proofs.Common.{◌∙◌, ap, subst}
+use Rattle.fx_tables.specs.Network.{Net}
 use Rattle.fx_tables.specs.Ranks.{IsNetwork}
 use Rattle.fx_tables.specs.Runnable.{IsRunnable}
 use Rattle.fx_conform.specs.Sendable.{HaveLayouts}
