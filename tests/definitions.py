@@ -33,6 +33,8 @@ COMMANDS = [
     ("`fx_audit::lint_bytes`", [("fx_audit", "lint_bytes", [])]),
     ("`fx_audit::lint_both_bytes`", [("fx_audit", "lint_both_bytes", [])]),
     ("`fx_audit::bundle_bytes`", [("fx_audit", "bundle_bytes", [])]),
+    ("The law of whole runs: `fx_conform::runs_are_complete`", [("fx_conform", "runs_are_complete", [])]),
+    ("The law of calls: `fx_conform::calls_are_rows`", [("fx_conform", "calls_are_rows", [])]),
     ("`answer`, a private function of `fx_cli`: from the arguments to the exit status", [("fx_cli", "answer", [])]),
 ]
 
