@@ -25,7 +25,7 @@ use fx_audit::{
 use fx_base::{Fault, LineReader, Outside, Sink, Source};
 use fx_command_line::Call;
 use fx_layout::Seed;
-use fx_link::{Links, Nowhere};
+use fx_link::{Links, Nowhere, OpenedSinks};
 use std::alloc::Global;
 use std::random::RandomSource;
 use std::rt::{Clock, Files};
@@ -238,11 +238,12 @@ fn run_onto_files<R: AllocGlobal + Files, N: Source, T: Source, C: Source, Q: So
         ⊎ IsRefusal (IsRunRefusal true) e) }
 {
     let alloc = rt.alloc();
-    let files = LinkFiles::new(alloc, rt, prefix, inputs, notes.failing_files());
+    let maker = LinkFiles::new(alloc, rt, prefix, inputs, notes.failing_files());
+    let files = OpenedSinks::new(alloc, maker);
     let (answer, files) = run_on_links(
         alloc, seed, network, traffic, capture, schedule, files, sink,
     );
-    notes.failed_file = files.into_failed_file();
+    notes.failed_file = files.into_maker().into_failed_file();
     answer
 }
 
