@@ -7,6 +7,7 @@ from dataclasses import dataclass
 from pathlib import Path
 from typing import Sequence
 
+from lab.exporters import QUEUE
 from lab.namespaces import MANAGEMENT
 from lab.programs import Group, LabError, Running, agent, path_of, run
 from lab.totals import Totals, add
@@ -18,8 +19,8 @@ SECONDS = 180.0
 @dataclass(frozen=True)
 class Collector:
     """A collector. With receivers it is a tee, which forwards each message to all of them, or to one if it balances.
-    `plugin_buffer` of 0 passes each record by itself to the plugin, as nfacctd does by default. `forwards` and `aggregates` are
-    what the project says of a mediator beyond its configuration."""
+    With `is_as_it_comes` each record goes to the plugin by itself, in pmacct's own queue. `forwards` and `aggregates` are what the
+    project says of a mediator beyond its configuration."""
 
     name: str
     port: int = 4739
@@ -28,7 +29,7 @@ class Collector:
     balances: bool = False
     is_transparent: bool = False
     receive_buffer: int = 4_194_304
-    plugin_buffer: int = 10_240
+    is_as_it_comes: bool = False
     listens_at_all: bool = False
     forwards: tuple[str, ...] = ()
     aggregates: tuple[str, ...] = ()
@@ -43,12 +44,12 @@ class Collector:
         """Returns the lines of nfacctd's configuration."""
         lines = ["daemonize: false", f"nfacctd_port: {self.port}", f"nfacctd_pipe_size: {self.receive_buffer}"]
         lines += [] if self.listens_at_all else [f"nfacctd_ip: {self.address}"]
+        lines += [] if self.is_as_it_comes else QUEUE
         if self.receivers:
             return [*lines, "plugins: tee[t]", f"tee_receivers[t]: {self.receivers_file(folder)}",
                     f"tee_transparent[t]: {'true' if self.is_transparent else 'false'}"]
-        lines += ["plugins: print", "print_output: json", f"print_output_file: {self.output(folder)}",
-                  "print_refresh_time: 300", *self.aggregate]
-        return lines + ([f"plugin_buffer_size: {self.plugin_buffer}"] if self.plugin_buffer else [])
+        return [*lines, "plugins: print", "print_output: json", f"print_output_file: {self.output(folder)}",
+                "print_refresh_time: 300", *self.aggregate]
 
     def receivers_file(self, folder: Path) -> Path:
         """Returns the path of the list of receivers."""

@@ -11,6 +11,10 @@ from lab.programs import Group, LabError, Running, children_of, path_of, run
 
 BILLING = "172.31.0.1:4739"
 CUSTOMER_1, CUSTOMER_2 = "src net 10.1.0.0/24", "src net 10.2.0.0/24"
+# On a busy machine pmacct's own queue between its processes was seen to hand over its last packet twice. ZeroMQ's takes its place,
+# except where a meter sees all interfaces: it goes over the loopback interface, and would be metered.
+QUEUE = ("plugin_pipe_zmq: true", "plugin_pipe_zmq_profile: micro")
+EVERYWHERE = "any"
 USUAL_KEYS = "src_host, dst_host, src_port, dst_port, proto, tos"
 SOFTFLOWD_LINE = "softflowd -d -v 10 -c none -n {receiver} -t udp=2 -t general=2 -t maxlife=4 -t expint=1"
 
@@ -60,6 +64,8 @@ def pmacctd_settings(meter: Meter, map_file: str) -> list[str]:
                   f"nfprobe_engine[{name}]: {meter.domain * 10 + number}",
                   f"nfprobe_timeouts[{name}]: udp=2:general=2:icmp=2:maxlife=4:expint=1"]
     lines.append("plugins: " + ", ".join(f"nfprobe[{name}]" for name in names))
+    if EVERYWHERE not in meter.interfaces:
+        lines += QUEUE
     if meter.filter:
         lines.append(f"pcap_filter: {meter.filter}")
     if meter.direction:

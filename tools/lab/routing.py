@@ -24,14 +24,15 @@ STATE = Path("/var/run/frr")
 
 
 def configuration(host: str) -> str:
-    """Returns ospfd's configuration of a router: hellos each second, since the lab waits for it."""
+    """Returns ospfd's configuration of a router: hellos each second, and advertisements at once, since the lab waits for them."""
     lines = [f"hostname {host}"]
     for interface in PASSIVE[host]:
         lines += [f"interface {interface}", " ip ospf passive"]
     for interface in UPLINKS[host]:
         lines += [f"interface {interface}", " ip ospf network point-to-point", " ip ospf hello-interval 1",
                   " ip ospf dead-interval 4", f" ip ospf cost {COST if interface == UPLINKS[host][0] else MORE}"]
-    lines += ["router ospf", f" ospf router-id {IDENTIFIERS[host]}", " timers throttle spf 10 50 200", " maximum-paths 4"]
+    lines += ["router ospf", f" ospf router-id {IDENTIFIERS[host]}", " timers throttle spf 10 50 200",
+              " timers throttle lsa all 100", " timers lsa min-arrival 50", " maximum-paths 4"]
     lines += [f" network {network} area 0" for network in (*NETWORKS[host], *BETWEEN)]
     return "\n".join(lines) + "\n"
 

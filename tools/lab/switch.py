@@ -7,6 +7,7 @@ import signal
 import time
 from pathlib import Path
 
+from lab import buffers
 from lab.programs import LabError, path_of, run
 
 SCHEMA = "/usr/share/openvswitch/vswitch.ovsschema"
@@ -38,7 +39,7 @@ class Switch:
         return self._run(path_of("ovs-appctl"), "-t", f"{self.folder}/vs.ctl", *words)
 
     def start(self, ports: tuple[str, ...] = PORTS) -> None:
-        """Starts the switch with a bridge that has these ports."""
+        """Starts the switch with a bridge that has these ports, and with buffers that hold a whole scenario's packets."""
         self.folder.mkdir(parents=True, exist_ok=True)
         self._run(path_of("ovsdb-tool"), "create", f"{self.folder}/conf.db", SCHEMA)
         self._run(path_of("ovsdb-server"), f"{self.folder}/conf.db", f"--remote=p{self.where}", f"--unixctl={self.folder}/db.ctl",
@@ -49,6 +50,7 @@ class Switch:
         self.control("add-br", self.bridge, "--", "set", "bridge", self.bridge, "datapath_type=netdev")
         for port in ports:
             self.control("add-port", self.bridge, port)
+        buffers.enlarge(self._process("vs"))
 
     def add_vlan(self, port: str, vlan: int) -> str:
         """Adds an interface of a VLAN on a port, as a kernel with 802.1Q would have it, and returns its name."""
@@ -56,12 +58,14 @@ class Switch:
         self.control("add-port", self.bridge, name, f"tag={vlan}", "--", "set", "interface", name, "type=internal")
         return name
 
+    def _process(self, name: str) -> int:
+        return int((self.folder / f"{name}.pid").read_text(encoding="ascii"))
+
     def stop(self) -> None:
         """Ends the switch, by the process numbers that it wrote down."""
-        files = [self.folder / name for name in ("vs.pid", "db.pid")]
-        numbers = [int(path.read_text(encoding="ascii")) for path in files if path.exists()]
-        for number in numbers:
-            _end(number)
+        for name in ("vs", "db"):
+            if (self.folder / f"{name}.pid").exists():
+                _end(self._process(name))
 
     def remove(self) -> None:
         """Takes the bridge off its host, and ends the switch. What is left of it goes, whether it ran or not."""

@@ -113,7 +113,17 @@ def test_settings_of_pmacctd() -> None:
     lines = pmacctd_settings(Meter("edge", ("up0",), ("172.31.0.1:4741", "172.31.0.1:4739"), filter="udp", domain=3), "")
     assert "pcap_interface: up0" in lines and "pcap_filter: udp" in lines and "plugins: nfprobe[p0], nfprobe[p1]" in lines
     assert "nfprobe_engine[p0]: 30" in lines and "nfprobe_engine[p1]: 31" in lines
+    assert "plugin_pipe_zmq: true" in lines and "plugin_pipe_zmq: true" not in pmacctd_settings(Meter("edge", ("any",)), "")
     assert "pcap_interfaces_map: a.map" in pmacctd_settings(Meter("edge", ("cust1", "cust2")), "a.map")
+
+
+def test_settings_of_nfacctd() -> None:
+    collectors = {one.name: one.collectors[-1] for one in all_scenarios()}
+    lines = collectors["a1-one"].settings(Path("folder"))
+    assert "nfacctd_ip: 172.31.0.1" in lines and "plugins: print" in lines and "plugin_pipe_zmq: true" in lines
+    assert [name for name, one in collectors.items() if "plugin_pipe_zmq: true" not in one.settings(Path("folder"))] == ["n10-burst"]
+    tee = next(one for one in all_scenarios() if one.name == "e1-tee").collectors[0].settings(Path("folder"))
+    assert "plugins: tee[t]" in tee and "plugin_pipe_zmq: true" in tee
 
 
 def crossing(device: str, interface: str, direction: str) -> dict[str, str]:

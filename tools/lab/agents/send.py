@@ -1,5 +1,7 @@
 #!/usr/bin/env python3
-"""send.py PLAN HOST GAP: sends the packets of a plan whose host is HOST, in order, with GAP seconds between two.
+"""send.py PLAN HOST GAP: sends the packets of a plan whose host is HOST, in order, with at least GAP seconds between two.
+
+A sender that had to wait for a processor does not send faster to catch up: a burst would overflow packet sockets.
 
 A plan is a JSON list of packets (lab/plan.py). They are written with their IP headers by a raw socket, so that each is
 one packet of the length that the plan says: nothing is left to a card, and nothing is sent again. Prints how many were
@@ -57,12 +59,10 @@ def main(plan: Path, host: str, gap: float) -> None:
     """Sends a host's packets of a plan."""
     packets = [(number, one) for number, one in enumerate(json.loads(plan.read_text(encoding="utf-8"))) if one["host"] == host]
     sockets = {version: raw(version) for version in {6 if ":" in one["source"] else 4 for _, one in packets}}
-    due = time.monotonic()
     for number, one in packets:
         out = sockets[6 if ":" in one["source"] else 4]
         out.sendto(packet(one, number), (one["destination"], 0))
-        due += gap
-        time.sleep(max(0.0, due - time.monotonic()))
+        time.sleep(gap)
     print(len(packets), flush=True)
 
 

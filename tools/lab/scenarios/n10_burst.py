@@ -8,4 +8,4 @@ SCENARIO = Scenario(
     "n10-burst", "as d1, and nfacctd as it comes: 208 KiB of receive buffer, each record by itself to the plugin",
     Expected(REFUTATION, (Verdict.NOT_MEASURED,), "each message reaches the collector",
              all_of(has_lost("found the buffer full"), exactly_in("once collect"))),
-    switch=SWITCH_WITH_CACHE, gaps=1, collectors=(Collector("billing", receive_buffer=212_992, plugin_buffer=0),), is_random=True)
+    switch=SWITCH_WITH_CACHE, gaps=1, collectors=(Collector("billing", receive_buffer=212_992, is_as_it_comes=True),), is_random=True)
