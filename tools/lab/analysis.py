@@ -137,6 +137,7 @@ def measure(session: Session, project: Path) -> Result:
     """Returns what came of a scenario that has run."""
     scenario = session.scenario
     made = make_documents(session, project)
+    session.end_collectors()
     answer = audits(session, made.pairs)
     sent, plain = senders(session)
     wanted = None

@@ -2,6 +2,7 @@
 from __future__ import annotations
 
 import re
+from concurrent.futures import ThreadPoolExecutor
 from dataclasses import dataclass
 from pathlib import Path
 from typing import Iterable
@@ -11,7 +12,13 @@ from lab.programs import run
 from lab.verdicts import Loss
 
 SWITCHING = ("sw", "edge", "c3")
-COUNTERS = ("RcvbufErrors", "SndbufErrors")
+# Counters of /proc/net/snmp and snmp6 that rise when something is lost for want of room. Packets that die are not among them.
+COUNTERS = {"Udp": ("RcvbufErrors", "SndbufErrors"), "Ip": ("InDiscards", "OutDiscards")}
+# Discarded packets of IPv6 are left out: reports of multicast listeners are discarded when IPv6 is switched off at an interface.
+COUNTERS_OF_IPV6 = ("Udp6RcvbufErrors", "Udp6SndbufErrors")
+# Packets that waited for a neighbour's address and were dropped, in the kernel's counters for all namespaces.
+NEIGHBOURS = {"arp_cache": "IPv4", "ndisc_cache": "IPv6"}
+WAITED = ("unresolved_discards", "table_fulls")
 # Lines of pmacct's daemons that say that records or messages were lost.
 PMACCT_WORDS = ("Missing data detected", "Failed during write", "Unable to allocate more memory", "Maximum number of writer",
                 "discarded", "Unable to write")
@@ -32,11 +39,30 @@ class Counters:
                 if value > before.values.get(name, 0)]
 
 
-def udp_counters(text: str) -> dict[str, int]:
-    """Returns the counters of /proc/net/snmp for full socket buffers."""
-    rows = [line.split()[1:] for line in text.splitlines() if line.startswith("Udp:")]
-    found = dict(zip(rows[0], rows[1])) if len(rows) == 2 else {}
-    return {f"Udp {name}": int(found[name]) for name in COUNTERS if name in found}
+def protocol_counters(text: str) -> dict[str, int]:
+    """Returns the counters of /proc/net/snmp and /proc/net/snmp6 for full buffers and discarded packets."""
+    found: dict[str, int] = {}
+    lines = [line.split() for line in text.splitlines()]
+    for head, row in zip(lines, lines[1:]):
+        names = COUNTERS.get(head[0].rstrip(":"), ()) if head[:1] == row[:1] and head else ()
+        found |= {f"{head[0].rstrip(':')} {name}": int(row[head.index(name)]) for name in names if name in head}
+    return found | {row[0]: int(row[1]) for row in lines if len(row) == 2 and row[0] in COUNTERS_OF_IPV6}
+
+
+def neighbour_counters(text: str) -> dict[str, int]:
+    """Returns how many packets a table of /proc/net/stat dropped since the address of their neighbour was not known."""
+    rows = [line.split() for line in text.splitlines()]
+    return {name: sum(int(row[rows[0].index(name)], 16) for row in rows[1:]) for name in WAITED if rows and name in rows[0]}
+
+
+def counters_of_neighbours() -> Counters:
+    """Returns the counters of the kernel's tables of neighbours, which are those of all namespaces. A kernel may show none."""
+    found: dict[str, int] = {}
+    for table, version in NEIGHBOURS.items():
+        path = Path("/proc/net/stat") / table
+        text = path.read_text(encoding="ascii") if path.exists() else ""
+        found |= {f"{version} {name}": value for name, value in neighbour_counters(text).items()}
+    return Counters(found)
 
 
 def packet_drops(text: str) -> dict[str, int]:
@@ -53,7 +79,7 @@ def packet_drops(text: str) -> dict[str, int]:
 
 def counters_of(host: str) -> Counters:
     """Returns the counters of a host."""
-    values = udp_counters(run(["cat", "/proc/net/snmp"], host).output)
+    values = protocol_counters(run(["cat", "/proc/net/snmp", "/proc/net/snmp6"], host, check=False).output)
     if host in SWITCHING:
         values |= packet_drops(run(["ss", "-0", "-m", "-a", "-n", "-p"], host).output)
     for link in links_of(host):
@@ -65,8 +91,10 @@ def counters_of(host: str) -> Counters:
 
 
 def all_counters() -> dict[str, Counters]:
-    """Returns the counters of all hosts."""
-    return {host: counters_of(host) for host in HOSTS}
+    """Returns the counters of all hosts, and of the kernel's neighbours."""
+    with ThreadPoolExecutor(4) as workers:
+        found = dict(zip(HOSTS, workers.map(counters_of, HOSTS)))
+    return found | {"neighbours": counters_of_neighbours()}
 
 
 def risen(before: dict[str, Counters], after: dict[str, Counters]) -> list[Loss]:

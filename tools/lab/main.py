@@ -53,9 +53,8 @@ def bring_up(folder: Path, out: Path, once: str) -> Lab:
     routing.start(folder / "frr")
     switch = Switch(folder / "ovs")
     switch.start()
-    lab = Lab(switch, state.State(folder), out, once)
+    lab = Lab(switch, state.save(folder / "state"), out, once)
     running.acquaint(lab)
-    lab.base = state.save(folder / "state")
     return lab
 
 

@@ -44,6 +44,7 @@ CABLES = (
 )
 MANAGEMENT = {"bill": "172.31.0.1", "edge": "172.31.0.2", "core": "172.31.0.3", "sw": "172.31.0.4", "med1": "172.31.0.5",
               "med2": "172.31.0.6"}
+COLLECTING = ("bill", "med1", "med2")
 SERVER_ADDRESSES = {"s1": "10.9.0.11", "s2": "10.9.0.12"}
 ADDRESSES = {
     ("c1", "eth0"): ["10.1.0.2/24", *(f"10.1.0.{last}/24" for last in range(11, 16))],
@@ -61,6 +62,9 @@ ADDRESSES = {
 GATEWAYS = {"c1": "10.1.0.1", "c2": "10.2.0.1", "s1": "10.9.0.1", "s2": "10.9.0.1"}
 SETTINGS = {"net/ipv4/ip_forward": "1", "net/ipv4/conf/all/rp_filter": "0", "net/ipv4/conf/default/rp_filter": "0",
             "net/ipv4/conf/all/send_redirects": "0", "net/ipv4/fib_multipath_hash_policy": "1"}
+# Addresses of IPv6 may be used at once. While an interface tests its link-local address for duplicates (RFC 4862, section 5.4),
+# a router solicits no neighbours there, and drops the packets that wait for one.
+NO_TESTS = {f"net/ipv6/conf/{which}/{name}": "0" for which in ("all", "default") for name in ("accept_dad", "dad_transmits")}
 
 
 def may_use_namespaces() -> str:
@@ -130,7 +134,7 @@ def up() -> None:
     for host in HOSTS:
         run(["ip", "netns", "add", namespace_of(host)])
         off = {f"net/ipv6/conf/{which}/disable_ipv6": "1" for which in ("all", "default")}
-        set_system(host, off | (SETTINGS if host in ROUTERS else {}))
+        set_system(host, off | NO_TESTS | (SETTINGS if host in ROUTERS else {}))
         in_host(host, ["link set lo up"])
     for cable in CABLES:
         _add_cable(cable)

@@ -4,7 +4,7 @@ from __future__ import annotations
 from contextlib import contextmanager
 from typing import Iterator
 
-from lab import routing
+from lab import readiness, routing
 from lab.checks import LINK_MTU
 from lab.namespaces import CUSTOMERS, ROUTERS, SERVERS, hardware_address, in_host, set_system
 from lab.plan import as_ipv6
@@ -56,6 +56,7 @@ def link_local(_: Switch) -> Iterator[None]:
     ends = (("edge", ("up0",)), ("core", ("down0",)))
     for host, interfaces in ends:
         _set_ipv6(host, interfaces, False)
+    readiness.wait_for_addresses(ROUTERS)
     try:
         yield
     finally:
@@ -78,20 +79,24 @@ ROUTES = {"c1": ["::/0 via 2001:db8:1::1"], "c2": ["::/0 via 2001:db8:2::1"],
 @contextmanager
 def ipv6_everywhere(_: Switch) -> Iterator[None]:
     """All hosts have IPv6 beside IPv4, and the routers routes of it."""
-    for host, interfaces in INTERFACES.items():
-        _set_ipv6(host, interfaces, False)
-        if host in ROUTERS:
-            set_system(host, {"net/ipv6/conf/all/forwarding": "1"})
-        in_host(host, [f"addr add {address}/64 dev {interface} nodad" for interface, address in ADDRESSES[host]])
-    for host, routes in ROUTES.items():
-        in_host(host, [f"route add {route}" for route in routes])
+    routes_of_routers = {host: [route.split()[0] for route in ROUTES[host]] for host in ROUTERS}
     try:
+        for host, interfaces in INTERFACES.items():
+            _set_ipv6(host, interfaces, False)
+            if host in ROUTERS:
+                set_system(host, {"net/ipv6/conf/all/forwarding": "1"})
+            in_host(host, [f"addr add {address}/64 dev {interface} nodad" for interface, address in ADDRESSES[host]])
+        for host, routes in ROUTES.items():
+            in_host(host, [f"route add {route}" for route in routes])
+        readiness.wait_for_addresses(INTERFACES)
+        readiness.wait_for_frr(routes_of_routers)
         yield
     finally:
         for host, interfaces in INTERFACES.items():
             if host in ROUTERS:
                 set_system(host, {"net/ipv6/conf/all/forwarding": "0"})
             _set_ipv6(host, interfaces, True)
+        readiness.wait_for_frr(routes_of_routers, are_there=False)
 
 
 @contextmanager

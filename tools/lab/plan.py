@@ -4,14 +4,16 @@ from __future__ import annotations
 import json
 from dataclasses import asdict, dataclass, replace
 from pathlib import Path
-from typing import Callable, Iterator
+from typing import Callable, Iterable, Iterator
 
-from lab.namespaces import SERVER_ADDRESSES
+from lab.namespaces import COLLECTING, MANAGEMENT, SERVER_ADDRESSES
 from lab.totals import Totals, add
 
 SEED = 20261129
 SERVERS = tuple(SERVER_ADDRESSES.values())
 CLASSES_OF_SERVICE = (0, 8, 184)
+# The ports between which hosts talk before anything is metered.
+ACQUAINTING = (4000, 5000)
 
 
 @dataclass(frozen=True)
@@ -93,10 +95,16 @@ def in_vlan(count: int) -> list[Packet]:
             for one in usual(count)]
 
 
-def acquainting(_: int) -> list[Packet]:
-    """Returns a packet of each customer's address to each server, so that all neighbours and ports are known."""
-    return [Packet(f"c{net}", f"10.{net}.0.{host}", server, 4000, 5000, 20)
-            for net in (1, 2) for host in range(11, 16) for server in SERVERS]
+def acquainting(packets: Iterable[Packet]) -> list[Packet]:
+    """Returns a short packet for each host, source and destination of a plan, between the ports 4000 and 5000."""
+    ends = dict.fromkeys((one.host, one.source, one.destination) for one in packets)
+    return [Packet(host, source, destination, *ACQUAINTING, 20) for host, source, destination in ends]
+
+
+def exporting() -> list[Packet]:
+    """Returns a packet from each host of the management network to each host of a collector, by which exports go."""
+    return [Packet(host, source, MANAGEMENT[collector], *ACQUAINTING, 20) for host, source in MANAGEMENT.items()
+            for collector in COLLECTING if host not in (collector, "bill")]
 
 
 def write(packets: list[Packet], path: Path) -> None:

@@ -8,11 +8,13 @@ import sys
 import time
 from dataclasses import dataclass, field
 from pathlib import Path
-from typing import Sequence
+from typing import Iterable, Sequence
 
 TOOLS = Path(__file__).resolve().parents[1]
 PREFIX = "once-lab-"
 SECONDS = 120.0
+# How often a program must be seen asleep in a row.
+LOOKS = 3
 
 
 class LabError(Exception):
@@ -65,11 +67,11 @@ def run(words: Sequence[str], host: str = "", check: bool = True, text: str = ""
 
 
 def agent(name: str, *arguments: str) -> list[str]:
-    """Returns the command line of one of the lab's own programs."""
-    return [sys.executable, "-B", str(TOOLS / "lab" / "agents" / f"{name}.py"), *arguments]
+    """Returns the command line of one of the lab's own programs, which start faster without packages of the site."""
+    return [sys.executable, "-B", "-I", "-S", str(TOOLS / "lab" / "agents" / f"{name}.py"), *arguments]
 
 
-@dataclass
+@dataclass(eq=False)
 class Running:
     """A program in the background, and its log."""
 
@@ -91,6 +93,10 @@ class Running:
             if time.monotonic() > deadline:
                 raise LabError(f"{self.name} is not ready after {seconds:.0f} s: see {self.log}")
             time.sleep(0.02)
+
+    def is_asleep(self) -> bool:
+        """Returns whether it and its children wait for something to come."""
+        return all(is_asleep(one) for one in (self.process.pid, *children_of(self.process.pid)))
 
     def send_signal(self, number: int) -> None:
         """Sends it a signal, if it still runs."""
@@ -137,6 +143,27 @@ class Group:
             if one.process.poll() is None:
                 one.process.kill()
                 one.process.wait()
+
+
+def is_asleep(process: int) -> bool:
+    """Returns whether all threads of a process wait for something to come, and none runs or waits for a processor. One that has
+    ended does."""
+    try:
+        texts = [path.read_text(encoding="ascii", errors="replace") for path in Path(f"/proc/{process}/task").glob("*/stat")]
+    except OSError:
+        return True
+    return all(text.rpartition(")")[2].split()[0] not in ("R", "D") for text in texts)
+
+
+def still_busy(running: Iterable[Running], seconds: float = 10.0) -> list[Running]:
+    """Waits until programs and their children were seen asleep a few times in a row, so that they have read all that came to
+    them. Returns those that are not within some seconds."""
+    left = {one: 0 for one in running}
+    deadline = time.monotonic() + seconds
+    while left and time.monotonic() < deadline:
+        left = {one: seen + 1 if one.is_asleep() else 0 for one, seen in left.items() if seen < LOOKS}
+        time.sleep(0.02)
+    return [one for one, seen in left.items() if seen < LOOKS]
 
 
 def children_of(process: int) -> list[int]:

@@ -6,12 +6,14 @@ import shutil
 import time
 from dataclasses import dataclass, field
 from pathlib import Path
+from typing import Iterable
 
-from lab import captures, collectors, losses, plan, state
+from lab import acquaintance, captures, collectors, losses, plan, receivers, state
 from lab.exporters import Started, export_capture, start_meter
-from lab.namespaces import CUSTOMERS, SERVER_ADDRESSES
-from lab.programs import Group, LabError, Running, agent
-from lab.scenario import Scenario, folder_of
+from lab.namespaces import MANAGEMENT, SERVER_ADDRESSES
+from lab.programs import Group, LabError, Running, agent, still_busy
+from lab.receivers import Place, Receiver
+from lab.scenario import Scenario, Sent, folder_of
 from lab.state import State
 from lab.switch import Switch
 from lab.verdicts import Loss
@@ -21,6 +23,8 @@ PORTS = (4739, 4740, 4741)
 SWITCH_FLUSH = 0.5
 # The last messages reach the collectors, and dumpcap hands on what it holds each quarter of a second.
 SETTLED = 0.6
+# How long packets and the answers to them may take on a busy machine.
+ARRIVAL = 10.0
 
 
 @dataclass
@@ -46,11 +50,10 @@ class Session:
     watched: dict[Path, Running] = field(default_factory=dict)
     wires: dict[str, Running] = field(default_factory=dict)
     collectors: dict[str, Running] = field(default_factory=dict)
-    receivers: list[Running] = field(default_factory=list)
+    receivers: list[Receiver] = field(default_factory=list)
     meters: list[Started] = field(default_factory=list)
     losses: list[Loss] = field(default_factory=list)
     database: str = ""
-    answered: int = 0
     notes: list[str] = field(default_factory=list)
 
     @property
@@ -59,16 +62,25 @@ class Session:
         return self.group.folder
 
     def run(self) -> None:
-        """Runs the scenario. What still runs at its end is killed."""
+        """Runs the scenario. At its end the collectors alone still run, and have been told to end; if it fails, nothing does."""
         try:
             before = losses.all_counters()
             self._start()
             self._send()
             self._end()
             self.losses += losses.risen(before, losses.all_counters())
+        except BaseException:
+            self.group.kill_rest()
+            raise
         finally:
             self.lab.switch.stop_metering()
-            self.group.kill_rest()
+
+    def end_collectors(self) -> None:
+        """Returns when the collectors have written what they hold and have ended, which takes nfacctd two seconds. Their ports are
+        free before."""
+        for name, running in self.collectors.items():
+            running.end(2)
+            self.losses += losses.pmacct_losses(f"nfacctd {name}", running.text())
 
     def _start(self) -> None:
         scenario = self.scenario
@@ -96,14 +108,10 @@ class Session:
 
     def _start_receivers(self) -> None:
         sent = self.scenario.sent
-        six = ["::"] if 6 in self.scenario.declared.versions else []
-        for host in SERVER_ADDRESSES:
-            words = agent("receive", "5000", "5009", str(sent.answer_every), "0.0.0.0", *six)
-            self.receivers.append(self.group.start(host, words, f"receive-{host}.log", "ready"))
         first, last = sent.customers_receive_at
-        for host in sent.customers:
-            words = agent("receive", str(first), str(last), "0", "0.0.0.0", *six)
-            self.receivers.append(self.group.start(host, words, f"receive-{host}.log", "ready"))
+        places = [*(Place(host, 5000, 5009, sent.answer_every) for host in SERVER_ADDRESSES),
+                  *(Place(host, first, last) for host in sent.customers)]
+        self.receivers = receivers.start(self.group, places, self.packets, self.state.owners())
 
     def _send(self) -> None:
         path = self.folder / "plan.json"
@@ -118,7 +126,15 @@ class Session:
         for host, sender in senders.items():
             if sender.process.wait(120):
                 raise LabError(f"the sender of {host} failed: {sender.text().strip()[-300:]}")
+        if not self.scenario.ends_early:
+            receivers.wait(self.receivers, ARRIVAL)
         time.sleep(self.scenario.settle)
+        if not self.scenario.ends_early:
+            self._wait_until_read([one.running for one in self.meters])
+
+    def _wait_until_read(self, running: Iterable[Running]) -> None:
+        """Returns when programs have read what came to them; one that has not, on a busy machine, would lose it unseen."""
+        self.losses += [Loss(one.log.stem, "has not read all packets before its end") for one in still_busy(running)]
 
     def _end(self) -> None:
         self._end_meters()
@@ -127,15 +143,13 @@ class Session:
             self.scenario.after_meters(self)
         time.sleep(SETTLED)
         for one in self.receivers:
-            one.end()
-            self.answered += int(one.text().split()[-1])
+            one.running.end()
+        self.losses += receivers.lost(self.receivers)
         self._look_at_sockets()
         self._end_captures({f"wire-{name}": one for name, one in self.wires.items()})
+        self._wait_until_read(self.collectors.values())
         for running in self.collectors.values():
             running.send_signal(2)
-        for name, running in self.collectors.items():
-            running.end(2)
-            self.losses += losses.pmacct_losses(f"nfacctd {name}", running.text())
 
     def _end_meters(self) -> None:
         for one in self.meters:
@@ -159,6 +173,7 @@ class Session:
             self.lab.switch.stop_metering()
 
     def _end_captures(self, running: dict[str, Running]) -> None:
+        self._wait_until_read(running.values())
         for one in running.values():
             one.send_signal(2)
         for name, one in running.items():
@@ -172,7 +187,8 @@ class Session:
 
 
 def begin(lab: Lab, scenario: Scenario) -> Session:
-    """Returns a session with an empty folder, and the state that the scenario's network has."""
+    """Returns a session with an empty folder, and the state that the scenario's network has. In a changed network hosts talk once
+    more, since addresses and neighbours are others."""
     folder = folder_of(lab.out, scenario)
     shutil.rmtree(folder, ignore_errors=True)
     folder.mkdir(parents=True)
@@ -181,25 +197,14 @@ def begin(lab: Lab, scenario: Scenario) -> Session:
     declared = scenario.declared
     is_usual = not scenario.changes_network and declared.versions == (4,)
     found = lab.base if is_usual else state.save(folder / "state", declared.versions, declared.cables)
-    return Session(lab, scenario, Group(folder), scenario.sent.plan(scenario.sent.packets), found)
+    packets = scenario.sent.plan(scenario.sent.packets)
+    if not is_usual:
+        acquaintance.acquaint(folder / "acquaintance", packets, found.owners())
+    return Session(lab, scenario, Group(folder), packets, found)
 
 
 def acquaint(lab: Lab) -> None:
-    """Has each customer and server talk once, so that neighbours and the switch's table are known before anything is metered."""
-    folder = lab.out / "acquaintance"
-    shutil.rmtree(folder, ignore_errors=True)
-    folder.mkdir(parents=True)
-    group = Group(folder)
-    try:
-        for host in (*SERVER_ADDRESSES, *CUSTOMERS):
-            first = 5000 if host in SERVER_ADDRESSES else 4000
-            group.start(host, agent("receive", str(first), str(first), "1" if first == 5000 else "0", "0.0.0.0"),
-                        f"receive-{host}.log", "ready")
-        group.wait_until_ready()
-        plan.write(plan.acquainting(0), folder / "plan.json")
-        for host in CUSTOMERS:
-            group.start(host, agent("send", str(folder / "plan.json"), host, "0.001"), f"send-{host}.log").process.wait(60)
-        time.sleep(0.3)
-    finally:
-        group.kill_rest()
-
+    """Has customers talk with servers, and exporters with collectors, so that neighbours and the switch's table are known."""
+    usual = plan.usual(Sent().packets)
+    owners = lab.base.owners() | {address: host for host, address in MANAGEMENT.items()}
+    acquaintance.acquaint(lab.out / "acquaintance", [*usual, *plan.exporting()], owners)

@@ -67,7 +67,8 @@ class Scenario:
     `network` changes the lab for its time; `during` is called while packets are sent, and `after_meters` when all meters and
     captures of what is sent have ended. `schedule` writes a schedule for `once run` from the traffic document and the merged
     captures, with the packets at the interfaces that are `watched`; `predicts` is false where documents do not say what a run
-    does. `settle` is the time between the last packet and the end of the meters: libpcap hands packets on within a second.
+    does. `settle` is the time between the arrival of the last packet and the end of the meters: libpcap hands packets on within
+    a second. With `ends_early` the time begins when the last packet is sent, whether it has come or not.
     `other_keys` are keys that no declared host has and that must be expected; `others_are_wrong` says that their packets are
     declared as exempt. `gaps` are those that an exporter makes in sequence numbers though nothing is lost. `is_random` says
     that totals may differ from run to run.
@@ -91,6 +92,7 @@ class Scenario:
     kills_meters: bool = False
     starts_late: float = 0.0
     settle: float = 1.6
+    ends_early: bool = False
     other_keys: tuple[str, ...] = ()
     others_are_wrong: bool = False
     gaps: int = 0

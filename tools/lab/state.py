@@ -29,6 +29,10 @@ class State:
         """Returns the interfaces of a host."""
         return [link["ifname"] for link in self.json(f"{host}.addr.json")]
 
+    def owners(self) -> dict[str, str]:
+        """Returns the host of each global address of customers and servers."""
+        return {address: host for (host, _), addresses in self.addresses.items() for address in addresses}
+
     def json(self, name: str) -> Any:
         """Returns the value of a saved file."""
         return json.loads((self.folder / name).read_text(encoding="utf-8"))

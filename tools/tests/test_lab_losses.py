@@ -1,8 +1,8 @@
 """Where the lab sees losses: texts of the kernel and of programs."""
 from __future__ import annotations
 
-from lab.losses import (Counters, capture_losses, nfcapd_gaps, nfcapd_losses, packet_drops, pmacct_losses, socket_drops,
-                        stream_losses, switch_losses, udp_counters)
+from lab.losses import (Counters, capture_losses, nfcapd_gaps, neighbour_counters, nfcapd_losses, packet_drops, pmacct_losses,
+                        protocol_counters, socket_drops, stream_losses, switch_losses)
 
 UDP = """   sl  local_address rem_address   st tx_queue rx_queue tr tm->when retrnsmt   uid  timeout inode ref pointer drops
  2415: 01001FAC:1283 00000000:0000 07 00000000:00000000 00:00000000 00000000     0        0 99 2 0000000000000000 {drops}
@@ -30,7 +30,21 @@ def test_a_socket_that_is_not_there_is_no_zero() -> None:
 
 
 def test_counters_of_full_buffers() -> None:
-    assert udp_counters(SNMP) == {"Udp RcvbufErrors": 4, "Udp SndbufErrors": 0}
+    assert protocol_counters(SNMP) == {"Udp RcvbufErrors": 4, "Udp SndbufErrors": 0}
+
+
+def test_counters_of_discarded_packets() -> None:
+    text = SNMP + "Ip: Forwarding InHdrErrors InDiscards OutDiscards\nIp: 1 9 2 3\nUdp6RcvbufErrors      \t5\nIp6OutDiscards   \t8\n"
+    assert protocol_counters(text) == {"Udp RcvbufErrors": 4, "Udp SndbufErrors": 0, "Ip InDiscards": 2, "Ip OutDiscards": 3,
+                                       "Udp6RcvbufErrors": 5}
+    assert protocol_counters("") == {}
+
+
+def test_packets_that_waited_for_a_neighbour() -> None:
+    text = ("entries  res_failed unresolved_discards table_fulls\n00000004 00000001 0000000a 00000000\n"
+            "00000004 00000000 00000010 00000000\n")
+    assert neighbour_counters(text) == {"unresolved_discards": 26, "table_fulls": 0}
+    assert neighbour_counters("") == {}
 
 
 def test_counters_that_rose() -> None:

@@ -2,10 +2,11 @@
 """receive.py FIRST LAST EVERY ADDRESS..: receives UDP at the ports FIRST to LAST of addresses until it is terminated.
 
 Each packet whose number (the first four octets of its payload) is a multiple of EVERY is answered with 100 octets; with
-EVERY 0 none is. Prints `ready`, and at SIGTERM how many were received and answered.
+EVERY 0 none is. Prints `ready`, and how many were received and answered, whenever none has come for a while and at SIGTERM.
 """
 from __future__ import annotations
 
+import os
 import selectors
 import signal
 import socket
@@ -13,12 +14,18 @@ import sys
 from typing import NoReturn
 
 SO_RCVBUFFORCE = 33  # which the module socket does not name
+IDLE = 0.05  # seconds
 received = answered = 0
+
+
+def report() -> None:
+    """Prints the counts, without a buffer that a signal could find half written."""
+    os.write(1, f"received {received} answered {answered}\n".encode("ascii"))
 
 
 def end(*_: object) -> NoReturn:
     """Prints the counts and ends."""
-    print(f"received {received} answered {answered}", flush=True)
+    report()
     sys.exit(0)
 
 
@@ -42,8 +49,13 @@ def main(first: int, last: int, every: int, addresses: list[str]) -> None:
             one = listener(address, port)
             waiting.register(one, selectors.EVENT_READ, one)
     print("ready", flush=True)
+    is_reported = True
     while True:
-        for key, _ in waiting.select():
+        found = waiting.select(None if is_reported else IDLE)
+        if not found:
+            report()
+        is_reported = not found
+        for key, _ in found:
             octets, sender = key.data.recvfrom(65535)
             received += 1
             if every and len(octets) >= 4 and int.from_bytes(octets[:4], "big") % every == 0:

@@ -8,4 +8,4 @@ from lab.verdicts import CERTIFICATE, Expected, Verdict
 SCENARIO = Scenario(
     "n11-early", "the meter is ended 50 ms after the last packet",
     Expected(CERTIFICATE, (Verdict.DIFFERED, Verdict.AGREED), "a meter ends some seconds after the last packet", at_most_due()),
-    meters=(Meter("edge", ("up0",)),), settle=0.05, other_keys=ROUTING, is_random=True)
+    meters=(Meter("edge", ("up0",)),), settle=0.05, ends_early=True, other_keys=ROUTING, is_random=True)
