@@ -21,7 +21,7 @@ VERIFIED = {CERTIFICATE: ("check", "yes"), REFUTATION: ("confirm", "refuted")}
 
 @dataclass
 class Result:
-    """What came of a scenario."""
+    """What came of a scenario. `lost_before` has, for each earlier attempt at it, what was lost in it."""
 
     scenario: Scenario
     measured: Measured
@@ -29,6 +29,7 @@ class Result:
     streams: list[Path] = field(default_factory=list)
     gaps: int = 0
     seconds: float = 0.0
+    lost_before: list[str] = field(default_factory=list)
 
 
 def ask(session: Session, *words: str | Path) -> tuple[str, int]:

@@ -25,7 +25,9 @@ def outcome(one: Entry) -> str:
     """Returns a scenario's result in words."""
     text = f"**{one['verdict']}**" if one["verdict"] != "agreed" else "agreed"
     text += f". Premise that fails: {one['premise']}" if one["premise"] and one["verdict"] != "agreed" else ""
-    return text + (f". Seen: {one['losses'][0]}" if one["losses"] else "")
+    text += f". Seen: {one['losses'][0]}" if one["losses"] else ""
+    earlier = one["lost before"]
+    return text + (f", at attempt {len(earlier) + 1}. Lost before: {earlier[-1]}" if earlier else "")
 
 
 def row(one: Entry) -> str:

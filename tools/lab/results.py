@@ -44,7 +44,7 @@ def entry_of(result: Result) -> Entry:
             "premise": scenario.expected.premise, "reasons": judged.reasons, "faults": judged.faults,
             "due": measured.due, "plain": measured.plain, "predicted": measured.predicted, "found": measured.found,
             "refused": measured.refused, "others": measured.others, "losses": [str(one) for one in measured.losses],
-            "notes": measured.notes, "gaps": result.gaps, "seconds": round(result.seconds, 1)}
+            "notes": measured.notes, "lost before": result.lost_before, "gaps": result.gaps, "seconds": round(result.seconds, 1)}
 
 
 def make(results: list[Result], faults: list[str], up: float, seconds: float) -> Results:

@@ -56,22 +56,26 @@ Check = Callable[[Measured], list[str]]
 @dataclass(frozen=True)
 class Expected:
     """What a scenario must come to. `verdicts` has several where chance decides; `premise` is what does not hold where
-    the verdict is another than agreed; `check` demands more of the totals."""
+    the verdict is another than agreed; `check` demands more of the totals. `losses` are words of the losses that belong to the
+    scenario: any other is an accident."""
 
     audit: str
     verdicts: tuple[Verdict, ...] = (Verdict.AGREED,)
     premise: str = ""
     check: Check | None = None
+    losses: tuple[str, ...] = ()
 
 
 @dataclass
 class Judged:
-    """The verdict, why, and the faults: what is otherwise than expected."""
+    """The verdict, why, and the faults: what is otherwise than expected. `may_repeat` says that a loss was seen that the scenario
+    does not expect, and that nothing is wrong that a loss cannot explain."""
 
     verdict: Verdict
     reasons: list[str]
     faults: list[str]
     borne_out: bool
+    may_repeat: bool = False
 
 
 def is_borne_out(measured: Measured) -> bool:
@@ -123,10 +127,16 @@ def is_allowed(key: str, allowed: tuple[str, ...]) -> bool:
     return any(key == one or one.endswith(":") and key.startswith(one) for one in allowed)
 
 
+def accidents(measured: Measured, expected: Expected) -> list[Loss]:
+    """Returns the losses that do not belong to a scenario."""
+    return [one for one in measured.losses if not any(words in str(one) for words in expected.losses)]
+
+
 def judge(measured: Measured, expected: Expected, other_keys: tuple[str, ...]) -> Judged:
     """Returns the verdict, and what is otherwise than expected."""
     verdict, reasons = verdict_of(measured)
     faults = unexpected_keys(measured, other_keys)
+    may_repeat = bool(accidents(measured, expected)) and measured.audit == expected.audit and not faults
     if measured.audit != expected.audit:
         faults.append(f"the audit answers {measured.audit}, and {expected.audit} was expected")
     if verdict not in expected.verdicts:
@@ -135,7 +145,7 @@ def judge(measured: Measured, expected: Expected, other_keys: tuple[str, ...]) -
     may_check = verdict is not Verdict.NOT_MEASURED or Verdict.NOT_MEASURED in expected.verdicts
     if expected.check and may_check:
         faults += expected.check(measured)
-    return Judged(verdict, reasons, faults, is_borne_out(measured))
+    return Judged(verdict, reasons, faults, is_borne_out(measured), may_repeat and bool(faults))
 
 
 def split_keys(found: dict[str, Totals], declared: set[str]) -> tuple[dict[str, Totals], dict[str, Totals]]:

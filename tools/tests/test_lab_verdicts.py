@@ -114,7 +114,7 @@ def entry(name: str, is_random: bool = False, **changes: Any) -> dict[str, Any]:
     found: dict[str, Any] = {"name": name, "title": "t", "is core": False, "is random": is_random, "audit": CERTIFICATE,
                              "verdict": "agreed", "borne out": True, "premise": "", "reasons": [], "faults": [], "due": DUE,
                              "predicted": DUE, "found": {"nfacctd": DUE, "once collect": DUE, "nfcapd": DUE}, "refused": {},
-                             "losses": []}
+                             "losses": [], "lost before": []}
     return {**found, **changes}
 
 
@@ -130,6 +130,7 @@ def test_two_runs_that_agree(tmp_path: Path) -> None:
 def test_two_runs_that_differ() -> None:
     one = results(entry("a1-one"), entry("b1-two"), entry("n4-sampling", True))
     other = results(entry("a1-one", found={"nfacctd": TWICE}), entry("n4-sampling", True, found={"nfacctd": TWICE}))
+    assert compare(results(entry("a1-one")), results(entry("a1-one", **{"lost before": ["sw: lost"]}))) == []
     assert compare(one, other) == ["b1-two was measured in one of the runs alone", "a1-one: found differs"]
 
 
@@ -143,10 +144,12 @@ def test_the_table_of_a_page(tmp_path: Path) -> None:
     page = tmp_path / "LAB.md"
     page.write_text(f"before\n{BEGIN}\nold\n{END}\nafter\n", encoding="utf-8")
     lost = entry("n7-kill", verdict="not measured", premise="caches are exported", losses=["pmacctd: killed"])
-    write_table(page, results(entry("a1-one"), lost))
+    repeated = entry("d1-ovs", **{"lost before": ["edge: first", "sw: packet socket at p-core rose by 119"]})
+    write_table(page, results(entry("a1-one"), lost, repeated))
     text = page.read_text(encoding="utf-8")
     assert "| a1-one | t | certificate | 3 / 340 | as due | as predicted | as predicted | as predicted | agreed |" in text
     assert "**not measured**. Premise that fails: caches are exported. Seen: pmacctd: killed |" in text
+    assert "| agreed, at attempt 3. Lost before: sw: packet socket at p-core rose by 119 |" in text
     assert text.startswith("before\n") and text.endswith("after\n") and "old" not in text
 
 

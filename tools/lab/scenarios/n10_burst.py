@@ -7,5 +7,5 @@ from lab.verdicts import REFUTATION, Expected, Verdict
 SCENARIO = Scenario(
     "n10-burst", "as d1, and nfacctd as it comes: 208 KiB of receive buffer, each record by itself to the plugin",
     Expected(REFUTATION, (Verdict.NOT_MEASURED,), "each message reaches the collector",
-             all_of(has_lost("found the buffer full"), exactly_in("once collect"))),
+             all_of(has_lost("found the buffer full"), exactly_in("once collect")), ("found the buffer full", "RcvbufErrors")),
     switch=SWITCH_WITH_CACHE, gaps=1, collectors=(Collector("billing", receive_buffer=212_992, is_as_it_comes=True),), is_random=True)
