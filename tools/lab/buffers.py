@@ -8,7 +8,7 @@ from pathlib import Path
 
 PIDFD_GETFD = 438  # the system call's number, the same on all machines of Linux (pidfd_getfd(2), since 5.6)
 SO_RCVBUFFORCE = 33  # which the module socket does not name
-# Of 2,500 packets in a scenario the kernel counts about 2,304 octets each.
+# The kernel makes it twice as much (socket(7)). A scenario's packets take less.
 OCTETS = 8 << 20
 
 

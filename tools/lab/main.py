@@ -81,17 +81,20 @@ def end_by_signal(number: int, _: object) -> NoReturn:
 
 def finish(arguments: argparse.Namespace, results: Results) -> int:
     """Writes what came of a run, and returns the exit status."""
+    path = arguments.out / "results.json"
     earlier = read(arguments.agree) if arguments.agree else None
-    write(results, arguments.out / "results.json")
-    faults = results.faults + (compare(earlier, results) if earlier else [])
-    if arguments.table:
-        write_table(arguments.table, results)
+    write(results, path)
+    faults = results.faults + (compare(earlier, read(path)) if earlier else [])
     verdicts = [one["verdict"] for one in results.scenarios]
     tally = ", ".join(f"{verdicts.count(one.value)} {one.value}" for one in Verdict)
     repeated = sum(bool(one["lost before"]) for one in results.scenarios)
     print(f"{len(verdicts)} scenarios measured, {repeated} after a repetition: {tally}; {len(faults)} faults, {results.seconds:.0f} s")
     for fault in faults:
         print(f"fault: {fault}")
+    if arguments.table and not faults:
+        write_table(arguments.table, results)
+    elif arguments.table:
+        print(f"the table of {arguments.table} is not written")
     return 1 if faults else 0
 
 

@@ -1,6 +1,7 @@
 """Rounds of the lab: which scenarios are run again, how they are sent then, and where the lab cannot run."""
 from __future__ import annotations
 
+import argparse
 import os
 import socket
 import subprocess
@@ -15,10 +16,11 @@ import pytest
 from lab import buffers, main, namespaces, rounds
 from lab.agents import send
 from lab.analysis import Result
+from lab.page import BEGIN, END
 from lab.programs import LabError, Outcome
 from lab.results import Results, entry_of
 from lab.rounds import Report, slowed
-from lab.scenario import Scenario, Sent
+from lab.scenario import Scenario
 from lab.scenarios import all_scenarios
 from lab.totals import Totals
 from lab.verdicts import CERTIFICATE, REFUTATION, Expected, Loss, Measured, Verdict, judge
@@ -175,10 +177,10 @@ def test_where_no_namespace_can_be_made(ci: str, wanted: int, monkeypatch: pytes
     monkeypatch.setattr("os.geteuid", lambda: 0)
     monkeypatch.setattr(main, "path_of", lambda name: name)
     monkeypatch.setattr(namespaces, "there", lambda: [])
-    monkeypatch.setattr(namespaces, "run", lambda *_, **__: Outcome(1, "", "mount --make-shared /run/netns failed: Operation not permitted\n"))
+    why = "mount --make-shared /run/netns failed: Operation not permitted\n"
+    monkeypatch.setattr(namespaces, "run", lambda *_, **__: Outcome(1, "", why))
     assert status(monkeypatch, ci) == wanted
-    assert capsys.readouterr().out == ("not run: lab: no network namespace can be made: mount --make-shared /run/netns failed: "
-                                       "Operation not permitted\n")
+    assert capsys.readouterr().out == f"not run: lab: no network namespace can be made: {why}"
 
 
 @pytest.mark.parametrize("ci, wanted", [("", 0), ("true", 1)])
@@ -203,5 +205,28 @@ def test_where_namespaces_are_allowed_the_core_runs(ci: str, monkeypatch: pytest
     assert len(ran) == 8 and "not run" not in capsys.readouterr().out
 
 
-def test_a_gap_of_the_usual_sender() -> None:
-    assert Sent().gap == 0.001
+def finished(folder: Path, results: Results, *, agree: bool) -> int:
+    """Returns the exit status of a run with these results, whose table goes into a page."""
+    page = folder / "LAB.md"
+    page.write_text(f"{BEGIN}\n{END}\n", encoding="utf-8")
+    earlier = folder / "earlier.json" if agree else None
+    return main.finish(argparse.Namespace(out=folder, agree=earlier, table=page), results)
+
+
+def test_a_run_that_an_earlier_one_agrees_with(tmp_path: Path, capsys: pytest.CaptureFixture[str]) -> None:
+    """Totals are tuples in a run, and lists in the file of an earlier one."""
+    results = Results("2026-11-30", {}, 1.0, 1.0, [entry_of(result(AGREES, DUE))])
+    assert finished(tmp_path, results, agree=False) == 0
+    (tmp_path / "results.json").rename(tmp_path / "earlier.json")
+    assert finished(tmp_path, results, agree=True) == 0
+    assert "1 scenarios measured, 0 after a repetition: 1 agreed" in capsys.readouterr().out
+    assert "x1-test" in (tmp_path / "LAB.md").read_text(encoding="utf-8")
+
+
+def test_a_run_that_an_earlier_one_contradicts(tmp_path: Path, capsys: pytest.CaptureFixture[str]) -> None:
+    assert finished(tmp_path, Results("2026-11-30", {}, 1.0, 1.0, [entry_of(result(AGREES, DUE))]), agree=False) == 0
+    (tmp_path / "results.json").rename(tmp_path / "earlier.json")
+    assert finished(tmp_path, Results("2026-11-30", {}, 1.0, 1.0, [entry_of(result(OVERFLOWS, PART, FULL))]), agree=True) == 1
+    said = capsys.readouterr().out
+    assert "fault: x1-test was measured in one of the runs alone" in said and "LAB.md is not written" in said
+    assert "x2-test" not in (tmp_path / "LAB.md").read_text(encoding="utf-8")
