@@ -6,10 +6,9 @@ def name_goals(trial, edits, files):
     """Writes a line `goal:` into each refused edit for each goal that the prover tried with more than the two tactics, judges
     these edits by their new texts, and takes out again the goals that the tactics do not prove of the function's own body. Each
     edit then has the verdict on the text that its file has."""
-    changed = [place for place, edit in enumerate(edits) if add_goals(edit, files[place])]
-    judge_anew(trial, edits, files, changed)
-    lost = [place for place in changed if take_out(edits[place], files[place])]
-    judge_anew(trial, edits, files, lost)
+    judge_anew(trial, edits, files, [place for place, edit in enumerate(edits) if add_goals(edit, files[place])])
+    while lost := [place for place, edit in enumerate(edits) if take_out(edit, files[place])]:
+        judge_anew(trial, edits, files, lost)
 
 
 def judge_anew(trial, edits, files, places):
@@ -41,10 +40,10 @@ def goals_to_name(edit):
 def take_out(edit, file):
     """Takes the goals out of the edit's file that the tactics do not prove of a function's own body, all that have no stored answer
     if it is not known which, and returns whether there are any."""
-    unproved = {goal for part in edit.parts for goal in part.unproved}
-    if edit.verdict.is_refused:
+    given = {goal for part in edit.parts for _, goal, _ in part.given}
+    unproved = {goal for part in edit.parts for goal in part.unproved} & given or given
+    if edit.verdict.is_refused or not unproved:
         return False
-    unproved = unproved or {goal for part in edit.parts for _, goal, _ in part.given}
     kept = [line for line in read(file).splitlines(True) if not (line.startswith("goal: ") and line.split()[1] in unproved)]
     with open(file, "w", encoding="utf-8") as it:
         it.writelines(kept)

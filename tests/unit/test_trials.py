@@ -218,3 +218,24 @@ def test_a_goal_whose_stored_answer_does_not_fit_is_named(trial):
     name_goals(trial, edits, [file])
     with open(file, encoding="utf-8") as it:
         assert edits[0].verdict.is_refused and it.read().endswith("goal: returns\n")
+
+
+def test_goals_that_only_the_wrong_body_has_are_not_named(trial):
+    both = refused(("loop-preserved", UNPROVED), ("returns", UNPROVED))
+    gone = refused(("loop-preserved", GONE))
+    edit, text = named(trial, offering, with_control(both, gone), refused(("returns", UNPROVED)))
+    assert edit.verdict.is_refused and "loop-preserved" not in text
+
+
+def test_goals_are_taken_out_until_the_control_holds(trial):
+    two_edits(trial, "loop-preserved g c")
+    folder = f"{trial.crate.folder}/mutants"
+    with open(f"{folder}/more.edit", "a", encoding="utf-8") as it:
+        it.write("goal: second c\n")
+    both = refused(("loop-preserved", UNPROVED), ("second", UNPROVED))
+    edits = [Edit(trial.crate.folder, f"{folder}/more.edit")]
+    trial.check = Checks(with_control(both, refused(("second", UNPROVED))), with_control(both, refused(("loop-preserved", UNPROVED))), open_goal)
+    trial.judge(edits)
+    name_goals(trial, edits, [f"{folder}/more.edit"])
+    with open(f"{folder}/more.edit", encoding="utf-8") as it:
+        assert edits[0].verdict.is_refused and "goal:" not in it.read() and not trial.check.said
