@@ -1,14 +1,19 @@
 //! Two meters on one path, each with a filter of its own.
 ghost use Rattle.std.specs.Prelude.{◌≡◌, [], ◌∷◌};
+ghost use Rattle.fx_leaf.specs.PathSelections.{IsNarrowed};
+ghost use Rattle.fx_leaf.specs.PathTables.{HasProcessRoom, IsPathBegun};
+ghost use Rattle.fx_leaf.specs.Tables.{AreTables};
 
 use crate::meters::{agreed, into, meter, sources};
 use crate::parts::{by_source, collector, exporter, holder, process};
+use fx_base::Fault;
+use fx_boxes::Region;
 use fx_elements::Axis;
 use fx_layout::Layout;
 use fx_leaf::{
     Counted, CutBounds, Judgement, PathScratch, Scratch, Tables, cut, fate, judge, never,
 };
-use fx_tables::{DeviceEntry, Exporter, Holder, Net};
+use fx_tables::{Crossing, DeviceEntry, Exporter, Holder, Net};
 use std::alloc::Global;
 use std::process::Abort;
 
@@ -77,6 +82,30 @@ type Answers = (
     Judgement,
 );
 
+/// The bound that halves what cuts the region, where it is cut at this one.
+fn halved(
+    alloc: Global,
+    along: &mut PathScratch<'_>,
+    tables: &Tables<'_>,
+    path: &[Crossing],
+    region: &Region,
+    all: usize,
+    split: Option<(Axis, u128)>,
+) -> Result<Option<(Axis, u128)>, Fault>
+    requires tables { AreTables tables.now }
+    requires room { HasProcessRoom tables.now along.old }
+    requires begun { IsPathBegun tables.now path.now along.old }
+    requires narrowed { IsNarrowed along.old.selections region.now all }
+{
+    let active = along.narrow(region, all);
+    let _judged = along.judge(tables, path, region, active);
+    let Some(first) = split else {
+        return Ok(None);
+    };
+    let mut bounds = CutBounds::new(alloc);
+    Ok(Some(along.halving_bound(&mut bounds, tables, path, region, active, first)?))
+}
+
 /// What is answered for the sources from one to another.
 fn asked(rt: &impl Abort, alloc: Global, net: &Net, low: u128, high: u128) -> Answers
     requires holders { net.now.holders ≡ record { layout = []; exporters = 0 ∷ [] }
@@ -104,19 +133,13 @@ fn asked(rt: &impl Abort, alloc: Global, net: &Net, low: u128, high: u128) -> An
     let split = cut(&mut scratch, &tables, &path, &region);
     let judgement = judge(&mut scratch, &tables, &path, &region);
     let judged = along.judge(&tables, &path, &region, active);
+    let split = halved(alloc, &mut along, &tables, &path, &region, active, split).expect(
+        rt, "memory",
+    );
     let judgement = if judged == judgement {
         judgement
     } else {
         Judgement::Unassigned
-    };
-    let mut bounds = CutBounds::new(alloc);
-    let split = match split {
-        None => None,
-        Some(first) => Some(
-            along
-                .halving_bound(&mut bounds, &tables, &path, &region, active, first)
-                .expect(rt, "memory"),
-        ),
     };
     (leaf, uncounted, split, judgement)
 }

@@ -38,3 +38,9 @@ never-requires-2-clause-narrowed g c = subst (λ (xs : List PathSelection). IsNa
 
 pub judge-judged-requires-clause-narrowed : goal.judge-judged-requires-clause-narrowed
 judge-judged-requires-clause-narrowed g c = subst (λ (xs : List PathSelection). IsNarrowed xs c.sources-region.result c.narrow-active.result) (sym (c.never-2.ensures.kept ∙ c.fate-2.ensures.kept)) c.narrow-active.ensures.narrowed
+
+pub halved-requires-clause-tables : goal.halved-requires-clause-tables
+halved-requires-clause-tables g c = lent c.new-tables.result c.args.net.now c.new.result c.new-tables.ensures c.new.ensures c.requires.holders c.requires.processes c.requires.report
+
+pub halved-requires-clause-narrowed : goal.halved-requires-clause-narrowed
+halved-requires-clause-narrowed g c = subst (λ (xs : List PathSelection). IsNarrowed xs c.sources-region.result c.narrow-active.result) (sym (c.judge-judged.ensures.kept ∙ c.never-2.ensures.kept ∙ c.fate-2.ensures.kept)) c.narrow-active.ensures.narrowed
