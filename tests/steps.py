@@ -6,7 +6,7 @@ from typing import Tuple
 
 PROGRAM = "./once"
 # What the tests of once-import compare with: programs that meter, collect and capture.
-IMPORTERS = ("mypy", "iproute2", "openvswitch-common", "openvswitch-switch", "pmacct", "python3-jsonpatch", "python3-jsonschema", "python3-pytest", "python3-pytest-xdist", "softflowd", "tshark")
+IMPORTERS = ("mypy", "iproute2", "jq", "openvswitch-common", "openvswitch-switch", "pmacct", "python3-jsonpatch", "python3-jsonschema", "python3-pytest", "python3-pytest-xdist", "softflowd", "tshark")
 
 
 @dataclass(frozen=True)
