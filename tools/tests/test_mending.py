@@ -4,7 +4,7 @@ from __future__ import annotations
 import json
 import time
 from pathlib import Path
-from typing import Any
+from typing import Any, Callable
 
 import pytest
 from conftest import TESTS, TOP, module, needed
@@ -127,6 +127,64 @@ def test_three_mistakes_in_a_network_of_twenty_devices(once: str) -> None:
     found = mend(once, network, traffic, Limits(changes=3, proposals=3, seconds=60))
     assert any(is_mend([it.says for it in one.changes], wanted) for one in found), [[it.says for it in one.changes] for one in found]
     assert time.monotonic() - began < 60
+
+
+def ipfix(network: dict[str, Any], device: int) -> dict[str, Any]:
+    found: dict[str, Any] = network["devices"][device]["config"]["ietf-ipfix-psamp:ipfix"]
+    return found
+
+
+def with_filter_of_another_router(network: dict[str, Any], traffic: dict[str, Any]) -> None:
+    """Two routers select their own customers' sources; the second has the filter of the first."""
+    for device in (0, 1):
+        ipfix(network, device)["selectionProcess"][0]["selector"] = [
+            {"name": "own", "filterMatch": {"ieName": "sourceIPv4Prefix", "value": "10.1.0.0/16"}}]
+
+
+def with_management(network: dict[str, Any], traffic: dict[str, Any]) -> None:
+    """Management traffic, which is exempt, comes in where the first router's customers do."""
+    traffic["classes"].append({"name": "management", "region": {"sourceIPv4Address": "192.0.2.0/24"}, "exempt": [None],
+                               "paths": [[{"device": "edge-1", "interface": "eth0", "direction": "ingress"}]]})
+
+
+def with_short_counters(network: dict[str, Any], traffic: dict[str, Any]) -> None:
+    for field in ipfix(network, 0)["cache"][0]["timeoutCache"]["cacheLayout"]["cacheField"][1:]:
+        field["ieLength"] = 4
+
+
+def with_a_mediator(network: dict[str, Any], aggregations: list[dict[str, Any]]) -> None:
+    """The routers' records go to a mediator, which aggregates them by these keys."""
+    entries = [{"name": name, "key": key, "exportingProcess": ["to billing"]} for name, key in ((it["name"], it["key"]) for it in aggregations)]
+    config = {"collectingProcess": [{"name": "routers", "once-audit:aggregation": entries}],
+              "exportingProcess": [{"name": "to billing", "destination": [{"name": "billing", "udpExporter": {}}]}]}
+    network["devices"].append({"name": "mediator", "config": {"ietf-ipfix-psamp:ipfix": config}})
+    for link in network["links"]:
+        link.update(toDevice="mediator", toProcess="routers")
+    network["links"].append({"device": "mediator", "exportingProcess": "to billing", "destination": "billing", "toDevice": "billing-host", "toProcess": "billing"})
+    network["report"]["key"] = [{"ieName": "sourceIPv4Prefix", "prefixLength": 24}]
+
+
+def with_a_coarser_mediator(network: dict[str, Any], traffic: dict[str, Any]) -> None:
+    with_a_mediator(network, [{"name": "by network", "key": [{"ieName": "sourceIPv4Prefix", "prefixLength": 16}]}])
+
+
+def with_two_aggregations(network: dict[str, Any], traffic: dict[str, Any]) -> None:
+    key = [{"ieName": "sourceIPv4Prefix", "prefixLength": 24}]
+    with_a_mediator(network, [{"name": "by network", "key": key}, {"name": "again", "key": key}])
+
+
+@pytest.mark.parametrize("change, wanted", [
+    (with_filter_of_another_router, 'Have selection process "all" of edge-2 select 10.2.0.0/16'),
+    (with_management, 'Have selection process "all" of edge-1 select sourceIPv4Prefix 10.1.0.0/16 alone'),
+    (with_short_counters, "Have edge-1 export counters of 8 octets"),
+    (with_a_coarser_mediator, 'Set sourceIPv4Prefix/24 in the key of aggregation "by network" of mediator'),
+    (with_two_aggregations, 'Remove aggregation "again" of mediator'),
+])
+def test_other_mistakes(change: Callable[[dict[str, Any], dict[str, Any]], None], wanted: str, once: str) -> None:
+    network, traffic = provider(2)
+    change(network, traffic)
+    found = mend(once, network, traffic, LIMITS)
+    assert found and is_mend([it.says for it in found[0].changes], [wanted]), [[it.says for it in one.changes] for one in found]
 
 
 def test_a_network_that_is_certified_needs_no_mend(once: str, capsys: pytest.CaptureFixture[str]) -> None:

@@ -11,8 +11,8 @@ from once_tools.model import Place
 from once_tools.network_view import MODULE, DeviceView, Json, NetworkView, Sighting, entries
 
 # How likely an operator is to choose a kind of change: candidates of less weight are tried first.
-LINK, DIRECTION, KEY_FIELD, FILTER, POINT, INTERFACE, FORWARD, DESTINATION, MODE, METER, REPORT_KEY, EXEMPT = \
-    4, 6, 7, 9, 10, 10, 11, 12, 14, 25, 35, 40
+LINK, FIELD_LENGTH, DIRECTION, KEY_FIELD, FILTER, POINT, INTERFACE, FORWARD, DESTINATION, MODE, METER, REPORT_KEY, EXEMPT = \
+    4, 5, 6, 7, 9, 10, 10, 11, 12, 14, 25, 35, 40
 
 
 @dataclass(frozen=True)

@@ -205,3 +205,22 @@ def choices(case: Case) -> Iterator[Change]:
             mode, words = ("fallback", "one of its destinations") if is_parallel else ("parallel", "all of its destinations")
             yield Change(f"Have exporting process {quoted(sent.process.get('name'))} of {sent.device.name} send each record to {words} "
                          f"(exportMode {mode}).", MODE, (add(f"{there}/exportMode", mode),), place=sent.device.place(f"/exportingProcess/{sent.exporter}"))
+
+
+def fewer_ways(case: Case) -> Iterator[Change]:
+    """Yields the changes that take one of several ways to the report out: an aggregation of a collecting process, or an exporting process
+    of a cache."""
+    for device, number, _ in Ways(case).reached:
+        process = device.list("collectingProcess")[number]
+        sums = entries(process.get(AGGREGATION))
+        there = f"/collectingProcess/{number}/{AGGREGATION}"
+        for at, one in enumerate(sums) if len(sums) > 1 or process.get("exportingProcess") else ():
+            pointer = case.pointer(device, f"{there}/{at}" if len(sums) > 1 else there)
+            yield Change(f"Remove aggregation {quoted(one.get('name'))} of {device.name}.", DESTINATION - (1 if at else 0), (remove(pointer),),
+                         place=device.place(f"{there}/{at}"))
+    for seen in case.counted:
+        cache = seen.device.list("cache")[seen.cache or 0]
+        names = texts(cache.get("exportingProcess"))
+        for at, name in enumerate(names) if len(names) > 1 else ():
+            yield Change(f"Take exporting process {quoted(name)} off cache {quoted(cache.get('name'))} of {seen.device.name}.", DESTINATION - (1 if at else 0),
+                         (remove(case.pointer(seen.device, f"/cache/{seen.cache}/exportingProcess/{at}")),), place=seen.device.place(f"/cache/{seen.cache}"))

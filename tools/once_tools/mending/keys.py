@@ -8,7 +8,7 @@ from once_tools.elements import ADDRESSES, axis_of
 from once_tools.keys import KeyField, missing, spelled
 from once_tools.mending.changes import EXEMPT, KEY_FIELD, REPORT_KEY, Case, Change, quoted
 from once_tools.mending.delivery import Ways
-from once_tools.mending.patches import Document, Operation, add, remove
+from once_tools.mending.patches import Document, Operation, add, remove, replace
 from once_tools.network_view import DeviceView, entries, key_fields, record_fields, table
 from once_tools.origin import AGGREGATION
 
@@ -46,8 +46,17 @@ def aggregation_keys(case: Case, device: DeviceView, process: int, key: list[Key
         lacks = missing(key, key_fields(one.get("key")))
         inside = f"/collectingProcess/{process}/{AGGREGATION}/{number}"
         if lacks:
-            yield Change(f"Add {spelled(lacks)} to the key of aggregation {quoted(one.get('name'))} of {device.name}.", KEY_FIELD,
-                         tuple(add(f"{case.pointer(device, inside)}/key/-", it) for it in key_entry(lacks)), place=device.place(inside))
+            there = [axis_of(element) for element, _ in key_fields(one.get("key"))]
+            words = "Set" if all(axis_of(element) in there for element, _ in lacks) else "Add"
+            yield Change(f"{words} {spelled(lacks)} {'in' if words == 'Set' else 'to'} the key of aggregation {quoted(one.get('name'))} of {device.name}.",
+                         KEY_FIELD, tuple(key_changes(f"{case.pointer(device, inside)}/key", there, lacks)), place=device.place(inside))
+
+
+def key_changes(pointer: str, there: list[str], lacks: list[KeyField]) -> Iterator[Operation]:
+    """Yields the operations that add fields to a key with these axes, or that put them in place of those on the same axis."""
+    for (element, _), entry in zip(lacks, key_entry(lacks)):
+        axis = axis_of(element)
+        yield replace(f"{pointer}/{there.index(axis)}", entry) if axis in there else add(f"{pointer}/-", entry)
 
 
 def shorter_report(case: Case) -> Iterator[Change]:

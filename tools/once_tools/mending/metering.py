@@ -4,10 +4,10 @@ from __future__ import annotations
 import ipaddress
 from typing import Iterator, Mapping
 
-from once_tools.elements import COUNTERS, PREFIXES
+from once_tools.elements import ADDRESSES, AXES, BITS, COUNTERS, PREFIXES, axis_of, is_value
 from once_tools.mending.changes import DIRECTION, FILTER, INTERFACE, METER, POINT, Case, Change, appended, free_name, quoted
 from once_tools.mending.patches import Document, Operation, add, remove, replace
-from once_tools.network_view import DeviceView, Json, Sighting, entries, selects, table, texts
+from once_tools.network_view import DeviceView, Json, Sighting, entries, passes, selects, table, texts
 
 OTHER = {"ingress": "egress", "egress": "ingress"}
 # What makes a sighting less likely to be the one to take out: the first on the path, where packets come into the network.
@@ -26,6 +26,7 @@ def less_metering(case: Case) -> Iterator[Change]:
         yield from other_direction(case, one, later)
         yield interface_off(case, one, later)
         yield from process_off(case, one, later)
+        yield from narrower(case, one) if case.is_exempt else ()
     for first in counted:
         for other in counted:
             if first is not other:
@@ -113,10 +114,67 @@ def left_out(case: Case, one: Sighting, other: Sighting) -> Iterator[Change]:
                  FILTER, tuple(operations), place=device.place(one.taken_by))
 
 
+def regional_value(region: Json, element: str) -> str | None:
+    """Returns the value that a filter of this element has if it selects what a region has on its axis, if one filter does."""
+    value = region.get(axis_of(element))
+    if not isinstance(value, str):
+        return None
+    if element in PREFIXES and "/" not in value and "-" not in value:
+        return f"{value}/{BITS[PREFIXES[element]]}"
+    return value if is_value(element, value) else None
+
+
+def other_filters(case: Case, device: DeviceView, point: Json) -> Iterator[Change]:
+    """Yields the changes that have a filter of the point select what the class's region has, where it does not select the packet."""
+    for name in texts(point.get("selectionProcess")):
+        found = device.find("selectionProcess", name)
+        if not found or "cache" not in found[1] or selects(found[1], case.packet):
+            continue
+        operations = []
+        for number, selector in enumerate(entries(found[1].get("selector"))):
+            match = table(selector.get("filterMatch"))
+            if match and not passes(match, case.packet):
+                operations.append((case.pointer(device, f"/selectionProcess/{found[0]}/selector/{number}/filterMatch/value"),
+                                   regional_value(table(case.one.get("region")), str(match.get("ieName")))))
+        changes = tuple(replace(path, value) for path, value in operations if value)
+        if changes and len(changes) == len(operations):
+            values = ", ".join(str(it.value) for it in changes)
+            yield Change(f"Have selection process {quoted(name)} of {device.name} select {values}.", FILTER, changes,
+                         place=device.place(f"/selectionProcess/{found[0]}"))
+
+
+def narrower(case: Case, one: Sighting) -> Iterator[Change]:
+    """Yields the changes that add to a selection process which takes an exempt packet a filter of what the classes that are to be
+    counted there have, if one filter does."""
+    process, crossing = one.device.list("selectionProcess")[one.process], (one.device.name, one.interface, one.direction)
+    regions = [table(each.get("region")) for each in entries(case.traffic.get("classes")) if "exempt" not in each and crosses(each, crossing)]
+    for axis in AXES:
+        element = axis.replace("Address", "Prefix") if axis in ADDRESSES else axis
+        values = {regional_value(region, element) for region in regions}
+        value = values.pop() if len(values) == 1 else None
+        match: Document = {"ieName": element, "value": value}
+        if value is None or passes(match, case.packet):
+            continue
+        there = case.pointer(one.device, f"/selectionProcess/{one.process}/selector")
+        selectors: list[Document] = [dict(it) for it in entries(process.get("selector")) if "selectAll" not in it]
+        selector: Document = {"name": free_name(list(selectors), element), "filterMatch": match}
+        yield Change(f"Have selection process {quoted(process.get('name'))} of {one.device.name} select {element} {value} alone.", FILTER,
+                     (replace(there, [*selectors, selector]),), place=one.device.place(one.taken_by))
+
+
+def crosses(one: Json, crossing: tuple[str, str, str]) -> bool:
+    """Returns whether a path of a class has a crossing: device, interface, direction."""
+    paths = one.get("paths")
+    return any((each.get("device"), each.get("interface"), each.get("direction")) == crossing
+               for path in (paths if isinstance(paths, list) else []) for each in entries(path))
+
+
 def more_metering(case: Case) -> Iterator[Change]:
     """Yields the changes that meter a packet which nothing meters."""
     for number, (device, interface, direction) in enumerate(case.crossings()):
         for at, point in enumerate(device.list("observationPoint")):
+            if interface in texts(point.get("ifName")) and point.get("direction", "both") in ("both", direction):
+                yield from other_filters(case, device, point)
             if takes(device, point, case.packet):
                 yield from interface_on(case, device, at, point, (interface, direction), number)
         if device.list("cache") and device.list("exportingProcess"):

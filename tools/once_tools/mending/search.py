@@ -13,10 +13,10 @@ from typing import Iterator
 
 from once_tools.answers import is_certificate, refusal_of, refutation_of
 from once_tools.mending.changes import Case, Change
-from once_tools.mending.delivery import choices, more_delivery
+from once_tools.mending.delivery import choices, fewer_ways, more_delivery
 from once_tools.mending.keys import declaration, more_keys
 from once_tools.mending.metering import less_metering, more_metering
-from once_tools.mending.sampling import without_sampling
+from once_tools.mending.refused import longer_counter, without_sampling
 from once_tools.mending.patches import Document, patched
 from once_tools.model import Failed, Place
 from once_tools.once_program import run_once
@@ -79,6 +79,7 @@ def candidates(network: Document, traffic: Document, answer: str) -> Iterator[Ch
         yield from candidates_for(Case(network, traffic, refutation))
     elif refusal:
         yield from without_sampling(network, refusal.number, refusal.pointer)
+        yield from longer_counter(network, refusal.number, refusal.pointer)
 
 
 def candidates_for(case: Case) -> Iterator[Change]:
@@ -87,7 +88,9 @@ def candidates_for(case: Case) -> Iterator[Change]:
         yield from less_metering(case)
         yield from choices(case)
     elif case.sightings:
-        yield from less_metering(case) if sum(one.ways for one in case.counted) > 1 else ()
+        if sum(one.ways for one in case.counted) > 1:
+            yield from less_metering(case)
+            yield from fewer_ways(case)
         yield from more_delivery(case)
         yield from choices(case)
         yield from more_keys(case)
