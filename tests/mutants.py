@@ -35,7 +35,8 @@ tried again. One line a mutant that is tried; the last line is `N passed, N fail
   --as-built  take the libraries from out/rlib, where `rt ci` has just put them
   --anew      try all mutants, also those whose verdicts are kept
   --pending   print how many mutants of each crate would be tried, and try none
-  --goals     write a line `goal:` into each refused mutant for each goal that took more than the two tactics
+  --goals     write a line `goal:` into each refused mutant for each goal that had to be tried anew, and if it took long for each
+              goal without a stored answer
   --control   try each function that a mutant changes, on a twin or in place, with its own body: all must be proved
   --follow    try each crate's mutants as soon as `rt ci`, which runs beside this, keeps the crate's proof; end where standard
               input does, which says that `rt ci` has ended, once no more are ready

@@ -1,12 +1,16 @@
 """Names in edits the goals that refuse their mutants, so that later trials leave these to two tactics at once."""
 from mutation.edits import Edit, read
 
+# The seconds by the clock from which a goal without a stored answer is named: it needs a control, which costs a few seconds too.
+SLOW = 10
+
 
 def name_goals(trial, edits, files):
-    """Writes a line `goal:` into each refused edit for each goal that the prover tried with more than the two tactics, judges
-    these edits by their new texts, and takes out again the goals that the tactics do not prove of the function's own body. Each
-    edit then has the verdict on the text that its file has."""
-    judge_anew(trial, edits, files, [place for place, edit in enumerate(edits) if add_goals(edit, files[place])])
+    """Writes a line `goal:` into each refused edit for each goal that had to be tried anew, and in those that took long for each goal
+    without a stored answer. Judges these edits by their new texts, and takes out again the goals that the tactics do not prove of the
+    function's own body. Each edit then has the verdict on the text that its file has."""
+    slow = {edit for edit in edits if sum(trial.took_for(part) for part in edit.parts) > SLOW}
+    judge_anew(trial, edits, files, [place for place, edit in enumerate(edits) if add_goals(edit, files[place], edit in slow)])
     while lost := [place for place, edit in enumerate(edits) if take_out(edit, files[place])]:
         judge_anew(trial, edits, files, lost)
 
@@ -17,9 +21,10 @@ def judge_anew(trial, edits, files, places):
     trial.judge([edits[place] for place in places])
 
 
-def add_goals(edit, file):
+def add_goals(edit, file, is_slow):
     """Writes the goals into the edit's file, and returns whether there are any."""
-    lines = [" ".join([goal, *(names if names != ["c"] else [])]) for goal, names in goals_to_name(edit)] if edit.verdict.is_refused else []
+    goals = goals_to_name(edit, is_slow) if edit.verdict.is_refused else []
+    lines = [" ".join([goal, *(names if names != ["c"] else [])]) for goal, names in goals]
     if lines:
         text = read(file).rstrip("\n")
         with open(file, "w", encoding="utf-8") as it:
@@ -27,13 +32,13 @@ def add_goals(edit, file):
     return bool(lines)
 
 
-def goals_to_name(edit):
-    """Returns the goals whose stored answers did not fit, those that refused the edit alone if they are known, and those that have no
-    stored answer, each with the names of its arguments."""
+def goals_to_name(edit, is_slow):
+    """Returns the goals whose stored answers did not fit, those that refused the edit alone if they are known, and of a slow edit
+    those that have no stored answer, each with the names of its arguments."""
     known = [goal for goal, _ in edit.goals]
     misfits = [goal for part in edit.parts for _, name, goal in part.without if name == "Answers" and goal not in known]
     misfits = [it for it in misfits if f"`{it}`" in edit.verdict.text] or misfits
-    offered = [it for part in edit.parts for it in part.offered if it[0] not in known]
+    offered = [it for part in edit.parts for it in part.offered if is_slow and it[0] not in known]
     return [*((it, ["c"]) for it in misfits), *offered]
 
 

@@ -5,7 +5,7 @@ from types import SimpleNamespace
 import pytest
 from mutation.answers import TACTICS
 from mutation.edits import Edit
-from mutation.goals import name_goals
+from mutation.goals import SLOW, name_goals
 from mutation.trials import ROUNDS, Trial
 
 BODY = "pub fn kept(value: u64) -> u64\n    ensures { result ≡ value }\n{\n    value\n}\n"
@@ -186,9 +186,11 @@ def offering(number):
     return open_goal(number) + OFFER % number
 
 
-def named(trial, *said):
-    """Returns the mutant and its file's text once goals are named, where checks print this one after another."""
+def named(trial, *said, seconds=SLOW + 1):
+    """Returns the mutant and its file's text once goals are named, where checks print this one after another, and the mutant took so
+    long."""
     edit, _ = verdict_of(trial, said[0])
+    trial.took_for = lambda part: seconds
     trial.check, edits, file = Checks(*said[1:]), [edit], f"{trial.crate.folder}/mutants/more.edit"
     name_goals(trial, edits, [file])
     assert not trial.check.said, "fewer checks than foreseen"
@@ -239,3 +241,8 @@ def test_goals_are_taken_out_until_the_control_holds(trial):
     name_goals(trial, edits, [f"{folder}/more.edit"])
     with open(f"{folder}/more.edit", encoding="utf-8") as it:
         assert edits[0].verdict.is_refused and "goal:" not in it.read() and not trial.check.said
+
+
+def test_goals_without_an_answer_are_named_of_slow_mutants_alone(trial):
+    edit, text = named(trial, offering, seconds=SLOW)
+    assert edit.verdict.is_refused and "goal:" not in text
