@@ -37,7 +37,7 @@ fn finds_words_by_number(rt: HostRuntime) {
 const WORDS: &[u8] = b"411
 wrong: A line follows the line `end`.
 usually: an empty line at the end of the text, two certificates in one file, or the sentences \
-that `once audit --words` writes behind a certificate.
+that `once audit --words` writes after a certificate.
 what to do: Remove what follows `end` and its line feed, or audit again without --words.
 see: FORMATS, a certificate
 wrong: The program was refused memory.
