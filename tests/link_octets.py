@@ -105,7 +105,10 @@ def of_nfcapd(folder, octets):
                 sender.sendto(message, ("127.0.0.1", port))
                 while not has_read_all(port):
                     time.sleep(0.001)
-        collector.terminate()
+        # (nfcapd goes on waiting after a signal that comes just before it waits for a datagram)
+        while collector.poll() is None:
+            collector.terminate()
+            time.sleep(0.05)
         said += collector.stderr.read()
     if "Sequence Errors: 0, Bad Packets: 0" not in said:
         raise SystemExit("nfcapd finds a gap or a message that it can't read:\n" + said)

@@ -163,7 +163,7 @@ def measure(session: Session, project: Path) -> Result:
 
 
 def leave_out_nfcapd(session: Session, port: int, found: dict[str, Totals]) -> None:
-    """Takes nfcapd out of the comparison where it has what comes of adding up the running totals of Open vSwitch's records."""
+    """Leaves nfcapd out of the comparison if its totals are sums of the running totals in Open vSwitch's records."""
     sums = captures.running_totals(session.folder / "wire.pcap", port)
     with_source = {key: value for key, value in found["nfcapd"].items() if key != NO_SOURCE}
     if with_source == sums and sums:
