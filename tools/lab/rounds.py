@@ -88,7 +88,7 @@ def line_of(result: Result) -> str:
 
 @dataclass
 class Report:
-    """Prints what comes of scenarios, and keeps their results and faults. `lost` has what was lost in earlier attempts at a
+    """Prints the results of scenarios, and keeps them with their faults. `lost` has what was lost in earlier attempts at a
     scenario, and `repeat` the names of those that the next round runs again."""
 
     results: list[Result] = field(default_factory=list)
