@@ -35,8 +35,8 @@ tried again. One line a mutant that is tried; the last line is `N passed, N fail
   --as-built  take the libraries from out/rlib, where `rt ci` has just put them
   --anew      try all mutants, also those whose verdicts are kept
   --pending   print how many mutants of each crate would be tried, and try none
-  --goals     write a line `goal:` into each refused mutant for each goal that had to be tried anew, and if it took long for each
-              goal without a stored answer
+  --goals     write a line `goal:` into each refused mutant on a twin that has none: a goal that refuses it alone, which later trials
+              then try alone
   --control   try each function that a mutant changes, on a twin or in place, with its own body: all must be proved
   --follow    try each crate's mutants as soon as `rt ci`, which runs beside this, keeps the crate's proof; end where standard
               input does, which says that `rt ci` has ended, once no more are ready
@@ -189,7 +189,9 @@ def follow(rt, left, arguments, libraries):
     with ThreadPoolExecutor(rt.processors()) as pool:
         while waiting or running:
             has_ended = has_input_ended()
-            ready = [it for it in waiting if are_proved_now(libraries, [*it.crate.below(), it.crate])]
+            forget_unproved(libraries)
+            # (a crate below that is not proved settles it: its library is looked for once a round, and those above it are not)
+            ready = [it for it in waiting if all(libraries.is_proved(dep) for dep in [*it.crate.below(), it.crate])]
             for it in ready[: rt.processors() - len(running)]:
                 waiting.remove(it)
                 running.add(pool.submit(try_crate, rt, it, arguments, True))
@@ -202,14 +204,9 @@ def follow(rt, left, arguments, libraries):
     return given
 
 
-def are_proved_now(libraries, crates):
-    """Returns whether all crates are proved, each after those below it; one that was not a while ago may be now."""
-    for it in crates:
-        if not libraries.found.get(it.name):
-            libraries.found.pop(it.name, None)
-        if not libraries.is_proved(it):
-            return False
-    return True
+def forget_unproved(libraries):
+    """Has crates that were not proved a while ago looked for again."""
+    libraries.found = {name: True for name, is_proved in libraries.found.items() if is_proved}
 
 
 def has_input_ended():
