@@ -47,6 +47,14 @@ def imported(text):
     return f"use {LEMMAS}.{{{', '.join(missing)}}}\n{text}" if missing else text
 
 
+def arguments_in(text, goal):
+    """Returns the names of the arguments of the stored answer to a goal, or None where it has more than one case or is not there."""
+    found = item_of(text, goal)
+    clauses = re.split(rf"(?m)^(?={re.escape(goal)}(?=\s))", text[found[0] : found[1]]) if found else []
+    names = re.match(r"\S+((?:\s+[\w-]+)*)\s*=", clauses[1]) if len(clauses) == 2 else None
+    return names[1].split() if names else None
+
+
 def without(text, goal):
     """Returns the proof file's text without the answer to this goal, and whether it had one."""
     found = item_of(text, goal)
@@ -81,6 +89,16 @@ def answer(room, crate, folder, goal, names):
     text = text if goals in text else goals + text
     os.makedirs(os.path.dirname(path), exist_ok=True)
     write(path, imported(f"{text.rstrip()}\n\npub {goal} : goal.{goal}\n{' '.join([goal, *names])} = {TACTICS}\n"))
+
+
+def leave_alone(room, crate, folder, goals):
+    """Leaves these goals to the tactics, each with the names of its arguments, and removes every other answer of the function whose
+    proof files lie in this folder below proofs/."""
+    path = f"{room}/proofs/{'/'.join(folder)}/Answers.antt"
+    if os.path.exists(path):
+        os.remove(path)
+    for goal, names in goals:
+        answer(room, crate, folder, goal, names)
 
 
 def write(path, text):

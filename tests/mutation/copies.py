@@ -12,6 +12,8 @@ from mutation.edits import module_of, proof_paths, read, sources
 from mutation.texts import functions
 
 MARK = "_twin_"
+# What keeps the prover from trying tactics at a function's goals.
+WITHOUT_TACTICS = "#[tactic(none)]\n"
 
 
 class Copies:
@@ -22,7 +24,8 @@ class Copies:
 
     def write(self, room, parts, kept, with_own_bodies=False):
         """Writes a copy in which the parts have wrong bodies, or their own. The functions `kept` and those changed in place are
-        to be proved; all others that have been proved stand by their statements."""
+        to be proved; all others that have been proved stand by their statements. The prover tries nothing of itself at parts whose
+        goals are tried alone."""
         folder = self.crate.folder
         for it in self.rtlib.PARTS:
             if os.path.isdir(f"{folder}/{it}"):
@@ -92,8 +95,9 @@ def change_of(part, text, with_own_body):
     body = text[function.opens : function.end] if with_own_body else part.body
     if not part.has_twin():
         return function.start, function.end, text[function.start : function.opens] + body, part
+    front = WITHOUT_TACTICS if part.alone else ""
     head = text[function.start : function.named] + part.twin_name(MARK)
-    return function.end, function.end, f"\n{head}{text[function.named + len(function.name) : function.opens]}{body}", part
+    return function.end, function.end, f"\n{front}{head}{text[function.named + len(function.name) : function.opens]}{body}", part
 
 
 def text_with(text, changes):

@@ -26,6 +26,8 @@ class Part:
         # (the goals without an answer that a check left open, and those given to the tactics that they do not prove of the
         # function's own body)
         self.offered, self.unproved = [], []
+        # (the goals that are tried alone, each with the names of its arguments)
+        self.alone = []
 
     def has_twin(self):
         return self.edit.kind == TWIN

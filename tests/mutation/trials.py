@@ -9,7 +9,7 @@ from mutation import answers
 from mutation.copies import MARK, Copies
 from mutation.edits import BAD, CONSTANT, IN_PLACE, TWIN, Part, proof_paths, read, sources
 from mutation.texts import functions
-from mutation.verdicts import ENDED, FRONT, Verdict, first_lines, judged, lines_of, offered_goals
+from mutation.verdicts import ENDED, FRONT, Verdict, answer_errors, first_lines, judged, lines_of, offered_goals
 
 # How often goals are tried anew, each time without one more stored answer, and the last time without any that does not fit.
 ROUNDS = 5
@@ -24,6 +24,8 @@ class Trial:
         self.rtlib, self.crate, self.kept, self.jobs, self.shown = rtlib, crate, kept, jobs, shown
         self.copies = Copies(rtlib, crate, proved)
         self.seconds, self.checks, self.peak, self.anew = 0.0, 0, 0, 0
+        # (the errors in proof files that the last checks printed)
+        self.errors = []
         # (the seconds by the clock that a check took for each function, by the last of its names)
         self.took = {}
 
@@ -86,27 +88,96 @@ class Trial:
         return self.took.get(part.twin_name(MARK) if part.has_twin() else part.function.name, 0.0)
 
     def judge_parts(self, parts, with_own_bodies=False):
-        """Judges these parts in one check, each on a twin of its function or in place; once more without those that do not
-        compile, and then those that only stored answers refuse, with their goals tried anew."""
-        for it in parts:
+        """Judges these parts in one check, each on a twin of its function or in place: those whose edits name goals by these alone.
+        Then once more without those that do not compile, and those that only stored answers refuse, with their goals tried anew."""
+        if not with_own_bodies:
+            for it in parts:
+                it.alone = self.goals_alone(it)
+        whole = self.judge_first(parts, with_own_bodies)
+        if left := [it for it in parts if it.alone and it.verdict is None]:
+            for it in left:
+                it.alone = []
+            whole += self.judge_first(left, with_own_bodies)
+        for round in range(ROUNDS):
+            whole = [it for it in whole if it.verdict.misfits and not it.verdict.is_refused]
+            if with_own_bodies or not whole:
+                return
+            self.anew += len(whole)
+            for it in whole:
+                errors = it.verdict.misfits[:1] if round < ROUNDS - 1 else it.verdict.misfits
+                it.without += [error.place for error in errors]
+            whole = self.judge_once(whole)
+
+    def judge_first(self, parts, with_own_bodies):
+        """Judges these parts in one check, with the functions' own bodies that their goals need beside them; returns those that compile
+        and are judged by all their goals. Those that the goals of their edits do not refuse have no verdict."""
+        self.errors, whole = [], [it for it in parts if not it.alone]
+        for it in whole:
             self.leave_to_tactics(it, with_own_bodies)
-        controls = {} if with_own_bodies else self.controls_of(parts)
-        compiled = self.judge_once([*parts, *dict.fromkeys(controls.values())], with_own_bodies)
+        controls = {} if with_own_bodies else self.controls_of(whole)
+        own = self.controls_alone([it for it in parts if it.alone])
+        compiled = self.judge_once([*parts, *dict.fromkeys(controls.values()), *dict.fromkeys(own.values())], with_own_bodies)
         for it, control in controls.items():
             if not control.verdict.text.startswith("NOT REFUSED"):
                 it.unproved = control.verdict.open
                 why = f"the tactics do not prove {it.given[0][1]} of the function's own body: {control.verdict.text[:160]}"
                 it.verdict = Verdict(False, f"BAD EDIT: {why}")
-        parts = [it for it in compiled if it in parts]
-        for round in range(ROUNDS):
-            parts = [it for it in parts if it.verdict.misfits and not it.verdict.is_refused]
-            if with_own_bodies or not parts:
+        for it in compiled:
+            if it.alone and it in parts:
+                self.judge_alone(it, own.get(it))
+        return [it for it in compiled if it in whole]
+
+    def judge_by_names(self, parts):
+        """Judges the parts by the goals that their edits name alone; returns those that are not refused so."""
+        for it in parts:
+            it.alone = self.goals_alone(it)
+        self.judge_first([it for it in parts if it.alone], with_own_bodies=False)
+        return [it for it in parts if not (it.verdict and it.verdict.is_refused)]
+
+    def controls_alone(self, parts):
+        """Returns, for each part with a goal that has no stored answer, one with the function's own body and with all such goals of the
+        function's mutants."""
+        made, found = {}, {}
+        for it in parts:
+            if unstored := [goal for goal in it.alone if not self.is_stored(self.own_home(it), goal[0])]:
+                key = it.path, it.function.key
+                found[it] = made[key] = made.get(key) or self.own_body(it)
+                found[it].alone += [goal for goal in unstored if goal not in found[it].alone]
+        return found
+
+    def own_body(self, part):
+        text = read(f"{self.crate.folder}/{part.path}")
+        return Part(part.edit, part.path, part.function, text[part.function.opens : part.function.end])
+
+    def goals_alone(self, part):
+        """Returns the goals that the part's edit names, with the names of their arguments, or none if one of them has an answer that
+        two tactics cannot take the place of, or the function is proved by hand."""
+        home, found = self.own_home(part), []
+        folder = f"{self.crate.folder}/proofs"
+        for goal, names in part.edit.goals:
+            stored = [at for at in part.folders() if self.is_stored(at, goal)]
+            if stored and stored != [home]:
+                return []
+            names = answers.arguments_in(read(f"{folder}/{'/'.join(home)}/Answers.antt"), goal) if stored else names
+            if names is None:
+                return []
+            found.append((goal, names))
+        by_hand = any(os.path.exists(f"{folder}/{'/'.join(at)}/Proof.antt") for at in part.folders())
+        return [] if by_hand or part.edit.kind != TWIN else found
+
+    def own_home(self, part):
+        """Returns the folder below proofs/ of the function's own answers, as a list of names."""
+        return [*self.home_of(part.path, part.function)[:-1], part.function.name]
+
+    def judge_alone(self, part, control):
+        """Gives the part its verdict if a goal that its edit names is open, and the tactics prove it of the function's own body."""
+        unproved = {it.goal for it in self.errors if control and it.folder == self.twin_home(control)}
+        own, names = self.twin_home(part), [goal for goal, _ in part.alone]
+        for it in self.errors:
+            if it.folder == own and it.goal in names and it.is_open and it.goal not in unproved:
+                name = "::".join([*own[:-1], part.function.name])
+                part.verdict = Verdict(True, f"refused at {name}: {it.message[:170]}", open=[it.goal])
                 return
-            self.anew += len(parts)
-            for it in parts:
-                errors = it.verdict.misfits[:1] if round < ROUNDS - 1 else it.verdict.misfits
-                it.without += [error.place for error in errors]
-            parts = self.judge_once(parts)
 
     def leave_to_tactics(self, part, with_own_bodies):
         """Notes which goals that the part's edit names are left to the tactics: those without a stored answer, and with a wrong body
@@ -136,8 +207,7 @@ class Trial:
 
     def control_of(self, part):
         """Returns a twin of the part's function with its own body, and with the same goals left to the tactics."""
-        text = read(f"{self.crate.folder}/{part.path}")
-        control = Part(part.edit, part.path, part.function, text[part.function.opens : part.function.end])
+        control = self.own_body(part)
         self.leave_to_tactics(control, with_own_bodies=True)
         return control
 
@@ -154,6 +224,9 @@ class Trial:
             with tempfile.TemporaryDirectory(prefix="mutants-") as room:
                 self.copies.write(room, parts, [], with_own_bodies)
                 for it in parts:
+                    if it.alone:
+                        answers.leave_alone(room, self.crate.name, self.twin_home(it), it.alone)
+                        continue
                     for place in it.without:
                         answers.try_anew(room, *place)
                     for folder, goal, names in it.given:
@@ -161,7 +234,8 @@ class Trial:
                 said, status = self.check(room, [self.symbol_of(it) for it in parts])
             if ENDED.search(said):
                 found, offered = lines_of(said), offered_goals(said)
-                for it in parts:
+                self.errors += answer_errors(said)
+                for it in [it for it in parts if not it.alone]:
                     it.offered = offered.get("/".join(self.twin_home(it)), [])
                     anew = [*it.without, *((folder, "Answers", goal) for folder, goal, _ in it.given)]
                     it.verdict = verdict_on(said, found, it, self.symbol_of(it), anew)

@@ -1,11 +1,12 @@
 """How a trial settles what a check leaves open: goals whose stored answers do not fit are left to two tactics, and edits name goals."""
 import os
+import re
 from types import SimpleNamespace
 
 import pytest
 from mutation.answers import TACTICS
 from mutation.edits import Edit
-from mutation.goals import SLOW, name_goals
+from mutation.goals import name_goals
 from mutation.trials import ROUNDS, Trial
 
 BODY = "pub fn kept(value: u64) -> u64\n    ensures { result ≡ value }\n{\n    value\n}\n"
@@ -125,10 +126,9 @@ def name_goal(trial, line):
         it.write(f"goal: {line}\n")
 
 
-def test_a_goal_named_by_the_edit_is_left_to_the_tactics_at_once(trial):
-    name_goal(trial, "returns")
-    edit, checks = verdict_of(trial, refused(("returns", UNPROVED)))
-    assert edit.verdict.is_refused and f"returns c = {TACTICS}\n" in checks.answers[0]
+def open_alone(goal):
+    """Returns what a check prints of a twin that leaves a goal open, beside others that nothing was tried at."""
+    return lambda number: open_goal(number) + refused((goal, UNPROVED))(number)
 
 
 def with_control(said, control):
@@ -136,17 +136,52 @@ def with_control(said, control):
     return lambda number: said(number) + control(number + 1)
 
 
-def test_a_goal_without_an_answer_that_the_edit_names_is_left_to_the_tactics(trial):
+def test_a_goal_named_by_the_edit_is_tried_alone(trial):
+    name_goal(trial, "returns")
+    edit, checks = verdict_of(trial, open_alone("returns"))
+    assert edit.verdict.is_refused and edit.verdict.text.startswith("refused at kept: `returns`")
+    assert checks.answers[0].endswith(f"pub returns : goal.returns\nreturns c = {TACTICS}\n") and "bound" not in checks.answers[0]
+
+
+def test_only_a_goal_that_is_named_refuses_alone(trial):
+    name_goal(trial, "returns")
+    edit, checks = verdict_of(trial, open_goal, proved)
+    assert edit.verdict.text.startswith("NOT REFUSED") and "bound c = refl" in checks.answers[1]
+
+
+def test_an_error_of_another_kind_at_the_goal_does_not_refuse_alone(trial):
+    name_goal(trial, "returns")
+    edit, _ = verdict_of(trial, refused(("returns", GONE)), proved)
+    assert edit.verdict.text.startswith("NOT REFUSED")
+
+
+def test_the_prover_tries_nothing_of_itself_at_what_is_tried_alone(trial):
+    name_goal(trial, "returns")
+    edit = Edit(trial.crate.folder, f"{trial.crate.folder}/mutants/more.edit")
+    texts = []
+
+    def check(room, only):
+        with open(f"{room}/src/lib.rt", encoding="utf-8") as it:
+            texts.append(it.read())
+        return open_alone("returns")(int(only[0].rpartition("_")[2])) + ENDED, 1
+
+    trial.check = check
+    trial.judge([edit])
+    assert re.search(r"\n#\[tactic\(none\)\]\npub fn kept_twin_\d+\(", texts[0]) and texts[0].count("tactic") == 1
+
+
+def test_a_goal_without_an_answer_needs_a_control(trial):
     name_goal(trial, "loop-preserved g c")
-    edit, checks = verdict_of(trial, with_control(refused(("loop-preserved", UNPROVED)), proved))
+    edit, checks = verdict_of(trial, with_control(open_alone("loop-preserved"), proved))
     assert edit.verdict.is_refused
     assert f"pub loop-preserved : goal.loop-preserved\nloop-preserved g c = {TACTICS}\n" in checks.answers[0]
 
 
 def test_the_tactics_must_prove_such_a_goal_of_the_function_s_own_body(trial):
     name_goal(trial, "loop-preserved g c")
-    unproved = refused(("loop-preserved", UNPROVED))
-    edit, _ = verdict_of(trial, with_control(unproved, unproved))
+    unproved = open_alone("loop-preserved")
+    whole = with_control(refused(("loop-preserved", UNPROVED)), refused(("loop-preserved", UNPROVED)))
+    edit, _ = verdict_of(trial, with_control(unproved, unproved), whole)
     assert edit.verdict.text.startswith("BAD EDIT: the tactics do not prove loop-preserved of the function's own body")
 
 
@@ -162,11 +197,20 @@ def two_edits(trial, line):
 
 
 def test_mutants_of_one_function_share_a_control(trial):
-    unproved = refused(("loop-preserved", UNPROVED))
+    unproved = open_alone("loop-preserved")
     edits = two_edits(trial, "loop-preserved g c")
     trial.check = Checks(lambda number: unproved(number) + unproved(number + 1) + proved(number + 2))
     trial.judge(edits)
     assert [it.verdict.is_refused for it in edits] == [True, True]
+
+
+def test_a_function_proved_by_hand_is_not_tried_alone(trial):
+    (path := f"{trial.crate.folder}/proofs/kept/Proof.antt")
+    with open(path, "w", encoding="utf-8") as it:
+        it.write("pub kept_spec : statement\n")
+    name_goal(trial, "returns")
+    edit, checks = verdict_of(trial, refused(("returns", UNPROVED)))
+    assert edit.verdict.is_refused and "bound c = refl" in checks.answers[0]
 
 
 OFFER = """help: add these lines to ./proofs/kept_twin_%d/Answers.antt, leaving out each name that its `use` lines bring already
@@ -175,8 +219,8 @@ OFFER = """help: add these lines to ./proofs/kept_twin_%d/Answers.antt, leaving 
     -- src/lib.rt:2:1
     pub loop-preserved : goal.loop-preserved
     loop-preserved g c = ?
-    returns : goal.returns
-    returns c = (
+    second : goal.second
+    second c = (
       ?,
     )
 """
@@ -186,11 +230,9 @@ def offering(number):
     return open_goal(number) + OFFER % number
 
 
-def named(trial, *said, seconds=SLOW + 1):
-    """Returns the mutant and its file's text once goals are named, where checks print this one after another, and the mutant took so
-    long."""
+def named(trial, *said):
+    """Returns the mutant and its file's text once a goal is named, where checks print this one after another."""
     edit, _ = verdict_of(trial, said[0])
-    trial.took_for = lambda part: seconds
     trial.check, edits, file = Checks(*said[1:]), [edit], f"{trial.crate.folder}/mutants/more.edit"
     name_goals(trial, edits, [file])
     assert not trial.check.said, "fewer checks than foreseen"
@@ -198,51 +240,33 @@ def named(trial, *said, seconds=SLOW + 1):
         return edits[0], it.read()
 
 
-def test_goals_that_stay_open_are_named(trial):
-    both = refused(("loop-preserved", UNPROVED), ("returns", UNPROVED))
-    edit, text = named(trial, offering, with_control(both, proved))
-    assert edit.verdict.is_refused
-    assert text.endswith("goal: loop-preserved g c\ngoal: returns\n")
+def test_a_goal_that_refuses_alone_is_named(trial):
+    edit, text = named(trial, offering, with_control(open_alone("loop-preserved"), proved))
+    assert edit.verdict.is_refused and text.endswith("new:     value + 1\ngoal: loop-preserved g c\n")
+
+
+def test_the_next_goal_is_named_where_the_first_does_not_refuse_alone(trial):
+    holds, lacks = with_control(open_goal, proved), with_control(open_alone("second"), proved)
+    edit, text = named(trial, offering, holds, lacks)
+    assert edit.verdict.is_refused and text.endswith("new:     value + 1\ngoal: second\n")
 
 
 def test_a_goal_that_the_tactics_do_not_prove_of_the_own_body_is_not_named(trial):
-    both = refused(("loop-preserved", UNPROVED), ("returns", UNPROVED))
-    control = refused(("loop-preserved", UNPROVED))
-    edit, text = named(trial, offering, with_control(both, control), refused(("returns", UNPROVED)))
-    assert edit.verdict.is_refused
-    assert "loop-preserved" not in text and text.endswith("goal: returns\n")
+    both = with_control(open_alone("loop-preserved"), open_alone("loop-preserved"))
+    edit, text = named(trial, offering, both, with_control(open_goal, proved))
+    assert edit.verdict.is_refused and text.endswith("new:     value + 1\n")
 
 
 def test_a_goal_whose_stored_answer_does_not_fit_is_named(trial):
     edit, _ = verdict_of(trial, refused(("returns", MISFIT)), refused(("returns", UNPROVED)))
     file = f"{trial.crate.folder}/mutants/more.edit"
-    edits, trial.check = [edit], Checks(refused(("returns", UNPROVED)))
+    edits, trial.check = [edit], Checks(open_alone("returns"))
     name_goals(trial, edits, [file])
     with open(file, encoding="utf-8") as it:
         assert edits[0].verdict.is_refused and it.read().endswith("goal: returns\n")
 
 
 def test_goals_that_only_the_wrong_body_has_are_not_named(trial):
-    both = refused(("loop-preserved", UNPROVED), ("returns", UNPROVED))
-    gone = refused(("loop-preserved", GONE))
-    edit, text = named(trial, offering, with_control(both, gone), refused(("returns", UNPROVED)))
-    assert edit.verdict.is_refused and "loop-preserved" not in text
-
-
-def test_goals_are_taken_out_until_the_control_holds(trial):
-    two_edits(trial, "loop-preserved g c")
-    folder = f"{trial.crate.folder}/mutants"
-    with open(f"{folder}/more.edit", "a", encoding="utf-8") as it:
-        it.write("goal: second c\n")
-    both = refused(("loop-preserved", UNPROVED), ("second", UNPROVED))
-    edits = [Edit(trial.crate.folder, f"{folder}/more.edit")]
-    trial.check = Checks(with_control(both, refused(("second", UNPROVED))), with_control(both, refused(("loop-preserved", UNPROVED))), open_goal)
-    trial.judge(edits)
-    name_goals(trial, edits, [f"{folder}/more.edit"])
-    with open(f"{folder}/more.edit", encoding="utf-8") as it:
-        assert edits[0].verdict.is_refused and "goal:" not in it.read() and not trial.check.said
-
-
-def test_goals_without_an_answer_are_named_of_slow_mutants_alone(trial):
-    edit, text = named(trial, offering, seconds=SLOW)
+    gone = with_control(open_alone("loop-preserved"), refused(("loop-preserved", GONE)))
+    edit, text = named(trial, offering, gone, with_control(open_goal, proved))
     assert edit.verdict.is_refused and "goal:" not in text
