@@ -1,7 +1,7 @@
 -- The room in which leaves are judged stays ready from line to line.
-use Rattle.std.proofs.Common.{◌≡◌, ℕ, ◌≤◌, List, [], ◌∷◌, ◌++◌, arith, refl, subst, sym}
-use Rattle.fx_boxes.specs.Boxes.{IsStrictlyInside}
-use Rattle.fx_leaf.specs.PathSelections.{AreNarrowed, IsNarrowed, PathSelection}
+use Rattle.std.proofs.Common.{◌≡◌, ℕ, ◌≤◌, ◌∙◌, List, [], ◌∷◌, ◌++◌, ap, arith, refl, subst, sym}
+use Rattle.fx_boxes.specs.Boxes.{Bounds, IsStrictlyInside}
+use Rattle.fx_leaf.specs.PathSelections.{AllOver, AllUnder, AreNarrowed, IsNarrowed, PathSelection}
 use Rattle.fx_leaf.specs.PathTables.{PathTable}
 use Rattle.fx_leaf.specs.Tables.{Tables}
 use Rattle.fx_leaf.proofs.NarrowedRegions.{above_lies, below_lies, front_narrowed, last_narrowed, part_narrowed, split_narrowed}
@@ -45,3 +45,27 @@ pub begun_still : (t : Tables) (ts : List Target) (at : ℕ) (s : Stage) (w belo
 begun_still t ts at s w below old new active e to begun =
     let there : HasBegun t ts at (stage.Tree w) old = subst (λ (x : Stage). HasBegun t ts at x old) e begun in
     λ target got. to.begun t target.crossings (there target got)
+
+-- ---- a line is refused
+
+-- the region that comes next is the same one
+pub stage_kept : (s : Stage) (w below : WaitingRegion) → s ≡ stage.Tree w → below ≡ w → stage.Tree below ≡ s
+stage_kept s w below e same = ap (λ (v : WaitingRegion). stage.Tree v) same ∙ sym e
+
+last_under : (ws : List WaitingRegion) (w : WaitingRegion) (n : ℕ) → AllUnder (λ (v : WaitingRegion). v.active) n (ws ++ w ∷ []) → w.active ≤ n
+last_under [] w n h = h.0
+last_under (v ∷ vs) w n h = last_under vs w n h.1
+
+last_least : (xs : List PathSelection) (ws : List WaitingRegion) (w : WaitingRegion) → AreNarrowed (λ (v : WaitingRegion). v.region) (λ (v : WaitingRegion). v.active) xs (ws ++ w ∷ []) → AllOver (λ (v : WaitingRegion). v.active) w.active (ws ++ w ∷ [])
+last_least xs [] w h = (omega arith, tt)
+last_least xs (v ∷ vs) w h = (last_under vs w v.active h.1, last_least xs vs w h.2)
+
+all_still : (xs ys : List PathSelection) (n : ℕ) (ws : List WaitingRegion) → ((b : Bounds) (m : ℕ) → n ≤ m → IsNarrowed xs b m → IsNarrowed ys b m) → AllOver (λ (v : WaitingRegion). v.active) n ws → AreNarrowed (λ (v : WaitingRegion). v.region) (λ (v : WaitingRegion). v.active) xs ws → AreNarrowed (λ (v : WaitingRegion). v.region) (λ (v : WaitingRegion). v.active) ys ws
+all_still xs ys n [] keeps over h = tt
+all_still xs ys n (w ∷ ws) keeps over h = (keeps w.region w.active over.0 h.0, h.1, all_still xs ys n ws keeps over.1 h.2)
+
+-- the regions stay narrowed where the selection processes that don't count packets of the last of them moved
+pub narrowed_kept : (s : Stage) (ws : List WaitingRegion) (old new : PathTable) (w : WaitingRegion) (active : ℕ) → s ≡ stage.Tree w → IsNarrowedTo old new w active → HasNarrowed s ws old.selections → HasNarrowed s ws new.selections
+narrowed_kept s ws old new w active e to h =
+    let there = narrowed_tree s ws old.selections w e h in
+    subst (λ (x : Stage). HasNarrowed x ws new.selections) (sym e) (all_still old.selections new.selections w.active (ws ++ w ∷ []) to.others (last_least old.selections ws w there) there)

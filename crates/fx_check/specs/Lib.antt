@@ -5,3 +5,4 @@ pub mod Certificates
 pub mod Remaining
 pub mod Outcomes
 pub mod Declarations
+pub mod Stops

@@ -8,19 +8,21 @@ ghost use Rattle.fx_base.specs.Lines.{Fails};
 ghost use Rattle.fx_plan.specs.Tables.{net_of};
 ghost use Rattle.fx_check.specs.Outcomes.{IsToldBy, Accepts, MayBeAccepted, MayBeCertificate, MayBeRefused};
 ghost use Rattle.fx_check.specs.Remaining.{goals, HasRooms, IsConsistent, IsReady};
-ghost use Rattle.fx_traffic.specs.Targets.{AreRegions, targets_of};
+ghost use Rattle.fx_traffic.specs.Targets.{targets_of};
 ghost use Rattle.fx_check.specs.FirstRefusal.{whole};
+ghost use Rattle.fx_check.specs.Stops.{IsStop, state_of};
 
+use crate::checker::Checker;
 use crate::course::Course;
-use crate::tables::tables_of;
-use fx_base::{Fault, LineReader, Source};
+use crate::watch::{CheckWatch, Unwatched};
+use fx_base::{Fault, LineReader, Place, Source};
 use fx_leaf::{PathScratch, Tables};
 use fx_plan::Plan;
 use fx_traffic::{Target, Traffic};
 use std::alloc::Global;
 
 /// Takes all lines, the first of which is a certificate's first.
-fn take_lines<'t, R: Source>(
+pub(crate) fn take_lines<'t, R: Source>(
     course: &mut Course,
     scratch: &mut PathScratch<'t>,
     tables: &Tables<'t>,
@@ -35,7 +37,11 @@ fn take_lines<'t, R: Source>(
     ensures ok { OnOk result (MayBeAccepted tables.now.net targets.now lines.old) }
     ensures err { IfErr result (λ e. Fails lines.old lines.new e
         ⊎ MayBeRefused tables.now.net targets.now lines.old lines.new e) }
+    ensures stops { IfErr result (IsStop lines.old lines.new
+        (state_of tables.now.net targets.now course.new)) }
     ensures numbers { IfErr result (IsToldBy lines.old) }
+    ensures ready { IsReady tables.now targets.now course.new scratch.new }
+    ensures consistent { IsConsistent targets.now course.new }
 {
     'lines: loop {
         if !lines.advance()? {
@@ -48,7 +54,7 @@ fn take_lines<'t, R: Source>(
 }
 
 /// Makes room for the selection processes of each target's path.
-fn make_room(
+pub(crate) fn make_room(
     scratch: &mut PathScratch<'_>,
     tables: &Tables<'_>,
     targets: &[Target<'_>],
@@ -65,27 +71,23 @@ fn make_room(
     Ok(())
 }
 
-/// Checks a certificate of these classes over the tables of a network.
-fn check_classes<R: Source>(
-    alloc: Global,
-    tables: &Tables<'_>,
-    traffic: &Traffic,
-    lines: &mut LineReader<R>,
-) -> Result<(), Fault>
-    requires tables { AreTables tables.now }
-    ensures ok { OnOk result (MayBeAccepted tables.now.net (targets_of traffic.now) lines.old) }
-    ensures regions { OnOk result (AreRegions (targets_of traffic.now)) }
-    ensures err { IfErr result (λ e. (IsMemory e × (lines.new ≡ lines.old))
-        ⊎ (Fails lines.old lines.new e
-        ⊎ MayBeRefused tables.now.net (targets_of traffic.now) lines.old lines.new e)) }
-    ensures accepts { IfErr result (Accepts tables.now.net traffic.now lines.old lines.new) }
-    ensures numbers { IfErr result (IsToldBy lines.old) }
-{
-    let targets = traffic.targets(alloc)?;
-    let mut scratch = PathScratch::new(alloc, tables)?;
-    make_room(&mut scratch, tables, targets.as_slice())?;
-    let mut course = Course::new(alloc)?;
-    take_lines(&mut course, &mut scratch, tables, targets.as_slice(), lines)
+/// Shows an observer where a certificate is refused.
+fn show_refusal<R: Source, W: CheckWatch>(
+    checker: &Checker<'_>,
+    lines: &LineReader<R>,
+    outcome: &Result<(), Fault>,
+    watch: &mut W,
+) {
+    let Err(fault) = outcome else {
+        return;
+    };
+    let line = lines.line();
+    let there = if fault.place == Place::Line(line.number) {
+        Some(&line)
+    } else {
+        None
+    };
+    watch.on_refused(&checker.due(), there, fault);
 }
 
 /// Checks the text of a certificate, which begins with the reader's next line: Ok is the yes. Then each packet of the
@@ -127,6 +129,30 @@ pub fn check<R: Source>(
     // Whatever bytes the reader gives: 900 or 901, 903 at a line, or 401 to 415 at a line.
     ensures numbers { IfErr result (IsToldBy lines.old) }
 {
-    let tables = tables_of(plan);
-    check_classes(alloc, &tables, traffic, lines)
+    check_watched(alloc, plan, traffic, lines, &mut Unwatched)
+}
+
+/// Does what [`check`] does, and shows an observer where a certificate is refused. What is returned is the same for every
+/// observer.
+pub fn check_watched<R: Source, W: CheckWatch>(
+    alloc: Global,
+    plan: &Plan,
+    traffic: &Traffic,
+    lines: &mut LineReader<R>,
+    watch: &mut W,
+) -> Result<(), Fault>
+    ensures once { OnOk result (ExactlyOnce (net_of plan.now) traffic.now) }
+    ensures modulo { OnOk result (OnceModulo (net_of plan.now) traffic.now) }
+    ensures certificate { OnOk result (MayBeCertificate (net_of plan.now) traffic.now lines.old) }
+    ensures ok { OnOk result (MayBeAccepted (net_of plan.now) (targets_of traffic.now) lines.old) }
+    ensures err { IfErr result (λ e. (IsMemory e × (lines.new ≡ lines.old))
+        ⊎ (Fails lines.old lines.new e
+        ⊎ MayBeRefused (net_of plan.now) (targets_of traffic.now) lines.old lines.new e)) }
+    ensures accepts { IfErr result (Accepts (net_of plan.now) traffic.now lines.old lines.new) }
+    ensures numbers { IfErr result (IsToldBy lines.old) }
+{
+    let mut checker = Checker::new(alloc, plan, traffic)?;
+    let outcome = checker.take_all(lines);
+    show_refusal(&checker, lines, &outcome, watch);
+    outcome
 }

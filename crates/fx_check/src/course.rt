@@ -1,5 +1,5 @@
 //! The place of a checker in a certificate, and what a line does there.
-ghost use Rattle.std.specs.Prelude.{◌≡◌, ◌+◌, ◌<◌, ◌≤◌, [], List, ℕ, length, IfOk, IfErr, OnOk, Ok, Err, Some, None};
+ghost use Rattle.std.specs.Prelude.{◌≡◌, ◌+◌, ◌<◌, ◌≤◌, [], List, ℕ, length, IfOk, IfErr, OnOk, OnErr, Ok, Err, Some, None};
 ghost use Rattle.fx_cert.specs.declared.item.Item.TheVariants as of_item;
 ghost use Rattle.fx_boxes.specs.Boxes.{IsStrictlyInside};
 ghost use Rattle.fx_elements.specs.Axes.{axis_index};
@@ -9,8 +9,10 @@ ghost use Rattle.fx_leaf.specs.Tables.{Tables as TableView};
 ghost use Rattle.fx_check.specs.declared.stack.WaitingRegion.{WaitingRegion as OfWaiting};
 ghost use Rattle.fx_check.specs.Judging.{Judge, judge_of};
 ghost use Rattle.fx_check.specs.Remaining.{goals, rest_goals, HasNarrowed, IsNarrowedTo, IsConsistent, IsInTree, IsReady, map_result, below_waits, above_waits};
+ghost use Rattle.fx_check.specs.Stops.{IsDue};
 ghost use Rattle.fx_check.specs.FirstRefusal.{Goal, after, after_reading, split_answer, made_by, made_after, form_fault, reading_of, at_end, by_number};
 
+use crate::due::Due;
 use crate::judging::{leaf_fault, never_fault};
 use crate::line_fault::LineFault;
 use crate::stack::{Stack, WaitingRegion};
@@ -80,9 +82,10 @@ impl Course {
         requires stage { self.old.stage ≡ Stage.Between }
         ensures after { (judge : Judge) → after judge self.old.made (goals targets.now self.old)
             item.now ≡ map_result result (goals targets.now self.new) }
-        ensures consistent { OnOk result (IsConsistent targets.now self.new) }
+        ensures consistent { IsConsistent targets.now self.new }
         ensures made { OnOk result (self.new.made ≡ made_by self.old.made item.now) }
-        ensures ready { OnOk result (IsReady tables.now targets.now self.new scratch.new) }
+        ensures ready { IsReady tables.now targets.now self.new scratch.new }
+        ensures same { OnErr result (self.new ≡ self.old) }
     {
         if self.current < targets.len() {
             let target = &targets[self.current];
@@ -143,9 +146,10 @@ impl Course {
         ensures after { after (judge_of tables.now.net) self.old.made (goals targets.now self.old)
             (of_item.Leaf leaf.now.crossing leaf.now.point leaf.now.process)
             ≡ map_result result (goals targets.now self.new) }
-        ensures consistent { OnOk result (IsConsistent targets.now self.new) }
+        ensures consistent { IsConsistent targets.now self.new }
         ensures made { OnOk result (self.new.made ≡ self.old.made + 1) }
-        ensures ready { OnOk result (IsReady tables.now targets.now self.new scratch.new) }
+        ensures ready { IsReady tables.now targets.now self.new scratch.new }
+        ensures same { OnErr result (self.new ≡ self.old) }
     {
         let target = &targets[self.current];
         if target.exempt {
@@ -178,9 +182,10 @@ impl Course {
         requires stage { IsInTree self.old.stage }
         ensures after { after (judge_of tables.now.net) self.old.made (goals targets.now self.old)
             of_item.Never ≡ map_result result (goals targets.now self.new) }
-        ensures consistent { OnOk result (IsConsistent targets.now self.new) }
+        ensures consistent { IsConsistent targets.now self.new }
         ensures made { OnOk result (self.new.made ≡ self.old.made + 1) }
-        ensures ready { OnOk result (IsReady tables.now targets.now self.new scratch.new) }
+        ensures ready { IsReady tables.now targets.now self.new scratch.new }
+        ensures same { OnErr result (self.new ≡ self.old) }
     {
         let target = &targets[self.current];
         if self.version == Version::One || !target.exempt {
@@ -231,10 +236,11 @@ impl Course {
         requires stage { IsInTree self.old.stage }
         ensures after { (judge : Judge) → after judge self.old.made (goals targets.now self.old)
             (of_item.Split axis at) ≡ map_result result (goals targets.now self.new) }
-        ensures consistent { OnOk result (IsConsistent targets.now self.new) }
+        ensures consistent { IsConsistent targets.now self.new }
         ensures made { OnOk result (self.new.made ≡ self.old.made + 1) }
-        ensures ready { OnOk result ((t : TableView) → IsReady t targets.now self.old scratch.old
-            → IsReady t targets.now self.new scratch.new) }
+        ensures ready { (t : TableView) → IsReady t targets.now self.old scratch.old
+            → IsReady t targets.now self.new scratch.new }
+        ensures same { OnErr result (self.new ≡ self.old) }
     {
         let active = self.narrow(scratch);
         let Stage::Tree(here) = &mut self.stage else {
@@ -260,9 +266,10 @@ impl Course {
         requires stage { IsInTree self.old.stage }
         ensures after { after (judge_of tables.now.net) self.old.made (goals targets.now self.old)
             item.now ≡ map_result result (goals targets.now self.new) }
-        ensures consistent { OnOk result (IsConsistent targets.now self.new) }
+        ensures consistent { IsConsistent targets.now self.new }
         ensures made { OnOk result (self.new.made ≡ made_by self.old.made item.now) }
-        ensures ready { OnOk result (IsReady tables.now targets.now self.new scratch.new) }
+        ensures ready { IsReady tables.now targets.now self.new scratch.new }
+        ensures same { OnErr result (self.new ≡ self.old) }
     {
         match item {
             Item::Leaf {
@@ -296,9 +303,10 @@ impl Course {
         requires consistent { IsConsistent targets.now self.old }
         ensures after { after (judge_of tables.now.net) self.old.made (goals targets.now self.old)
             item.now ≡ map_result result (goals targets.now self.new) }
-        ensures consistent { OnOk result (IsConsistent targets.now self.new) }
+        ensures consistent { IsConsistent targets.now self.new }
         ensures made { OnOk result (self.new.made ≡ made_by self.old.made item.now) }
-        ensures ready { OnOk result (IsReady tables.now targets.now self.new scratch.new) }
+        ensures ready { IsReady tables.now targets.now self.new scratch.new }
+        ensures same { OnErr result (self.new ≡ self.old) }
     {
         match self.stage {
             Stage::Ended => Err(LineFault::BehindEnd),
@@ -346,10 +354,11 @@ impl Course {
         ensures after { after_reading (judge_of tables.now.net) self.old.made
             (goals targets.now self.old) (reading_of (line.now.bytes.now, line.now.ended))
             ≡ by_number (map_result result (goals targets.now self.new)) }
-        ensures consistent { OnOk result (IsConsistent targets.now self.new) }
+        ensures consistent { IsConsistent targets.now self.new }
         ensures made { OnOk result (self.new.made
             ≡ made_after self.old.made (reading_of (line.now.bytes.now, line.now.ended))) }
-        ensures ready { OnOk result (IsReady tables.now targets.now self.new scratch.new) }
+        ensures ready { IsReady tables.now targets.now self.new scratch.new }
+        ensures same { OnErr result (self.new ≡ self.old) }
     {
         if !line.ended {
             return Err(LineFault::Cut);
@@ -358,6 +367,27 @@ impl Course {
             return Err(self.form_fault(targets));
         };
         self.step(scratch, tables, targets, &item)
+    }
+
+    /// Returns what the next line must be.
+    pub(crate) fn due<'s>(&'s self, targets: &'s [Target<'s>]) -> Due<'s>
+        requires { IsConsistent targets.now self.now }
+        ensures { IsDue (goals targets.now self.now) result }
+    {
+        match &self.stage {
+            Stage::Header => Due::Header,
+            Stage::Ended => Due::Nothing,
+            Stage::Between => match targets.get(self.current) {
+                Some(target) => Due::Target(target),
+                None => Due::End,
+            },
+            Stage::Tree(here) => Due::Tree {
+                version: self.version,
+                target: &targets[self.current],
+                region: &here.region,
+                depth: here.depth,
+            },
+        }
     }
 
     /// What is answered at the text's end, behind the line of this number.
@@ -395,6 +425,7 @@ fn split_waiting(
         active) }
     ensures bounds { OnOk result ((here.old.depth < 512) × (made < 1000000)) }
     ensures inside { OnOk result (IsStrictlyInside here.old.region (axis_index axis) at) }
+    ensures same { OnErr result (here.new ≡ here.old) }
 {
     if made >= LINES {
         return Err(LineFault::LineCount);

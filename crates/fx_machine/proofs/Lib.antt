@@ -1,8 +1,10 @@
 pub mod Lists
 pub mod RecordsTakenIn
+pub mod KeysHeld
 pub mod MeteringActs
 pub mod Crossings
 pub mod StepOutcomes
+pub mod StepEffects
 pub mod StepsAreMoves
 pub mod RunsAreMoves
 pub mod TallyCounts

@@ -22,7 +22,7 @@ use Rattle.fx_machine.proofs.Crossings.{crossing_goes, crossing_none}
 
 -- ---- records sent
 
-abbrev with_links : State → Record → List ℕ → State
+abbrev pub with_links : State → Record → List ℕ → State
 with_links s r links = record s { carried = put_all links r s.carried }
 
 put_all_append : (xs ys : List ℕ) (r : Record) (rss : List (List Record)) → put_all ys r (put_all xs r rss) ≡ put_all (xs ++ ys) r rss
@@ -226,7 +226,7 @@ out_all : (links : List ℕ) (rss : List (List Record)) (k n : ℕ) (x r : Recor
 out_all [] rss k n x r h = refl
 out_all (l ∷ ls) rss k n x r h = ap (put_all ls r) (out_put rss k n l x r h) ∙ out_all ls (put_last rss l r) k n x r (still_there rss k n l x r h)
 
-abbrev summed : Net → Bool → Key → Counts → State → State
+abbrev pub summed : Net → Bool → Key → Counts → State → State
 summed net t key counts s = record s {
   totals = totals_when t net.report_layout key counts s.totals;
   unassigned = unassigned_when t net.report_layout key s.unassigned;
@@ -240,7 +240,7 @@ summed_is net true key counts s =
     ]
 summed_is net false key counts s = refl
 
-abbrev arrived_out : Net → State → Record → List Holding → Option Chosen → Outcome
+abbrev pub arrived_out : Net → State → Record → List Holding → Option Chosen → Outcome
 arrived_out net t r hs None = Err 852
 arrived_out net t r hs (Some c) = held_out (with_links t r c.links) (hold_all r.counts hs t.held c.rest)
 
@@ -253,7 +253,7 @@ module _ (net : Net) (s : State) (r : Record) (hs : List Holding) (choices : Cho
   sent_arrived t None = refl
   sent_arrived t (Some c) = holds_are net r.counts hs (with_links t r c.links) t.held c.rest
 
-  handled : (t : Bool) (places : List ℕ) → act_all net r.counts (handling_acts net r.key t places hs) (Some (record { state = s; choices = choices })) ≡ arrived_out net (summed net t r.key r.counts s) r hs (chosen_from [] (at_places net.exporters places) choices)
+  pub handled : (t : Bool) (places : List ℕ) → act_all net r.counts (handling_acts net r.key t places hs) (Some (record { state = s; choices = choices })) ≡ arrived_out net (summed net t r.key r.counts s) r hs (chosen_from [] (at_places net.exporters places) choices)
   handled t places =
       let then = sends net r.key places ++ map hold_act hs in
       let es = at_places net.exporters places in

@@ -26,3 +26,4 @@ pub mod Comings
 pub mod MarkLists
 pub mod Tallies
 pub mod Stores
+pub mod Effects

@@ -3,6 +3,7 @@
 #![tactic(auto)]
 
 mod coming;
+mod effects;
 mod handling;
 mod holding;
 mod intake;
@@ -12,7 +13,9 @@ mod sending;
 mod state;
 mod store;
 mod tallying;
+mod watch;
 
+pub use effects::{Effects, StepActs, TakenIn, Tally};
 pub use fx_run_text::{
     Choices, Run, RunLine, Step, TextVersion, put_packet_line, put_step_line, read_run,
     read_run_line, run_lines_have_one_text, run_texts,
@@ -25,3 +28,4 @@ pub use laws::{
     choices_are_free, complete_runs_exist, six_axes_suffice, unnamed_axes_mean_nothing,
 };
 pub use state::State;
+pub use watch::{StepWatch, Unwatched};

@@ -1,9 +1,10 @@
 //! Lists of flow records.
-ghost use Rattle.std.specs.Prelude.{◌≡◌, ◌++◌, ◌-◌, ◌==◌, [], ◌∷◌, length, take, OnOk, OnErr};
+ghost use Rattle.std.specs.Prelude.{◌≡◌, ◌++◌, ◌-◌, ◌==◌, [], ◌∷◌, length, take, OnOk, OnErr, slice_get};
 ghost use Rattle.fx_base.specs.Entries.{now_of, entry_numbered};
 ghost use Rattle.fx_machine.specs.States as states;
+ghost use Rattle.fx_tables.specs.Network.{entries};
 
-use fx_base::entry_numbered;
+use fx_base::{entry_at, entry_numbered};
 use fx_tables::Record;
 use std::alloc::{AllocError, Global};
 use std::marker::Model;
@@ -85,5 +86,15 @@ impl Records {
             let place = (number - 1) as usize;
             self.items.remove(place);
         }
+    }
+}
+
+/// Returns the records of the list at this place, from 0, and none where there is no such list.
+pub fn records_at(lists: &[Records], place: usize) -> &[Record]
+    ensures { result.now ≡ entries (slice_get lists.now place) }
+{
+    match entry_at(lists, place) {
+        None => &[],
+        Some(records) => records.as_slice(),
     }
 }

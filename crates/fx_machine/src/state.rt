@@ -1,16 +1,20 @@
 //! The state of a run.
-ghost use Rattle.std.specs.Prelude.{◌≡◌, ◌⊎◌, ◌↔◌, [], All, Ok, Err, OnOk, OnErr, IfOk, IfErr, IsTrue};
+ghost use Rattle.std.specs.Prelude.{◌≡◌, ◌⊎◌, ◌↔◌, [], All, Ok, Err, Some, OnOk, OnErr, IfOk, IfErr, IsTrue, is_some, length, slice_get};
+ghost use Rattle.fx_base.specs.Entries.{now_of, entry_numbered};
 ghost use Rattle.fx_base.specs.Fault.{fault_at, IsMemory};
 ghost use Rattle.fx_base.specs.declared.fault.Place.TheVariants as faults;
 ghost use Rattle.fx_base.specs.Refusals.{run_packet, want_of_memory};
 ghost use Rattle.fx_tables.specs.Classes as traffic;
 ghost use Rattle.fx_tables.specs.Network as network;
+ghost use Rattle.fx_machine.specs.Effects as effects;
 ghost use Rattle.fx_machine.specs.States as states;
 ghost use Rattle.fx_machine.specs.Steps as steps;
 ghost use Rattle.fx_tables.specs.declared.packet.Packet as of_packet;
 
+use crate::effects::{Effects, StepActs, step_acts, step_effects};
+use crate::records::records_at;
 use crate::store::Store;
-use fx_base::{Fault, refusals};
+use fx_base::{Fault, entry_numbered, refusals};
 use fx_run_text::Step;
 use fx_tables::{Classes, Net, Packet, Record};
 use std::alloc::Global;
@@ -133,6 +137,107 @@ impl<'a> State<'a> {
         ensures { result.now ≡ self.now.net }
     {
         self.net
+    }
+
+    /// Returns the classes of its packets.
+    pub fn classes(&self) -> &Classes
+        ensures { result.now ≡ self.now.classes }
+    {
+        self.classes
+    }
+
+    /// Returns its packets.
+    pub fn packets(&self) -> &[Packet]
+        ensures { result.now ≡ self.now.packets }
+    {
+        self.packets.as_slice()
+    }
+
+    /// Whether a crossing of a packet is to come, by their numbers, from 1.
+    pub fn is_to_come(&self, packet: u64, crossing: u64) -> bool
+        ensures { result ≡ is_some (steps.place self.now.state.coming packet crossing) }
+    {
+        self.store.is_to_come(packet, crossing)
+    }
+
+    /// Returns how many records are held at a place of the network's table of holders, from 0.
+    pub fn records_held(&self, place: usize) -> u64
+        ensures { result ≡ length (network.entries (slice_get self.now.state.held place)) }
+    {
+        records_at(self.store.held(), place).len() as u64
+    }
+
+    /// Returns the record at a position, from 1, of a place of the network's table of holders, from 0.
+    pub fn record_held(&self, place: usize, position: u64) -> Option<&Record>
+        ensures { now_of result ≡ entry_numbered
+            (network.entries (slice_get self.now.state.held place)) position }
+    {
+        entry_numbered(records_at(self.store.held(), place), position)
+    }
+
+    /// Returns how many records are on the link at this place, from 0.
+    pub fn records_on(&self, link: usize) -> u64
+        ensures { result ≡ length (network.entries (slice_get self.now.state.carried link)) }
+    {
+        records_at(self.store.carried(), link).len() as u64
+    }
+
+    /// Returns the record at a position, from 1, of the link at this place, from 0.
+    pub fn record_on(&self, link: usize, position: u64) -> Option<&Record>
+        ensures { now_of result ≡ entry_numbered
+            (network.entries (slice_get self.now.state.carried link)) position }
+    {
+        entry_numbered(records_at(self.store.carried(), link), position)
+    }
+
+    /// Returns what a step asks for before its choices.
+    ///
+    /// Fails as [`State::step`] does, but not with 852: that is for the choices, at which this doesn't look.
+    pub fn acts(&self, step: &Step) -> Result<StepActs<'a>, Fault>
+        ensures ok { IfOk result (λ a. (s : states.State)
+            → self.now.state ≡ states.told_state s
+            → effects.IsHandled self.now.net self.now.classes self.now.packets step.now s a.tally
+            a.exporters.now a.holdings.items) }
+        ensures err { IfErr result (λ e. (e.place ≡ faults.None)
+            × ((e.number ≡ want_of_memory) ⊎ ((s : states.State)
+            → self.now.state ≡ states.told_state s
+            → steps.after self.now.net self.now.classes self.now.packets step.now s
+            ≡ Err e.number))) }
+    {
+        step_acts(
+            self.alloc,
+            self.net,
+            self.classes,
+            self.packets.as_slice(),
+            &self.store,
+            step,
+        )
+    }
+
+    /// Returns what a step would do beside taking its crossing or its record from where that is.
+    ///
+    /// Fails as [`State::step`] does, at no place, with 851, 853, 852 and 900.
+    pub fn effects(&self, step: &Step) -> Result<Effects, Fault>
+        ensures ok { IfOk result (λ e. (s : states.State)
+            → self.now.state ≡ states.told_state s
+            → ((next : states.State)
+            × (steps.after self.now.net self.now.classes self.now.packets step.now s ≡ Ok next))
+            × (effects.effects_of self.now.net self.now.classes self.now.packets step.now s
+            ≡ Some e)) }
+        ensures err { IfErr result (λ e. (e.place ≡ faults.None)
+            × ((e.number ≡ want_of_memory) ⊎ ((s : states.State)
+            → self.now.state ≡ states.told_state s
+            → steps.after self.now.net self.now.classes self.now.packets step.now s
+            ≡ Err e.number))) }
+    {
+        step_effects(
+            self.alloc,
+            self.net,
+            self.classes,
+            self.packets.as_slice(),
+            &self.store,
+            step,
+        )
     }
 
     /// Makes a step, with the choices that are written in it.

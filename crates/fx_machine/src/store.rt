@@ -1,5 +1,5 @@
 //! What a network holds.
-ghost use Rattle.std.specs.Prelude.{◌≡◌, ◌⊎◌, ◌&&◌, [], Ok, Err, OnOk, OnErr, IfOk, IfErr, map, replicate, IsTrue, ◌↔◌};
+ghost use Rattle.std.specs.Prelude.{◌≡◌, ◌⊎◌, ◌&&◌, [], Ok, Err, OnOk, OnErr, IfOk, IfErr, map, replicate, is_some, IsTrue, ◌↔◌};
 ghost use Rattle.fx_base.specs.declared.fault.Place.TheVariants as faults;
 ghost use Rattle.fx_base.specs.Refusals.{want_of_memory};
 ghost use Rattle.fx_machine.specs.Comings as comings;
@@ -101,7 +101,7 @@ fn all_to_come(
 }
 
 /// The place of the link of this number, from 1.
-fn link_place(link: u64) -> Option<usize>
+pub fn link_place(link: u64) -> Option<usize>
     ensures { result ≡ steps.link_place link }
 {
     if link == 0 {
@@ -184,6 +184,27 @@ impl Store {
         ensures { result ≡ self.now.unassigned }
     {
         self.unassigned
+    }
+
+    /// Whether a crossing of a packet is to come, by their numbers, from 1.
+    pub fn is_to_come(&self, packet: u64, crossing: u64) -> bool
+        ensures { result ≡ is_some (steps.place self.now.coming packet crossing) }
+    {
+        is_to_come(self.to_come.as_slice(), packet, crossing)
+    }
+
+    /// Returns the records of each holder.
+    pub fn held(&self) -> &[Records]
+        ensures { result.now ≡ self.now.held }
+    {
+        self.held.as_slice()
+    }
+
+    /// Returns the records on each link.
+    pub fn carried(&self) -> &[Records]
+        ensures { result.now ≡ self.now.carried }
+    {
+        self.carried.as_slice()
     }
 
     /// A packet makes a crossing, and the caches there meter it.

@@ -48,6 +48,7 @@ pub struct Capture<R: Source> {
     place: u64,
     taken: usize,
     skipped: Skipped,
+    packets: u64,
     fields: Fields,
     octets: u32,
     second: u32,
@@ -106,6 +107,7 @@ impl<R: Source> Capture<R> {
                 other: 0,
                 malformed: 0,
             },
+            packets: 0,
             fields: Fields::of([0; AXES]),
             octets: 0,
             second: 0,
@@ -132,6 +134,7 @@ impl<R: Source> Capture<R> {
             Content::Packet(fields, octets) => {
                 self.fields = fields;
                 self.octets = octets;
+                self.packets = self.packets.wrapping_add(1);
                 return Ok(RecordKind::Frame);
             }
             Content::Other => self.skipped.other = self.skipped.other.wrapping_add(1),
@@ -189,6 +192,11 @@ impl<R: Source> Capture<R> {
             octets: self.octets,
             second: self.second,
         }
+    }
+
+    /// Returns how many frames it has lent, modulo 2 to the 64.
+    pub fn packets(&self) -> u64 {
+        self.packets
     }
 
     /// How many frames were passed over so far.

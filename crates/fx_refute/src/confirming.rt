@@ -13,10 +13,10 @@ ghost use Rattle.fx_refute.specs.Confirming as confirming;
 ghost use Rattle.fx_refute.specs.Refutations as refutations;
 
 use crate::refutation::Refutation;
-use fx_base::{Counts, Fault, refusals};
+use fx_base::{Counts, Fault, Place, entry_at, refusals};
 use fx_collect::Totals;
 use fx_layout::{Key, Layout, Seed};
-use fx_machine::State;
+use fx_machine::{State, StepWatch, Unwatched};
 use fx_plan::Plan;
 use fx_run_text::Step;
 use fx_tables::{Classes, Net, Packet, Record};
@@ -118,8 +118,8 @@ fn agree(ran: &Totals, plain: &Totals, key: &Key) -> bool
     ran.unassigned() == 0 && ran.len() == plain.len() && ran.get(key) == plain.get(key)
 }
 
-/// Whether the run of a refutation's packet alone, in the state that opens it, refutes. The state is lent, so that no
-/// way out of here lets it go.
+/// Whether the run of a refutation's packet alone, in the state that opens it, refutes. The state is
+/// the caller's, so that no error path drops it.
 fn confirm_run(
     alloc: Global,
     state: &mut State<'_>,
@@ -155,12 +155,36 @@ fn confirm_run(
     Ok((ran, plain))
 }
 
+/// Shows an observer the state in which a refutation's run stops for this fault, if it stops at a step that is
+/// refused, or after the last step.
+fn show_stop<W: StepWatch>(
+    state: &State<'_>,
+    refutation: &Refutation,
+    fault: &Fault,
+    watch: &mut W,
+) {
+    match (fault.number, &fault.place) {
+        (refusals::REFUTATION_STEP, Place::Line(line)) => {
+            let place = line.saturating_sub(3);
+            if let Some(step) = entry_at(refutation.steps(), place as usize) {
+                // The refusal of the step itself: `step` leaves the state as it was.
+                if let Err(why) = state.effects(step) {
+                    watch.on_refused_step(state, step, place.saturating_add(1), &why);
+                }
+            }
+        }
+        (refusals::RUN_NOT_COMPLETE | refusals::TOTALS_AGREE, _) => watch.on_last_state(state),
+        _ => {}
+    }
+}
+
 /// Whether a run of one packet refutes, over the tables of a network.
-fn confirm_over(
+fn confirm_over<W: StepWatch>(
     alloc: Global,
     net: &Net,
     classes: &Classes,
     refutation: &Refutation,
+    watch: &mut W,
 ) -> Result<(Totals, Totals), Fault>
     ensures refutes { OnOk result (refutations.Refutes net.now classes.now refutation.now) }
     ensures totals { IfOk result (λ t.
@@ -169,7 +193,13 @@ fn confirm_over(
         ⊎ refutations.IsNoRefutation net.now classes.now refutation.now e) }
 {
     let mut state = open(alloc, net, classes, refutation.packet())?;
-    confirm_run(alloc, &mut state, net, classes, refutation)
+    match confirm_run(alloc, &mut state, net, classes, refutation) {
+        Ok(totals) => Ok(totals),
+        Err(fault) => {
+            show_stop(&state, refutation, &fault, watch);
+            Err(fault)
+        }
+    }
 }
 
 /// Whether a run of one packet refutes that each packet is counted exactly once: its totals, and the plain sums over
@@ -177,7 +207,7 @@ fn confirm_over(
 ///
 /// Fails with the first of: 502, at line 2, where the packet isn't of its class; 503, at the step's number plus 2,
 /// where a step isn't enabled; 504, at no place, where the run isn't complete; 505, at no place, where its totals are
-/// the plain sums and nothing is unassigned; and with 900, at no place, for want of memory.
+/// the plain sums and nothing is unassigned; and with 900, at no place, if out of memory.
 pub fn confirm(
     alloc: Global,
     plan: &Plan,
@@ -191,5 +221,24 @@ pub fn confirm(
     ensures err { IfErr result (λ e. IsMemory e
         ⊎ refutations.IsNoRefutation (net_of plan.now) traffic.now refutation.now e) }
 {
-    confirm_over(alloc, plan.net(), traffic.classes(), refutation)
+    confirm_watched(alloc, plan, traffic, refutation, &mut Unwatched)
+}
+
+/// Returns what [`confirm`] does, and shows an observer the state before a step that is refused (503), or the
+/// one after the last step (504, 505).
+pub fn confirm_watched<W: StepWatch>(
+    alloc: Global,
+    plan: &Plan,
+    traffic: &Traffic,
+    refutation: &Refutation,
+    watch: &mut W,
+) -> Result<(Totals, Totals), Fault>
+    ensures refutes { OnOk result (refutations.Refutes
+        (net_of plan.now) traffic.now refutation.now) }
+    ensures totals { IfOk result (λ t.
+        refutations.AreTotals (net_of plan.now) traffic.now refutation.now t.0 t.1) }
+    ensures err { IfErr result (λ e. IsMemory e
+        ⊎ refutations.IsNoRefutation (net_of plan.now) traffic.now refutation.now e) }
+{
+    confirm_over(alloc, plan.net(), traffic.classes(), refutation, watch)
 }

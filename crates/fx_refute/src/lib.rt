@@ -7,7 +7,7 @@ mod put;
 mod reading;
 mod refutation;
 
-pub use confirming::confirm;
+pub use confirming::{confirm, confirm_watched};
 pub use laws::{refutations_have_one_text, refutations_refute};
 pub use put::put_refutation;
 pub use reading::read_refutation;

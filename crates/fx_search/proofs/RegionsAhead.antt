@@ -14,6 +14,7 @@ use Rattle.fx_leaf.proofs.JoinedVerdicts.{drop_here}
 use Rattle.fx_leaf.proofs.Trees.{map_append'}
 use Rattle.fx_traffic.specs.Targets.{Target}
 use Rattle.fx_search.specs.declared.growing.Waiting.{Waiting}
+use Rattle.fx_search.specs.declared.stop.Stop.{Stop}
 use Rattle.fx_search.specs.Fronts.{RegionAhead, lower, root, upper}
 use Rattle.fx_search.specs.Growing.{AllOf, AreAhead, IsGrowing, IsGrown, front}
 
@@ -82,6 +83,6 @@ pub none_of : {A : Type 0} (o : Option A) → is_some o ≡ false → o ≡ None
 none_of None h = refl
 none_of (Some x) h = absurd cc
 
-pub some_grown : (net : Net) (all : List Target) (version : Version) (most : ℕ) (items : List Item) (lines : ℕ) (later : List RegionAhead) (o : Option RegionAhead) → is_some o ≡ true → IsGrown net all version most items lines later o → IsGrown net all version most items lines [] o
+pub some_grown : (net : Net) (all : List Target) (version : Version) (most : ℕ) (items : List Item) (lines : ℕ) (later : List RegionAhead) (o : Option Stop) → is_some o ≡ true → IsGrown net all version most items lines later o → IsGrown net all version most items lines [] o
 some_grown net all version most items lines later None h g = absurd cc
 some_grown net all version most items lines later (Some a) h g = g

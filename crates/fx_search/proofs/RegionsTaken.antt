@@ -1,9 +1,6 @@
 -- What a search does about a region, by what is said of it.
-use Rattle.std.proofs.Common.{◌≡◌, ◌≢◌, ◌⊎◌, inl, inr, ℕ, ◌+◌, ◌<◌, ◌≤◌, Bool, true, false, List, [], ◌∷◌, ◌++◌, map, suc, refl, sym, ap, subst, ◌∙◌, arith, Some, None}
+use Rattle.std.proofs.Common.{◌≡◌, ◌≢◌, inl, inr, ℕ, ◌+◌, ◌<◌, ◌≤◌, Bool, true, false, List, [], ◌∷◌, ◌++◌, map, suc, refl, sym, ap, subst, ◌∙◌, arith, Some, None}
 use Rattle.std.specs.List.{AllByRecursion}
-use Rattle.fx_base.specs.declared.fault.Fault.{Fault}
-use Rattle.fx_base.specs.declared.fault.Place.TheVariants as places
-use Rattle.fx_base.specs.Fault.{fault_at}
 use Rattle.fx_boxes.specs.Boxes.{Bounds, IsRegion, holds}
 use Rattle.fx_boxes.proofs.Holding.{holds_if}
 use Rattle.fx_cert.specs.declared.item.Item.{Item}
@@ -22,11 +19,12 @@ use Rattle.fx_leaf.specs.SoundLeaves.{SoundLeaf, SoundNever}
 use Rattle.fx_traffic.specs.Targets.{Target}
 use Rattle.fx_check.specs.Certificates.{IsWritable}
 use Rattle.fx_check.specs.FirstRefusal.{depth_limit}
-use Rattle.fx_search.specs.Fronts.{RegionAhead, SearchFront, HasLeaf, lower, upper, root}
+use Rattle.fx_search.specs.Fronts.{RegionAhead, SearchFront, HasLeaf, IsTooLargeAt, lower, upper, root}
 use Rattle.fx_search.specs.Fronts.SearchFront.{begins, leaf, split}
 use Rattle.fx_search.specs.Fronts.HasLeaf.{counted, never}
-use Rattle.fx_search.specs.Fronts.IsTooLarge.{lines as too_many, depth as too_deep}
-use Rattle.fx_search.specs.Growing.{IsGivenUp, IsGrowing, IsWrongAt, leaf_item, opening_items}
+use Rattle.fx_search.specs.Fronts.IsTooLargeAt.{at_lines as too_many, at_depth as too_deep}
+use Rattle.fx_search.specs.declared.outcome.Limit.TheVariants as limits
+use Rattle.fx_search.specs.Growing.{IsGrowing, IsWrongAt, leaf_item, opening_items}
 use Rattle.fx_search.proofs.GrowingCertificate.{leaf_begun, never_begun, split_begun}
 
 abbrev IsShallowEnough : RegionAhead → Type 0
@@ -95,12 +93,17 @@ module _ (net : Net) (targets : List Target) (version : Version) (most : ℕ) (i
 
   -- ---- no line
 
-  pub cut_given_up : (axis : Axis) (at : ℕ) (e : Fault) → IsJudged net a.target.crossings a.region (judged.Cut axis at) → ((most ≤ lines) ⊎ (depth_limit ≤ a.depth)) → e ≡ fault_at 601 places.None → IsGivenUp net targets most e
-  cut_given_up axis at e is (inl le) same = inr (same, too_many a as' (let n : lines ≡ most = omega (arith, le, g.few) in subst (SearchFront net targets (a ∷ as')) n g.front) (inl is.0))
-  cut_given_up axis at e is (inr le) same = let h = all_shallow net targets (a ∷ as') lines g.front in inr (same, too_deep a as' lines g.front (omega (arith, le, h.0)) is.0)
+  at_most : most ≤ lines → SearchFront net targets (a ∷ as') most
+  at_most le = let n : lines ≡ most = omega (arith, le, g.few) in subst (SearchFront net targets (a ∷ as')) n g.front
 
-  pub leaf_given_up : (j : Judgement) (i : Item) (e : Fault) → IsJudged net a.target.crossings a.region j → leaf_item j a.target.exempt ≡ Some i → most ≤ lines → e ≡ fault_at 601 places.None → IsGivenUp net targets most e
-  leaf_given_up j i e is named le same = inr (same, too_many a as' (let n : lines ≡ most = omega (arith, le, g.few) in subst (SearchFront net targets (a ∷ as')) n g.front) (inr (go j is a.target.exempt refl named))) where
+  pub cut_too_long : (axis : Axis) (at : ℕ) → IsJudged net a.target.crossings a.region (judged.Cut axis at) → most ≤ lines → IsTooLargeAt net targets most a limits.Lines
+  cut_too_long axis at is le = too_many as' (at_most le) (inl is.0)
+
+  pub cut_too_deep : (axis : Axis) (at : ℕ) → IsJudged net a.target.crossings a.region (judged.Cut axis at) → depth_limit ≤ a.depth → IsTooLargeAt net targets most a limits.Depth
+  cut_too_deep axis at is le = let h = all_shallow net targets (a ∷ as') lines g.front in too_deep as' lines g.front (omega (arith, le, h.0)) is.0
+
+  pub leaf_too_long : (j : Judgement) (i : Item) → IsJudged net a.target.crossings a.region j → leaf_item j a.target.exempt ≡ Some i → most ≤ lines → IsTooLargeAt net targets most a limits.Lines
+  leaf_too_long j i is named le = too_many as' (at_most le) (inr (go j is a.target.exempt refl named)) where
     go : (k : Judgement) → IsJudged net a.target.crossings a.region k → (exempt : Bool) → a.target.exempt ≡ exempt → leaf_item k exempt ≡ Some i → HasLeaf net a
     go (judged.Cut axis at) k exempt wants e = absurd cc
     go (judged.Once c) k true wants e = absurd cc

@@ -11,6 +11,8 @@ use Rattle.fx_leaf.specs.Splits.{IsSplit}
 use Rattle.fx_traffic.specs.Targets.{Target}
 use Rattle.fx_check.specs.FirstRefusal.{line_limit, depth_limit}
 use Rattle.fx_steps.specs.WrongRun.{HasNoRun}
+use Rattle.fx_search.specs.declared.outcome.Limit.{Limit}
+use Rattle.fx_search.specs.declared.outcome.Limit.TheVariants as limits
 
 -- ---- fronts
 
@@ -59,3 +61,9 @@ pub data IsTooLarge (net : Net) (targets : List Target) (most : ℕ) : Type 0 wh
   depth : (a : RegionAhead) (rest : List RegionAhead) (n : ℕ) → SearchFront net targets (a ∷ rest) n → a.depth ≡ depth_limit → IsCut net a → IsTooLarge net targets most
   -- nothing cuts the region, and its least packet hasn't the fate that the class wants, but no run that shows it is short enough
   steps : (a : RegionAhead) (rest : List RegionAhead) (n : ℕ) → SearchFront net targets (a ∷ rest) n → NothingCuts net a.target.crossings a.region → packet_fate net a.region.low a.target.crossings ≢ wanted_fate a.target.exempt → HasNoRun net a.region.low a.target.crossings a.target.exempt → IsTooLarge net targets most
+
+-- so it is at this region, by this limit
+pub data IsTooLargeAt (net : Net) (targets : List Target) (most : ℕ) (a : RegionAhead) : Limit → Type 0 where
+  at_lines : (rest : List RegionAhead) → SearchFront net targets (a ∷ rest) most → IsCut net a ⊎ HasLeaf net a → IsTooLargeAt net targets most a limits.Lines
+  at_depth : (rest : List RegionAhead) (n : ℕ) → SearchFront net targets (a ∷ rest) n → a.depth ≡ depth_limit → IsCut net a → IsTooLargeAt net targets most a limits.Depth
+  at_steps : (rest : List RegionAhead) (n : ℕ) → SearchFront net targets (a ∷ rest) n → NothingCuts net a.target.crossings a.region → packet_fate net a.region.low a.target.crossings ≢ wanted_fate a.target.exempt → HasNoRun net a.region.low a.target.crossings a.target.exempt → IsTooLargeAt net targets most a limits.Steps

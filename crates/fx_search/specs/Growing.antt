@@ -1,5 +1,5 @@
 -- How a certificate grows as a search goes on.
-use Rattle.std.specs.Prelude.{◌≡◌, ◌≢◌, ◌⊎◌, ◌≤◌, ℕ, ◌+◌, ◌==◌, Bool, true, false, List, [], ◌∷◌, ◌++◌, map, reverse, Option, Some, None, if◌then◌else◌}
+use Rattle.std.specs.Prelude.{◌≡◌, ◌≢◌, ◌⊎◌, ◌≤◌, ℕ, ◌+◌, ◌==◌, Bool, List, [], ◌∷◌, ◌++◌, map, reverse, Option, Some, None, if◌then◌else◌}
 use Rattle.std.specs.List.{AllByRecursion}
 use Rattle.fx_base.specs.declared.fault.Fault.{Fault}
 use Rattle.fx_base.specs.declared.fault.Place.TheVariants as places
@@ -18,13 +18,17 @@ use Rattle.fx_leaf.specs.declared.judgement.Judgement.TheVariants as judged
 use Rattle.fx_leaf.specs.Answers.{NothingCuts}
 use Rattle.fx_leaf.specs.Certificates.{Tree, SoundTree}
 use Rattle.fx_leaf.specs.Fates.{packet_fate, wanted_fate}
+use Rattle.fx_leaf.specs.Judgements.{IsJudged}
 use Rattle.fx_leaf.specs.PathSelections.{AreNarrowed, PathSelection}
 use Rattle.fx_traffic.specs.Targets.{Target}
 use Rattle.fx_check.specs.Certificates.{IsShallow, IsWritable, size, tree_items}
 use Rattle.fx_check.specs.FirstRefusal.{depth_limit}
 use Rattle.fx_search.specs.declared.growing.Waiting.{Waiting}
 use Rattle.fx_search.specs.Found.{AtBounds}
-use Rattle.fx_search.specs.Fronts.{RegionAhead, SearchFront, IsTooLarge, root}
+use Rattle.fx_search.specs.declared.stop.Stop.{Stop}
+use Rattle.fx_search.specs.declared.stop.Why.{Why}
+use Rattle.fx_search.specs.declared.stop.Why.TheVariants as why
+use Rattle.fx_search.specs.Fronts.{RegionAhead, SearchFront, IsTooLarge, IsTooLargeAt, root}
 
 -- before the tree of a whole target comes the target's line
 abbrev pub opening_items : RegionAhead → List Item
@@ -73,25 +77,34 @@ pub record AreAhead (selections : List PathSelection) (target : Target) (waiting
 abbrev pub IsWrongAt : Net → RegionAhead → Type 0
 IsWrongAt net a = NothingCuts net a.target.crossings a.region × (packet_fate net a.region.low a.target.crossings ≢ wanted_fate a.target.exempt)
 
--- a region was gone past by a line more, or its packets haven't the fate that is wanted
-abbrev pub IsTaken : Net → List Target → Version → ℕ → List Item → ℕ → List RegionAhead → RegionAhead → Bool → Type 0
-IsTaken net targets version most items lines ahead a true = IsGrowing net targets version most items lines ahead
-IsTaken net targets version most items lines ahead a false = IsWrongAt net a
-
--- a search ends with nothing ahead but this, or at the first region where packets do not have the fate that is wanted
-abbrev pub IsGrown : Net → List Target → Version → ℕ → List Item → ℕ → List RegionAhead → Option RegionAhead → Type 0
-IsGrown net targets version most items lines later None = IsGrowing net targets version most items lines later
-IsGrown net targets version most items lines later (Some a) = IsWrongAt net a × ((rest : List RegionAhead) × (n : ℕ) × SearchFront net targets (a ∷ rest) n)
-
--- for want of memory, or since what is needed is too large
-abbrev pub IsGivenUp : Net → List Target → ℕ → Fault → Type 0
-IsGivenUp net targets most e = (e ≡ fault_at want_of_memory places.None) ⊎ ((e ≡ fault_at search_too_large places.None) × IsTooLarge net targets most)
-
 -- the leaf that is sound for a region, by what is said of it, if it is of the kind that is wanted
 abbrev pub leaf_item : Judgement → Bool → Option Item
 leaf_item (judged.Once c) exempt = if exempt then None else Some (item.Leaf c.crossing c.point c.process)
 leaf_item judged.Never exempt = if exempt then Some item.Never else None
 leaf_item _ exempt = None
+
+-- nothing cuts the region, all its packets have the fate that is said of them, and it isn't the wanted one
+abbrev pub IsUnwantedAt : Net → RegionAhead → Judgement → Type 0
+IsUnwantedAt net a j = IsWrongAt net a × IsJudged net a.target.crossings a.region j × (leaf_item j a.target.exempt ≡ None)
+
+-- a search stops at a region that is ahead, for this reason
+abbrev pub IsStoppedAt : Net → List Target → ℕ → RegionAhead → Why → Type 0
+IsStoppedAt net targets most a (why.Wrong j) = IsUnwantedAt net a j × ((rest : List RegionAhead) × (n : ℕ) × SearchFront net targets (a ∷ rest) n)
+IsStoppedAt net targets most a (why.TooLarge limit) = IsTooLargeAt net targets most a limit
+
+-- a region was gone past by a line more, or the search stops there
+abbrev pub IsTaken : Net → List Target → Version → ℕ → List Item → ℕ → List RegionAhead → RegionAhead → Option Why → Type 0
+IsTaken net targets version most items lines ahead a None = IsGrowing net targets version most items lines ahead
+IsTaken net targets version most items lines ahead a (Some w) = IsStoppedAt net targets most a w
+
+-- a search ends with nothing ahead but this, or stops at a region
+abbrev pub IsGrown : Net → List Target → Version → ℕ → List Item → ℕ → List RegionAhead → Option Stop → Type 0
+IsGrown net targets version most items lines later None = IsGrowing net targets version most items lines later
+IsGrown net targets version most items lines later (Some s) = IsStoppedAt net targets most s.ahead s.why
+
+-- for want of memory, or since what is needed is too large
+abbrev pub IsGivenUp : Net → List Target → ℕ → Fault → Type 0
+IsGivenUp net targets most e = (e ≡ fault_at want_of_memory places.None) ⊎ ((e ≡ fault_at search_too_large places.None) × IsTooLarge net targets most)
 
 -- a region's least packet
 abbrev pub least_packet : RegionAhead → Packet

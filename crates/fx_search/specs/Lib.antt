@@ -1,3 +1,4 @@
 pub mod Fronts
 pub mod Found
 pub mod Growing
+pub mod Outcomes

@@ -17,11 +17,13 @@ ghost use Rattle.fx_check.specs.FirstRefusal.{depth_limit, line_limit};
 ghost use Rattle.fx_search.specs.Fronts.{lower, upper, root};
 ghost use Rattle.fx_search.specs.Growing.{least_packet, opening_items};
 
+use crate::outcome::{Limit, ReachedLimit, RefutedRegion};
 use fx_base::Fault;
 use fx_boxes::Region;
 use fx_cert::{Item, Version};
 use fx_elements::Axis;
 use fx_leaf::{CutBounds, Judgement, PathScratch, Tables};
+use fx_refute::Refutation;
 use fx_tables::Packet;
 use fx_traffic::Target;
 use std::alloc::{AllocError, Global};
@@ -139,6 +141,44 @@ impl<'a> Ahead<'a> {
             octets: 1,
             class: target.class,
             path: target.path,
+        }
+    }
+
+    /// A run that refutes by its least packet, with what is to be said of all packets of the region.
+    pub(crate) fn refuted(&self, refutation: Refutation, judgement: Judgement) -> RefutedRegion
+        ensures { result ≡ record {
+          refutation = refutation;
+          class = self.now.target.class;
+          path = self.now.target.path;
+          region = self.now.region;
+          judgement = judgement;
+        } }
+    {
+        let target = self.target;
+        RefutedRegion {
+            refutation,
+            class: target.class,
+            path: target.path,
+            region: self.region,
+            judgement,
+        }
+    }
+
+    /// A limit that is reached there.
+    pub(crate) fn reached(&self, limit: Limit) -> ReachedLimit
+        ensures { result ≡ record {
+          limit = limit;
+          class = self.now.target.class;
+          path = self.now.target.path;
+          region = self.now.region;
+        } }
+    {
+        let target = self.target;
+        ReachedLimit {
+            limit,
+            class: target.class,
+            path: target.path,
+            region: self.region,
         }
     }
 }

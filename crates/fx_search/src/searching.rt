@@ -14,15 +14,16 @@ ghost use Rattle.fx_cert.specs.declared.item.Version.{Version};
 ghost use Rattle.fx_traffic.specs.Targets.{Target as OfTarget, targets_of};
 ghost use Rattle.fx_search.specs.Found as found;
 ghost use Rattle.fx_search.specs.Fronts as fronts;
-ghost use Rattle.fx_search.specs.Growing.{leaf_item, least_packet, front, AreAhead, IsGrowing, IsGrown, IsTaken, IsGivenUp, Lies};
-ghost use Rattle.fx_tables.specs.Classes.{IsOf, path, exempts, Class as OfClass};
+ghost use Rattle.fx_search.specs.Growing.{leaf_item, front, AreAhead, IsGrowing, IsGrown, IsTaken, IsStoppedAt, IsGivenUp};
+ghost use Rattle.fx_search.specs.Outcomes as outcomes;
+ghost use Rattle.fx_search.specs.declared.stop.Why.TheVariants as why;
+ghost use Rattle.fx_tables.specs.Classes.{Class as OfClass};
 ghost use Rattle.fx_tables.specs.Network.{Net};
-ghost use Rattle.fx_base.specs.Entries.{entry_numbered};
-ghost use Rattle.fx_base.specs.Refusals.{search_too_large};
-ghost use Rattle.fx_steps.specs.WrongRun.{HasNoRun};
 
 use crate::found::Found;
 use crate::growing::{Ahead, Growth, leaf};
+use crate::outcome::{Limit, Outcome};
+use crate::stop::{Stop, Why};
 use crate::watch::Watch;
 use fx_base::{Fault, refusals};
 use fx_cert::{Item, Version};
@@ -59,7 +60,7 @@ fn leaf_for(judgement: Judgement, exempt: bool) -> Option<Item>
     }
 }
 
-/// Goes past a region by a line more of the certificate, or returns that its packets do not have the fate that is wanted.
+/// Goes past a region by one more line of the certificate, or returns why the search stops there.
 fn take<'a>(
     scratch: &mut PathScratch<'_>,
     bounds: &mut CutBounds,
@@ -68,7 +69,7 @@ fn take<'a>(
     growth: &mut Growth<'a>,
     here: &Ahead<'a>,
     active: usize,
-) -> Result<bool, Fault>
+) -> Result<Option<Why>, Fault>
     requires tables { AreTables tables.now }
     requires room { HasProcessRoom tables.now scratch.old }
     requires begun { IsPathBegun tables.now here.now.target.crossings scratch.old }
@@ -79,40 +80,39 @@ fn take<'a>(
         (here.now ∷ (front growth.old.ahead.items ++ later))
         → IfOk result (IsTaken tables.now.net targets version most growth.new.items.items
         growth.new.lines (front growth.new.ahead.items ++ later) here.now) }
-    ensures lines { IfOk result (λ taken. taken ≡ true → (growth.new.lines ≡ growth.old.lines + 1)
+    ensures lines { IfOk result (λ o. o ≡ None → (growth.new.lines ≡ growth.old.lines + 1)
         × (growth.new.lines ≤ most)) }
-    ensures err { (targets : List OfTarget) (version : Version) (later : List fronts.RegionAhead)
-        → IsGrowing tables.now.net targets version most growth.old.items.items growth.old.lines
-        (here.now ∷ (front growth.old.ahead.items ++ later))
-        → IfErr result (IsGivenUp tables.now.net targets most) }
+    ensures err { IfErr result IsMemory }
     ensures begun { IsPathBegun tables.now here.now.target.crossings scratch.new }
     ensures room { HasProcessRoom tables.now scratch.new }
-    ensures narrowed { OnOk result (AreAhead scratch.old.selections here.now.target
+    ensures narrowed { IfOk result (λ o. o ≡ None → AreAhead scratch.old.selections here.now.target
         (growth.old.ahead.items ++ record { ahead = here.now; active = active } ∷ [])
         → AreAhead scratch.new.selections here.now.target growth.new.ahead.items) }
 {
     let active = here.narrow(scratch, active);
     let judgement = here.judge(scratch, tables, active);
     if let Judgement::Cut { axis, at } = judgement {
-        if growth.lines >= most || here.depth >= DEPTHS {
-            return Err(Fault::bare(refusals::SEARCH_TOO_LARGE));
+        if growth.lines >= most {
+            return Ok(Some(Why::TooLarge(Limit::Lines)));
+        }
+        if here.depth >= DEPTHS {
+            return Ok(Some(Why::TooLarge(Limit::Depth)));
         }
         let bound = here.halving_bound(scratch, bounds, tables, active, (axis, at))?;
         growth.split(here, active, bound.0, bound.1)?;
-        return Ok(true);
+        return Ok(None);
     }
     let Some(item) = leaf_for(judgement, here.exempt()) else {
-        return Ok(false);
+        return Ok(Some(Why::Wrong(judgement)));
     };
-    if growth.lines >= most {
-        return Err(Fault::bare(refusals::SEARCH_TOO_LARGE));
+    if most <= growth.lines {
+        return Ok(Some(Why::TooLarge(Limit::Lines)));
     }
     growth.add(here, item)?;
-    Ok(true)
+    Ok(None)
 }
 
-/// Goes on until nothing of the current target is ahead, or to its first region whose packets do not have the fate that
-/// is wanted.
+/// Goes on until nothing of the current target is ahead, or to the first region at which the search stops.
 fn grow<'a, W: Watch>(
     scratch: &mut PathScratch<'_>,
     bounds: &mut CutBounds,
@@ -121,7 +121,7 @@ fn grow<'a, W: Watch>(
     growth: &mut Growth<'a>,
     target: &'a Target<'a>,
     watch: &mut W,
-) -> Result<Option<Ahead<'a>>, Fault>
+) -> Result<Option<Stop<'a>>, Fault>
     requires tables { AreTables tables.now }
     requires room { HasProcessRoom tables.now scratch.old }
     requires begun { IsPathBegun tables.now target.now.crossings scratch.old }
@@ -133,10 +133,7 @@ fn grow<'a, W: Watch>(
         (front growth.old.ahead.items ++ later)
         → IfOk result (IsGrown tables.now.net targets version most growth.new.items.items
         growth.new.lines later) }
-    ensures err { (targets : List OfTarget) (version : Version) (later : List fronts.RegionAhead)
-        → IsGrowing tables.now.net targets version most growth.old.items.items growth.old.lines
-        (front growth.old.ahead.items ++ later)
-        → IfErr result (IsGivenUp tables.now.net targets most) }
+    ensures err { IfErr result IsMemory }
     ensures room { HasProcessRoom tables.now scratch.new }
     ensures none { IfOk result (λ o. o ≡ None
         → (growth.new.ahead.items ≡ []) × (growth.new.lines ≤ most)) }
@@ -146,15 +143,14 @@ fn grow<'a, W: Watch>(
             return Ok(None);
         };
         let here = next.ahead;
-        if !take(scratch, bounds, tables, most, growth, &here, next.active)? {
-            return Ok(Some(here));
+        if let Some(why) = take(scratch, bounds, tables, most, growth, &here, next.active)? {
+            return Ok(Some(Stop { ahead: here, why }));
         }
         watch.on_lines(growth.lines);
     }
 }
 
-/// Goes on target by target until nothing is ahead, or to the first region whose packets do not have the fate that is
-/// wanted.
+/// Goes on target by target until nothing is ahead, or to the first region at which the search stops.
 fn grow_all<'a, 't, W: Watch>(
     scratch: &mut PathScratch<'t>,
     bounds: &mut CutBounds,
@@ -163,7 +159,7 @@ fn grow_all<'a, 't, W: Watch>(
     growth: &mut Growth<'a>,
     targets: &'a [Target<'a>],
     watch: &mut W,
-) -> Result<Option<Ahead<'a>>, Fault>
+) -> Result<Option<Stop<'a>>, Fault>
     requires tables { AreTables tables.now }
     requires room { HasProcessRoom tables.now scratch.old }
     requires empty { growth.old.ahead.items ≡ [] }
@@ -174,47 +170,70 @@ fn grow_all<'a, 't, W: Watch>(
         (map fronts.root targets.now)
         → IfOk result (IsGrown tables.now.net all version most growth.new.items.items
         growth.new.lines []) }
-    ensures err { (all : List OfTarget) (version : Version)
-        → IsGrowing tables.now.net all version most growth.old.items.items growth.old.lines
-        (map fronts.root targets.now)
-        → IfErr result (IsGivenUp tables.now.net all most) }
+    ensures err { IfErr result IsMemory }
 {
     'targets: for place in 0..targets.len() {
         let target = &targets[place];
         scratch.reserve(tables, target.crossings)?;
         let active = scratch.begin(tables, target.crossings);
         growth.open(target, active)?;
-        let wrong = grow(scratch, bounds, tables, most, growth, target, watch)?;
-        if wrong.is_some() {
-            return Ok(wrong);
+        let stop = grow(scratch, bounds, tables, most, growth, target, watch)?;
+        if stop.is_some() {
+            return Ok(stop);
         }
     }
     Ok(None)
 }
 
-/// The run of a region's least packet that shows a wrong total.
+/// The run of the least packet of a region whose packets do not have the fate that is wanted.
 fn refute(
     alloc: Global,
     tables: &Tables<'_>,
     classes: &Classes,
     here: &Ahead<'_>,
-) -> Result<Found, Fault>
+    judgement: Judgement,
+) -> Result<Outcome, Fault>
     requires tables { AreTables tables.now }
     requires runnable { IsRunnable tables.now.net }
-    ensures right { (limit : ℕ) → Lies classes.now here.now
-        → IfOk result (found.IsRight tables.now.net classes.now limit) }
-    ensures settles { Lies classes.now here.now
-        → IfOk result (found.Settles tables.now.net classes.now) }
-    ensures err { IfErr result (λ e. IsMemory e
-        ⊎ ((e ≡ fault_at search_too_large places.None)
-        × HasNoRun tables.now.net here.now.region.low (path classes.now (least_packet here.now))
-        (exempts (entry_numbered classes.now here.now.target.class)))) }
+    ensures right { (limit : ℕ) → IsStoppedAt tables.now.net (targets_of classes.now)
+        (fronts.most_lines limit) here.now (why.Wrong judgement)
+        → IfOk result (outcomes.IsOutcome tables.now.net classes.now limit) }
+    ensures settles { (limit : ℕ) → IsStoppedAt tables.now.net (targets_of classes.now)
+        (fronts.most_lines limit) here.now (why.Wrong judgement)
+        → IfOk result (outcomes.Settles tables.now.net classes.now) }
+    ensures err { IfErr result IsMemory }
 {
     refutations_refute();
     let packet = here.least_packet();
     match wrong_run(alloc, tables, classes, &packet)? {
-        Some(steps) => Ok(Found::Refutation(Refutation::new(packet, steps))),
-        None => Err(Fault::bare(refusals::SEARCH_TOO_LARGE)),
+        Some(steps) => Ok(Outcome::Refuted(here.refuted(
+            Refutation::new(packet, steps),
+            judgement,
+        ))),
+        None => Ok(Outcome::TooLarge(here.reached(Limit::Steps))),
+    }
+}
+
+/// What a search comes to that stops at a region.
+fn stopped(
+    alloc: Global,
+    tables: &Tables<'_>,
+    classes: &Classes,
+    stop: &Stop<'_>,
+) -> Result<Outcome, Fault>
+    requires tables { AreTables tables.now }
+    requires runnable { IsRunnable tables.now.net }
+    ensures right { (limit : ℕ) → IsStoppedAt tables.now.net (targets_of classes.now)
+        (fronts.most_lines limit) stop.now.ahead stop.now.why
+        → IfOk result (outcomes.IsOutcome tables.now.net classes.now limit) }
+    ensures settles { (limit : ℕ) → IsStoppedAt tables.now.net (targets_of classes.now)
+        (fronts.most_lines limit) stop.now.ahead stop.now.why
+        → IfOk result (outcomes.Settles tables.now.net classes.now) }
+    ensures err { IfErr result IsMemory }
+{
+    match stop.why {
+        Why::Wrong(judgement) => refute(alloc, tables, classes, &stop.ahead, judgement),
+        Why::TooLarge(limit) => Ok(Outcome::TooLarge(stop.ahead.reached(limit))),
     }
 }
 
@@ -231,21 +250,63 @@ fn version_for(classes: &[Class]) -> Version
 }
 
 /// The certificate, behind whose trees its last line comes.
-fn certificate(growth: Growth<'_>) -> Result<Found, Fault>
+fn certificate(growth: Growth<'_>) -> Result<Outcome, Fault>
     ensures right { (net : Net) (classes : List OfClass) (limit : ℕ)
         → IsGrowing net (targets_of classes) (found.version_for classes)
         (fronts.most_lines limit) growth.entry.items.items growth.entry.lines []
-        → IfOk result (found.IsRight net classes limit) }
+        → IfOk result (outcomes.IsOutcome net classes limit) }
     ensures settles { (net : Net) (classes : List OfClass) (limit : ℕ) → IsNetwork net
         → IsGrowing net (targets_of classes) (found.version_for classes)
         (fronts.most_lines limit) growth.entry.items.items growth.entry.lines []
-        → IfOk result (found.Settles net classes) }
+        → IfOk result (outcomes.Settles net classes) }
     ensures err { IfErr result IsMemory }
 {
     certificates_count_once();
     let mut items = growth.items;
     items.push(Item::End)?;
-    Ok(Found::Certificate(items))
+    Ok(Outcome::Certificate(items))
+}
+
+/// Searches as [`search`] does, and returns with what is found the reasons that the search had: of a refutation, the
+/// region of its packet and what becomes of all packets of that region; of a search that becomes too large, which limit
+/// it reaches and at which region.
+///
+/// Fails with 900, at no place, when out of memory.
+pub fn search_outcome<W: Watch>(
+    alloc: Global,
+    plan: &Plan,
+    traffic: &Traffic,
+    limit: u64,
+    watch: &mut W,
+) -> Result<Outcome, Fault>
+    ensures right { IfOk result (outcomes.IsOutcome (net_of plan.now) traffic.now limit) }
+    // So after a certificate each packet is counted exactly once, and after a run it isn't so.
+    ensures settles { IfOk result (outcomes.Settles (net_of plan.now) traffic.now) }
+    ensures err { IfErr result IsMemory }
+{
+    // For the prover alone: no record is stuck in a plan's network.
+    let _runnable = plan.net();
+    let tables = tables_of(plan);
+    let most = limit.min(LINES);
+    let classes = traffic.classes();
+    let targets = traffic.targets(alloc)?;
+    let mut scratch = PathScratch::new(alloc, &tables)?;
+    let mut bounds = CutBounds::new(alloc);
+    let version = version_for(classes.as_slice());
+    let mut growth = Growth::new(alloc, version)?;
+    let lent = targets.as_slice();
+    match grow_all(
+        &mut scratch,
+        &mut bounds,
+        &tables,
+        most,
+        &mut growth,
+        lent,
+        watch,
+    )? {
+        Some(stop) => stopped(alloc, &tables, classes, &stop),
+        None => certificate(growth),
+    }
 }
 
 /// Searches for a certificate of at most `limit` split and leaf lines (a limit above 1,000,000 counts as that), each of
@@ -273,27 +334,9 @@ pub fn search<W: Watch>(
     ensures err { IfErr result (IsGivenUp (net_of plan.now) (targets_of traffic.now)
         (fronts.most_lines limit)) }
 {
-    // For the prover alone: no record is stuck in a plan's network.
-    let _runnable = plan.net();
-    let tables = tables_of(plan);
-    let most = limit.min(LINES);
-    let classes = traffic.classes();
-    let targets = traffic.targets(alloc)?;
-    let mut scratch = PathScratch::new(alloc, &tables)?;
-    let mut bounds = CutBounds::new(alloc);
-    let version = version_for(classes.as_slice());
-    let mut growth = Growth::new(alloc, version)?;
-    let lent = targets.as_slice();
-    match grow_all(
-        &mut scratch,
-        &mut bounds,
-        &tables,
-        most,
-        &mut growth,
-        lent,
-        watch,
-    )? {
-        Some(here) => refute(alloc, &tables, classes, &here),
-        None => certificate(growth),
+    match search_outcome(alloc, plan, traffic, limit, watch)? {
+        Outcome::Certificate(items) => Ok(Found::Certificate(items)),
+        Outcome::Refuted(refuted) => Ok(Found::Refutation(refuted.refutation)),
+        Outcome::TooLarge(_) => Err(Fault::bare(refusals::SEARCH_TOO_LARGE)),
     }
 }

@@ -8,6 +8,7 @@ use crate::domain::{Domain, put_domain, take_domain};
 use crate::sets::take_sets;
 use crate::stream_fault::StreamFault;
 use crate::taken::Taken;
+use crate::watch::SessionWatch;
 use fx_tables::Record;
 use fx_wire::Message;
 use std::alloc::Global;
@@ -37,8 +38,8 @@ impl Model for Known {
     } };
 }
 
-/// The number of gaps after a message with this sequence number, where the other one comes next.
-fn gaps_after(gaps: u64, next: Option<u32>, sequence: u32) -> u64
+/// Returns the number of gaps after a message with this sequence number, if `next` is due, and reports a gap.
+fn gaps_after<W: SessionWatch>(gaps: u64, next: Option<u32>, sequence: u32, watch: &mut W) -> u64
     ensures { result ≡ messages.gaps_after gaps next sequence }
 {
     match next {
@@ -47,6 +48,7 @@ fn gaps_after(gaps: u64, next: Option<u32>, sequence: u32) -> u64
             if next == sequence {
                 gaps
             } else {
+                watch.on_gap(next);
                 gaps.wrapping_add(1)
             }
         }
@@ -55,14 +57,15 @@ fn gaps_after(gaps: u64, next: Option<u32>, sequence: u32) -> u64
 
 /// A message is read: its domain, what is taken and the number of gaps change.
 ///
-/// Fails as the first set that does, and for want of memory.
+/// Fails as the first set that does, and if out of memory.
 #[tactic(auto, unfolding(crate::specs::Messages::message_read))]
-fn read_message(
+fn read_message<W: SessionWatch>(
     alloc: Global,
     domains: &mut BTreeMap<u32, Domain>,
     taken: &mut Taken,
     gaps: &mut u64,
     message: &Message<'_>,
+    watch: &mut W,
 ) -> Result<(), StreamFault>
     ensures done { Does result
         (messages.message_read (record {
@@ -87,13 +90,13 @@ fn read_message(
     let next = domain.next;
     let mut templates = domain.templates;
     taken.start();
-    take_sets(alloc, &mut templates, taken, message.sets())?;
+    take_sets(alloc, &mut templates, taken, message.sets(), watch)?;
     let read = Domain {
         templates,
         next: Some(sequence.wrapping_add(taken.count())),
     };
     put_domain(domains, number, read)?;
-    *gaps = gaps_after(*gaps, next, sequence);
+    *gaps = gaps_after(*gaps, next, sequence, watch);
     Ok(())
 }
 
@@ -118,8 +121,13 @@ impl Known {
 
     /// A message is read. Where it is refused nothing of it stays, and all domains are forgotten.
     ///
-    /// Fails as its first set that does, and for want of memory.
-    pub fn take_message(&mut self, alloc: Global, message: &Message<'_>) -> Result<(), StreamFault>
+    /// Fails as its first set that does, and if out of memory.
+    pub fn take_message<W: SessionWatch>(
+        &mut self,
+        alloc: Global,
+        message: &Message<'_>,
+        watch: &mut W,
+    ) -> Result<(), StreamFault>
         ensures done { Does result (messages.message_read self.old message.now) self.new }
         ensures forgets { OnErr result (self.new ≡ messages.without_domains self.old) }
     {
@@ -131,6 +139,7 @@ impl Known {
             &mut self.taken,
             &mut self.gaps,
             message,
+            watch,
         ) {
             Ok(()) => Ok(()),
             Err(fault) => {
@@ -155,7 +164,7 @@ impl Known {
         self.taken.records()
     }
 
-    /// All records that wait are let go.
+    /// Removes all records that wait.
     pub fn clear_records(&mut self)
         ensures { self.new ≡ streams.known_without_waiting self.old }
     {

@@ -18,7 +18,11 @@ mod taken;
 mod template;
 mod template_set;
 mod templates;
+mod watch;
 
 pub use front::remove_front;
 pub use laws::sets_by_cases;
 pub use session::{Session, pieces, waiting};
+pub use stream_fault::StreamFault;
+pub use template::Template;
+pub use watch::{SessionWatch, Unwatched};

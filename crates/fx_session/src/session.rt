@@ -9,6 +9,7 @@ ghost use Rattle.fx_base.specs.Refusals.{want_of_memory};
 use crate::front::remove_front;
 use crate::known::Known;
 use crate::stream_fault::StreamFault;
+use crate::watch::{SessionWatch, Unwatched};
 use fx_base::{Fault, refusals};
 use fx_tables::Record;
 use fx_wire::{Parsed, parse};
@@ -16,11 +17,12 @@ use std::alloc::Global;
 use std::marker::Model;
 
 /// Reads the whole messages at the front, and says how many octets they have and which fault came.
-fn take_messages(
+fn take_messages<W: SessionWatch>(
     alloc: Global,
     known: &mut Known,
     place: &mut u64,
     octets: &[u8],
+    watch: &mut W,
 ) -> (usize, Option<StreamFault>)
     ensures read { result.1 ≢ Some faults.OutOfMemory
         → streams.read_all known.old place.old octets.now
@@ -36,11 +38,13 @@ fn take_messages(
             Parsed::NeedsMore => return (at, None),
             Parsed::Refused(why) => {
                 known.forget();
+                watch.on_malformed(*place, rest, why);
                 return (at, Some(StreamFault::Malformed(why)));
             }
             Parsed::Message(message) => {
                 let count = message.octets();
-                match known.take_message(alloc, &message) {
+                watch.on_message(*place, &message);
+                match known.take_message(alloc, &message, watch) {
                     Ok(()) => {
                         at += count;
                         *place = place.saturating_add(count as u64);
@@ -56,7 +60,7 @@ fn take_messages(
 ///
 /// A session is seen as what it knows (each domain's templates and next sequence number, the records that wait, the
 /// numbers of gaps and of skipped records), the place of the first octet of the unfinished message, that message's
-/// octets, and the number of the fault that it answers from then on.
+/// octets, and the number of the fault that it returns from then on.
 pub struct Session {
     alloc: Global,
     known: Known,
@@ -66,7 +70,7 @@ pub struct Session {
 }
 
 impl Drop for Session {
-    /// Lets its parts go: proved once, and one call wherever one is let go.
+    /// Drops its parts: proved once, and one call wherever one is dropped.
     fn drop(self) {
         let Self {
             alloc: _,
@@ -123,9 +127,26 @@ impl Session {
     /// length below 16, 613 a set's length, 615 a reserved set id; then along the sets 614 a template's form, 618 a
     /// counter of flows of another length than 8 octets, 616 another template under a live id, 617 a data set
     /// without template, 619 a record that passes its set's end, 620 a prefix length above 32, of IPv6 above 128. Fails
-    /// with 900, at no place, for want of memory, after some first messages were read. A fault is answered again by each
-    /// later call; the records of the messages before it wait on, and there are none of the refused message.
+    /// with 900, at no place, if out of memory, after some first messages were read. Each later call returns the fault
+    /// again; the records of the messages before it wait on, and there are none of the refused message.
     pub fn feed(&mut self, piece: &[u8]) -> Result<(), Fault>
+        ensures answer { result ≡ streams.answer_of self.new.place self.new.fault }
+        ensures fed { self.new.fault ≢ Some want_of_memory
+            → self.new ≡ streams.after_piece self.old piece.now }
+        ensures again { IsSome self.old.fault → self.new ≡ self.old }
+        ensures starves { self.old.fault ≡ None → self.new.fault ≡ Some want_of_memory
+            → streams.Starves self.old piece.now self.new }
+    {
+        self.feed_watched(piece, &mut Unwatched)
+    }
+
+    /// Reads on with a piece of the stream as [`Session::feed`], and reports to `watch` what the messages say. The result
+    /// is the same for every observer.
+    pub fn feed_watched<W: SessionWatch>(
+        &mut self,
+        piece: &[u8],
+        watch: &mut W,
+    ) -> Result<(), Fault>
         ensures answer { result ≡ streams.answer_of self.new.place self.new.fault }
         ensures fed { self.new.fault ≢ Some want_of_memory
             → self.new ≡ streams.after_piece self.old piece.now }
@@ -147,6 +168,7 @@ impl Session {
             &mut self.known,
             &mut self.place,
             self.octets.as_slice(),
+            watch,
         );
         self.fault = fault;
         match fault {
@@ -175,7 +197,7 @@ impl Session {
         self.known.records()
     }
 
-    /// All records that wait are let go.
+    /// Removes all records that wait.
     pub fn clear_records(&mut self)
         ensures { self.new ≡ streams.without_waiting self.old }
     {
@@ -203,6 +225,13 @@ impl Session {
         ensures { result ≡ self.now.place }
     {
         self.place
+    }
+
+    /// Returns the octets of the unfinished message, as far as they were fed; none after a fault.
+    pub fn unfinished(&self) -> &[u8]
+        ensures { result.now ≡ self.now.rest }
+    {
+        self.octets.as_slice()
     }
 
     /// How many octets of an unfinished message there are.

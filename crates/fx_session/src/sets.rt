@@ -8,42 +8,83 @@ ghost use Rattle.fx_session.specs.Templates as tables;
 use crate::data_set::{pass_records, take_flows};
 use crate::stream_fault::StreamFault;
 use crate::taken::Taken;
+use crate::template::Template;
 use crate::template_set::take_templates;
 use crate::templates::Templates;
+use crate::watch::SessionWatch;
 use fx_wire::{Set, Sets, TemplateKind};
 use std::alloc::Global;
+
+/// Reports a data set that was read under its template, or refused.
+fn report_data<W: SessionWatch>(
+    watch: &mut W,
+    kind: TemplateKind,
+    template: &Template,
+    content: &[u8],
+    records: u32,
+    read: &Result<(), StreamFault>,
+) {
+    match read {
+        Ok(()) => watch.on_data(kind, template, content, records),
+        Err(fault) => watch.on_refused_set(Some(template), content, *fault),
+    }
+}
 
 /// The records of a data set are taken, under the template of its id.
 ///
 /// Fails where there is none, and as the first record that does.
-fn take_data(
+fn take_data<W: SessionWatch>(
     templates: &Templates,
     taken: &mut Taken,
     id: u16,
     content: &[u8],
+    watch: &mut W,
 ) -> Result<(), StreamFault>
     ensures done { Does result (messages.data_by (tables.at_number templates.now.plain id)
         (tables.at_number templates.now.options id) taken.old content.now) taken.new }
     ensures grows { Grows taken.old.waiting taken.new.waiting }
 {
+    let before = taken.count();
     if let Some(template) = templates.plain(id) {
-        return take_flows(template, taken, content);
+        let read = take_flows(template, taken, content);
+        let records = taken.count().wrapping_sub(before);
+        report_data(
+            watch,
+            TemplateKind::Plain,
+            template,
+            content,
+            records,
+            &read,
+        );
+        return read;
     }
     if let Some(template) = templates.options(id) {
-        return pass_records(template, taken, content);
+        let read = pass_records(template, taken, content);
+        let records = taken.count().wrapping_sub(before);
+        report_data(
+            watch,
+            TemplateKind::Options,
+            template,
+            content,
+            records,
+            &read,
+        );
+        return read;
     }
+    watch.on_refused_set(None, content, StreamFault::NoTemplate);
     Err(StreamFault::NoTemplate)
 }
 
 /// A set is read.
 ///
-/// Fails as the first of its records that does, where a data set has no template, and for want of memory.
+/// Fails as the first of its records that does, if a data set has no template, and if out of memory.
 #[tactic(auto, unfolding(crate::specs::Messages::set_read))]
-fn take_set(
+fn take_set<W: SessionWatch>(
     alloc: Global,
     templates: &mut Templates,
     taken: &mut Taken,
     set: &Set<'_>,
+    watch: &mut W,
 ) -> Result<(), StreamFault>
     ensures done { Does result (messages.set_read
         (record { templates = templates.old; taken = taken.old }) (wire.set_parts set.now))
@@ -51,22 +92,23 @@ fn take_set(
     ensures grows { Grows taken.old.waiting taken.new.waiting }
 {
     if set.id == 2 {
-        return take_templates(alloc, templates, TemplateKind::Plain, set.content);
+        return take_templates(alloc, templates, TemplateKind::Plain, set.content, watch);
     }
     if set.id == 3 {
-        return take_templates(alloc, templates, TemplateKind::Options, set.content);
+        return take_templates(alloc, templates, TemplateKind::Options, set.content, watch);
     }
-    take_data(templates, taken, set.id, set.content)
+    take_data(templates, taken, set.id, set.content, watch)
 }
 
 /// The sets of a message are read, in order.
 ///
 /// Fails as the first that does.
-pub(crate) fn take_sets(
+pub(crate) fn take_sets<W: SessionWatch>(
     alloc: Global,
     templates: &mut Templates,
     taken: &mut Taken,
     sets: Sets<'_>,
+    watch: &mut W,
 ) -> Result<(), StreamFault>
     ensures done { Does result (messages.sets_read
         (record { templates = templates.old; taken = taken.old }) sets.entry)
@@ -75,7 +117,8 @@ pub(crate) fn take_sets(
 {
     let mut left = sets;
     while let Some(set) = left.next() {
-        take_set(alloc, templates, taken, &set)?;
+        watch.on_set(&set);
+        take_set(alloc, templates, taken, &set, watch)?;
     }
     Ok(())
 }

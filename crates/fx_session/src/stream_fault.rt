@@ -6,12 +6,12 @@ use fx_base::refusals;
 use fx_wire::Malformed;
 use std::alloc::{AllocError, AllocFailed};
 
-/// Why a message of a stream is refused (RFC 7011), or couldn't be read for want of memory.
+/// Why a message of a stream is refused (RFC 7011), or couldn't be read since there was no memory.
 #[derive(Clone, Copy)]
-pub(crate) enum StreamFault {
+pub enum StreamFault {
     /// Its octets, or those of a template record, are no such thing.
     Malformed(Malformed),
-    /// A template is declared under an id that stands for another one (section 8.1).
+    /// A template is declared under the id of another one (section 8.1).
     TemplateIdInUse,
     /// A data set has no template (section 9).
     NoTemplate,
@@ -26,7 +26,7 @@ pub(crate) enum StreamFault {
 }
 
 impl StreamFault {
-    /// The fault's number: that of what is malformed, 616 to 620 in the variants' order, and 900 for want of memory.
+    /// Returns the fault's number: that of what is malformed, 616 to 620 in the variants' order, and 900 if out of memory.
     pub fn number(self) -> u16
         ensures { result ≡ number_of self }
     {

@@ -22,10 +22,10 @@ struct Body {
     places: Option<RecordPlaces>,
 }
 
-/// A template or an options template: how many of its fields are scope fields, and its fields. It stands in a block of
-/// its own, so that the room of a table for templates that aren't there is small.
+/// A template or an options template: how many of its fields are scope fields, and its fields. They are boxed, so that
+/// free places in a table of templates are small.
 #[derive(Drop)]
-pub(crate) struct Template {
+pub struct Template {
     body: Box<Body>,
 }
 
@@ -89,7 +89,7 @@ fn elements_of(alloc: Global, fields: &[FieldSpecifier]) -> Result<Vec<Element>,
 
 impl Template {
     /// A template of these fields, whose records have `shortest` octets at least.
-    pub fn new(
+    pub(crate) fn new(
         alloc: Global,
         scope: u16,
         fields: Vec<FieldSpecifier>,
@@ -113,14 +113,21 @@ impl Template {
         })
     }
 
-    /// The fields.
+    /// Returns how many of its fields are scope fields; 0 if it is no options template.
+    pub fn scope(&self) -> u16
+        ensures { result ≡ self.now.scope }
+    {
+        self.body.scope
+    }
+
+    /// Returns the fields.
     pub fn fields(&self) -> &[FieldSpecifier]
         ensures { result.now ≡ self.now.fields }
     {
         self.body.fields.as_slice()
     }
 
-    /// The element of each field.
+    /// Returns the element of each field.
     pub fn elements(&self) -> &[Element]
         ensures { result.now ≡ map element_of self.now.fields }
     {
@@ -128,13 +135,13 @@ impl Template {
     }
 
     /// Where the values of flows stand in each record, where that is the same in all of them.
-    pub fn places(&self) -> Option<&RecordPlaces>
+    pub(crate) fn places(&self) -> Option<&RecordPlaces>
         ensures { IfSome result (λ places. ArePlacesOf self.now.fields places.now) }
     {
         self.body.places.as_ref()
     }
 
-    /// How few octets a record can have.
+    /// Returns how few octets a record can have, at least 1.
     pub fn shortest(&self) -> usize
         ensures value { result ≡ shortest_record self.now.fields }
         ensures some { 1 ≤ result }
@@ -143,7 +150,7 @@ impl Template {
     }
 
     /// Whether the two templates are written in the same way.
-    pub fn same(&self, other: &Template) -> bool
+    pub(crate) fn same(&self, other: &Template) -> bool
         ensures { result ≡ templates.same_template self.now other.now }
     {
         self.body.scope == other.body.scope && same_fields(self.fields(), other.fields())

@@ -9,6 +9,7 @@ ghost use Rattle.fx_session.specs.declared.stream_fault.StreamFault.TheVariants 
 use crate::stream_fault::StreamFault;
 use crate::template::Template;
 use crate::templates::Templates;
+use crate::watch::SessionWatch;
 use fx_elements::Element;
 use fx_wire::{
     FieldSpecifier, FieldSpecifiers, NewTemplate, TemplateHeading, TemplateKind, read_heading,
@@ -41,7 +42,7 @@ fn has_narrow(fields: &[FieldSpecifier]) -> bool
 
 /// The fields of a template, and the octets behind them.
 ///
-/// Fails where a field is cut or can't have its length, and for want of memory.
+/// Fails if a field is cut or can't have its length, and if out of memory.
 fn read_fields(
     alloc: Global,
     count: u16,
@@ -59,7 +60,7 @@ fn read_fields(
     Ok((found, left.rest()))
 }
 
-/// A template is declared whose fields are at the front of the octets; answers the octets behind it.
+/// Declares the template whose fields are at the front of the octets; returns the octets behind it.
 fn declare<'a>(
     alloc: Global,
     templates: &mut Templates,
@@ -83,15 +84,33 @@ fn declare<'a>(
     Ok(rest)
 }
 
-/// What the template record at the front says is done; answers the octets behind it.
+/// Reports the template that the record at the front of the octets declares.
+fn report_template<W: SessionWatch>(
+    watch: &mut W,
+    templates: &Templates,
+    kind: TemplateKind,
+    id: u16,
+    octets: &[u8],
+) {
+    let declared = match kind {
+        TemplateKind::Plain => templates.plain(id),
+        TemplateKind::Options => templates.options(id),
+    };
+    if let Some(template) = declared {
+        watch.on_template(kind, id, template, octets);
+    }
+}
+
+/// Does what the template record at the front says; returns the octets behind it.
 ///
-/// Fails by its form, by its counters and by its id, in this order, and for want of memory.
+/// Fails by its form, by its counters and by its id, in this order, and if out of memory.
 #[tactic(auto, unfolding(crate::specs::TemplateSets::template_record))]
-fn take_record<'a>(
+fn take_record<'a, W: SessionWatch>(
     alloc: Global,
     templates: &mut Templates,
     kind: TemplateKind,
     octets: &'a [u8],
+    watch: &mut W,
 ) -> Result<&'a [u8], StreamFault>
     requires { 4 ≤ length octets.now }
     ensures done { reading.Follows (sets.template_record templates.old kind octets.now)
@@ -102,30 +121,44 @@ fn take_record<'a>(
     match heading {
         TemplateHeading::Withdrawal(id) => {
             templates.withdraw(id);
+            watch.on_withdrawal(id);
             Ok(rest)
         }
         TemplateHeading::WithdrawalOfAll => {
             templates.withdraw_all(kind);
+            watch.on_withdrawal_of_all(kind);
             Ok(rest)
         }
-        TemplateHeading::Declaration(new) => declare(alloc, templates, kind, new, rest),
+        TemplateHeading::Declaration(new) => {
+            let id = new.id;
+            let behind = declare(alloc, templates, kind, new, rest)?;
+            report_template(watch, templates, kind, id, octets);
+            Ok(behind)
+        }
     }
 }
 
-/// What the template records of a set say is done.
+/// Does what the template records of a set say.
 ///
 /// Fails as the first record that does, and leaves the templates open then.
-pub(crate) fn take_templates(
+pub(crate) fn take_templates<W: SessionWatch>(
     alloc: Global,
     templates: &mut Templates,
     kind: TemplateKind,
     octets: &[u8],
+    watch: &mut W,
 ) -> Result<(), StreamFault>
     ensures { Does result (sets.template_set templates.old kind octets.now) templates.new }
 {
     let mut rest = octets;
     while rest.len() >= 4 {
-        rest = take_record(alloc, templates, kind, rest)?;
+        match take_record(alloc, templates, kind, rest, watch) {
+            Ok(behind) => rest = behind,
+            Err(fault) => {
+                watch.on_refused_set(None, rest, fault);
+                return Err(fault);
+            }
+        }
     }
     Ok(())
 }

@@ -8,18 +8,19 @@ ghost use Rattle.fx_topology.specs.Networks.{device_names};
 ghost use Rattle.fx_traffic.specs.Classes.{class_of, list_of_classes_faults, traffic_faults, traffic_of};
 
 use crate::class::read_list;
-use fx_base::{Fault, refusals};
+use fx_base::{Fault, entry_numbered, refusals};
 use fx_plan::Plan;
 use fx_tables::{Class, Classes};
 use fx_walk::{DocumentPath, Named, Sequence, object_of, refusal};
 use serde_json::Value;
-use std::alloc::Global;
+use std::alloc::{AllocError, Global};
 use std::marker::Model;
 
 /// The traffic of a network. Contracts see it as the list of its classes.
 #[derive(Debug, Drop)]
 pub struct Traffic {
     classes: Classes,
+    names: Vec<String>,
 }
 
 impl Model for Traffic {
@@ -38,6 +39,32 @@ impl Traffic {
     {
         &self.classes
     }
+
+    /// Returns the name of the class of this number, counted from 1, or none where there is no such class.
+    pub fn class_name(&self, number: u64) -> Option<&str> {
+        let name = entry_numbered(self.names.as_slice(), number)?;
+        Some(name.as_str())
+    }
+}
+
+/// Returns the name of a class, or an empty text where the value has none.
+fn name_of(class: &Value) -> &str {
+    let Some(name) = class.get("name") else {
+        return "";
+    };
+    name.as_str().unwrap_or("")
+}
+
+/// Returns the names of the classes of a declaration, in document order.
+fn names_of(alloc: Global, object: &Value) -> Result<Vec<String>, AllocError> {
+    let mut names = Vec::new(alloc);
+    let Some(Value::Array(classes)) = object.get("classes") else {
+        return Ok(names);
+    };
+    for class in classes {
+        names.push(String::from_str(alloc, name_of(class))?)?;
+    }
+    Ok(names)
 }
 
 fn classes_member<T: Named>(
@@ -74,8 +101,10 @@ fn traffic_at<T: Named>(
 {
     object_of(alloc, path, value, &["classes"])?;
     let classes = classes_member(alloc, path, value, devices)?;
+    let names = names_of(alloc, value)?;
     Ok(Traffic {
         classes: Classes::new(classes.into_vec()),
+        names,
     })
 }
 

@@ -6,6 +6,8 @@ use Rattle.fx_check.specs.Remaining.{goals}
 use Rattle.fx_check.specs.FirstRefusal.{after_reading, at_end, at_line, made_after, reading_of, whole}
 use Rattle.fx_base.proofs.GoingOn.{goes_then, to_line}
 use Rattle.fx_check.proofs.FirstRefusals.{reads_on, reader_refuses, refuses_line, ends_early, ends_well, ended_line, err_gives, ok_gives, at_end_of, at_line_of, lent_line}
+use Rattle.fx_check.specs.declared.course.Course.{Course}
+use Rattle.fx_check.specs.Stops.{IsStop, early, line, reader, state_of}
 use Rattle.fx_check.proofs.Numbers.{line_fault, end_fault, reader_fault}
 use Rattle.fx_check.proofs.checking.take_lines.Goals as goal
 
@@ -60,3 +62,31 @@ returns-in-Err-clause-err g c =
     let gs = goals c.args.targets.now c.lines.course in
     let wrong = lent_line (λ l. after_reading judge c.lines.course.made gs (reading_of l)) new c.line.result.bytes.now c.line.result.ended c.line.ensures.bytes c.line.ensures.ended ∙ c.in-Err.ensures.after in
     inr (refuses_line judge c.args.lines.now c.lines.lines new (whole c.args.targets.now) gs c.lines.course.made (number_of c.in-Err.fault) c.at_line.result c.lines.invariant.reads at wrong (c.at_line.ensures ∙ ap (λ (number : ℕ). at_line number c.number-in-Err-2.result) c.number-in-Err.ensures ∙ ap (at_line (number_of c.in-Err.fault)) c.number-in-Err-2.ensures))
+
+pub returns-in_err-advance-clause-stops : goal.returns-in_err-advance-clause-stops
+returns-in_err-advance-clause-stops g c =
+    let p = err_from_is_err_and c.from_residual.result c.from_residual.ensures.1 in
+    rw (p.1, p.2) (record { now = c.lines.lines; before = c.lines.invariant.reads; stops = reader c.in_err-advance.ensures })
+
+pub returns-then-not-branch-clause-stops : goal.returns-then-not-branch-clause-stops
+returns-then-not-branch-clause-stops g c =
+    let at = at_end_of c.lines.lines c.advance.new.self c.in_ok-advance.field-0 c.in_ok-advance.ensures c.if-not-branch.true in
+    err_gives c.end.result c.end.ensures.err (λ e h. record {
+      now = c.lines.lines;
+      before = c.lines.invariant.reads;
+      stops = early at (subst (λ (n : ℕ). at_end n (goals c.args.targets.now c.lines.course) ≡ Some (record { fault = e; last = n; behind = [] })) c.number.ensures h);
+    })
+
+pub returns-in-Err-clause-stops : goal.returns-in-Err-clause-stops
+returns-in-Err-clause-stops g c =
+    let new = c.advance.new.self in
+    let net = c.args.tables.now.net in
+    let targets = c.args.targets.now in
+    let at = at_line_of c.lines.lines new c.in_ok-advance.field-0 c.in_ok-advance.ensures c.if-not-branch.false in
+    let wrong = lent_line (λ l. after_reading (judge_of net) c.lines.course.made (goals targets c.lines.course) (reading_of l)) new c.line.result.bytes.now c.line.result.ended c.line.ensures.bytes c.line.ensures.ended ∙ c.in-Err.ensures.after in
+    let place = c.at_line.ensures ∙ ap (λ (number : ℕ). at_line number c.number-in-Err-2.result) c.number-in-Err.ensures ∙ ap (at_line (number_of c.in-Err.fault)) c.number-in-Err-2.ensures in
+    subst (λ (x : Course). IsStop c.args.lines.now new (state_of net targets x) c.at_line.result) (sym c.in-Err.ensures.same) (record {
+      now = c.lines.lines;
+      before = c.lines.invariant.reads;
+      stops = line (number_of c.in-Err.fault) at wrong place;
+    })

@@ -20,11 +20,11 @@ no_packet net classes r p e ps (inl h) = inr (subst (IsNoRefutation net classes 
 no_packet net classes r p e ps (inr h) = inl h
 
 pub returns-in_err-state-clause-err : goal.returns-in_err-state-clause-err
-returns-in_err-state-clause-err c =
+returns-in_err-state-clause-err g c =
     exit_with _ _ (Refuses c.args.net.now c.args.classes.now c.args.refutation.now) c.from_residual.ensures (no_packet c.args.net.now c.args.classes.now c.args.refutation.now c.packet.result.now _ c.packet.ensures c.in_err-state.ensures.err)
 
 pub confirm_run-requires : goal.confirm_run-requires
-confirm_run-requires c =
+confirm_run-requires g c =
     let net = c.args.net.now in
     let classes = c.args.classes.now in
     let same = c.packet.ensures in
@@ -32,6 +32,3 @@ confirm_run-requires c =
       opening = c.in_ok-state.ensures.ok.0 ∙ ap (λ (p : Packet). record { net = net; classes = classes; packets = p ∷ []; state = opening net classes (p ∷ []) }) same;
       of_class = subst (λ (p : Packet). IsOf p (entry_numbered classes p.class)) same c.in_ok-state.ensures.ok.1;
     }
-
-pub returns : goal.returns
-returns c = c.confirm_run.ensures

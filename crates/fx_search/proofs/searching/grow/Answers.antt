@@ -1,5 +1,4 @@
 use Rattle.std.proofs.Common.{◌≡◌, ℕ, ◌-◌, ◌++◌, append-nil, take, [], ◌∷◌, List, subst, ap, sym, ◌∙◌}
-use Rattle.std.proofs.lemmas.Result.{err_from_is_err_and}
 use Rattle.fx_traffic.specs.Targets.{Target}
 use Rattle.fx_leaf.specs.PathTables.{IsPathBegun}
 use Rattle.fx_search.specs.declared.growing.Waiting.{Waiting}
@@ -27,32 +26,25 @@ returns-in_default-clause-grown g c targets version later growing =
 pub returns-in_default-clause-none : goal.returns-in_default-clause-none
 returns-in_default-clause-none g c = λ none. (c.in_default.ensures.rest ∙ ap (λ (n : ℕ). take (n - 1) c.regions.growth.ahead.items) c.in_default.ensures.cases.0, c.regions.invariant.few)
 
-pub returns-in_err-take-clause-err : goal.returns-in_err-take-clause-err
-returns-in_err-take-clause-err g c targets version later growing =
-    let p = err_from_is_err_and c.from_residual.result c.from_residual.ensures.1 in
+pub returns-in-Some-2-clause-grown : goal.returns-in-Some-2-clause-grown
+returns-in-Some-2-clause-grown g c targets version later growing =
     let here = subst (IsGrowing c.args.tables.now.net targets version c.args.most c.regions.growth.items.items c.regions.growth.lines) (next_of c.regions.growth.ahead.items c.pop.new.self.items c.in-Some.next later c.in-Some.ensures.items) (c.regions.invariant.growing targets version later growing) in
-    rw (p.1, p.2) (c.in_err-take.ensures.err targets version later here)
-
-pub returns-then-not-branch-clause-grown : goal.returns-then-not-branch-clause-grown
-returns-then-not-branch-clause-grown g c targets version later growing =
-    let here = subst (IsGrowing c.args.tables.now.net targets version c.args.most c.regions.growth.items.items c.regions.growth.lines) (next_of c.regions.growth.ahead.items c.pop.new.self.items c.in-Some.next later c.in-Some.ensures.items) (c.regions.invariant.growing targets version later growing) in
-    let taken = subst (IsTaken c.args.tables.now.net targets version c.args.most c.take.new.growth.items.items c.take.new.growth.lines (front c.take.new.growth.ahead.items ++ later) c.in-Some.next.ahead) c.if-not-branch.true (c.in_ok-take.ensures.on targets version later here) in
-    (taken, (front c.pop.new.self.items ++ later, c.regions.growth.lines, here.front))
+    subst (IsTaken c.args.tables.now.net targets version c.args.most c.take.new.growth.items.items c.take.new.growth.lines (front c.take.new.growth.ahead.items ++ later) c.in-Some.next.ahead) c.in-Some-2.is (c.in_ok-why.ensures.on targets version later here)
 
 pub regions-preserved : goal.regions-preserved
 regions-preserved g c =
-    let lines = c.in_ok-take.ensures.lines c.if-not-branch.false in
+    let lines = c.in_ok-why.ensures.lines c.in_default-2.is in
     let next = c.in-Some.next in
     let rest = c.pop.new.self.items in
     let there = subst (AreAhead c.regions.scratch.selections c.args.target.now) c.in-Some.ensures.items c.regions.invariant.ahead in
     let same = last_target c.regions.scratch.selections c.args.target.now rest next there in
     let before = subst (λ (t : Target). AreAhead c.regions.scratch.selections t (rest ++ next ∷ [])) (sym same) there in
     record {
-      room = c.in_ok-take.ensures.room;
-      begun = subst (λ (t : Target). IsPathBegun c.args.tables.now t.crossings c.take.new.scratch) same c.in_ok-take.ensures.begun;
-      ahead = subst (λ (t : Target). AreAhead c.take.new.scratch.selections t c.take.new.growth.ahead.items) same (c.in_ok-take.ensures.narrowed before);
+      room = c.in_ok-why.ensures.room;
+      begun = subst (λ (t : Target). IsPathBegun c.args.tables.now t.crossings c.take.new.scratch) same c.in_ok-why.ensures.begun;
+      ahead = subst (λ (t : Target). AreAhead c.take.new.scratch.selections t c.take.new.growth.ahead.items) same (c.in_ok-why.ensures.narrowed c.in_default-2.is before);
       few = lines.1;
       growing = λ targets version later grew.
           let here = subst (IsGrowing c.args.tables.now.net targets version c.args.most c.regions.growth.items.items c.regions.growth.lines) (next_of c.regions.growth.ahead.items rest next later c.in-Some.ensures.items) (c.regions.invariant.growing targets version later grew) in
-          subst (IsTaken c.args.tables.now.net targets version c.args.most c.take.new.growth.items.items c.take.new.growth.lines (front c.take.new.growth.ahead.items ++ later) next.ahead) c.if-not-branch.false (c.in_ok-take.ensures.on targets version later here);
+          subst (IsTaken c.args.tables.now.net targets version c.args.most c.take.new.growth.items.items c.take.new.growth.lines (front c.take.new.growth.ahead.items ++ later) next.ahead) c.in_default-2.is (c.in_ok-why.ensures.on targets version later here);
     }

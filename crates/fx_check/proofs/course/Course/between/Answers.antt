@@ -33,6 +33,7 @@ returns-then-path-target c =
         begun = opens_begun c.args.tables.now targets old.current (region_whole c.target.inside.region c.begin-active.result) target c.begin-active.new.self c.index-targets-self.is begun;
         narrowed = narrowed_first old.waiting c.begin-active.new.self.selections (region_whole c.target.inside.region c.begin-active.result) none (c.begin-active.ensures.all c.target.inside.region);
       };
+      same = tt;
     }
 
 pub returns-else-class-target : goal.returns-else-class-target
@@ -46,9 +47,10 @@ returns-else-class-target c =
     ] in
     record {
       after = λ judge. wrong_class old.version judge old.made c.args.targets.now old.current old.waiting old.stage c.args.item.now c.requires.stage target c.in-Class.class c.in-Class.path c.if-self-targets.true c.index-targets-self.is c.in-Class.is other;
-      consistent = tt;
+      consistent = c.requires.consistent;
       made = tt;
-      ready = tt;
+      ready = c.requires.ready;
+      same = refl;
     }
 
 pub returns-in_default : goal.returns-in_default
@@ -56,9 +58,10 @@ returns-in_default c =
     let old = c.args.self.now in
     record {
       after = λ judge. no_class old.version judge old.made c.args.targets.now old.current old.waiting old.stage c.args.item.now c.requires.stage c.index-targets-self.result c.if-self-targets.true c.index-targets-self.is c.in_default.not-Class;
-      consistent = tt;
+      consistent = c.requires.consistent;
       made = tt;
-      ready = tt;
+      ready = c.requires.ready;
+      same = refl;
     }
 
 pub returns-in-End : goal.returns-in-End
@@ -69,6 +72,7 @@ returns-in-End c =
       consistent = none_waits c.args.targets.now old.current old.waiting old.stage c.requires.stage c.requires.consistent;
       made = rw c.in-End.is refl;
       ready = record { room = c.requires.ready.room; rooms = c.requires.ready.rooms; begun = tt; narrowed = tt };
+      same = tt;
     }
 
 pub returns : goal.returns
@@ -76,7 +80,8 @@ returns c =
     let old = c.args.self.now in
     record {
       after = λ judge. no_end old.version judge old.made c.args.targets.now old.current old.waiting old.stage c.args.item.now c.requires.stage c.if-self-targets.false c.in_default-item.not-End;
-      consistent = tt;
+      consistent = c.requires.consistent;
       made = tt;
-      ready = tt;
+      ready = c.requires.ready;
+      same = refl;
     }

@@ -40,3 +40,11 @@ returns-clause-ready c =
       begun = begins_there c.args.tables.now c.args.targets.now c.args.self.now.current c.args.self.now.stage c.in-Tree.here c.index-targets-self.result c.never_fault.new.scratch c.in-Tree.is c.index-targets-self.is c.in_default-never_fault.ensures.begun;
       narrowed = subst (λ (xs : List PathSelection). HasNarrowed c.args.self.now.stage c.args.self.now.waiting xs) (sym c.in_default-never_fault.ensures.kept) c.requires.ready.narrowed;
     })
+
+pub returns-in-Some-clause-ready : goal.returns-in-Some-clause-ready
+returns-in-Some-clause-ready c = record {
+  room = c.in-Some.ensures.room;
+  rooms = rooms_more c.args.tables.now c.args.targets.now c.args.scratch.now c.never_fault.new.scratch c.in-Some.ensures.more c.requires.ready.rooms;
+  begun = begins_there c.args.tables.now c.args.targets.now c.args.self.now.current c.args.self.now.stage c.in-Tree.here c.index-targets-self.result c.never_fault.new.scratch c.in-Tree.is c.index-targets-self.is c.in-Some.ensures.begun;
+  narrowed = subst (λ (xs : List PathSelection). HasNarrowed c.args.self.now.stage c.args.self.now.waiting xs) (sym c.in-Some.ensures.kept) c.requires.ready.narrowed;
+}

@@ -3,13 +3,13 @@ use Rattle.fx_session.specs.Messages.{Known, without_domains}
 use Rattle.fx_session.specs.StreamFaults.{number_of}
 use Rattle.fx_session.specs.Streams.{SessionState, read_all, waits}
 use Rattle.fx_session.proofs.StreamSteps.{all_none, out_of_memory}
-use Rattle.fx_session.proofs.session.Session.feed.Goals as goal
+use Rattle.fx_session.proofs.session.Session.feed_watched.Goals as goal
 
 abbrev stopped : Known → ℕ → List ℕ → Option ℕ → SessionState
 stopped k place rest fault = record { known = k; place = place; rest = rest; fault = fault }
 
 pub returns-in-Err-clause-starves : goal.returns-in-Err-clause-starves
-returns-in-Err-clause-starves c = λ _ _.
+returns-in-Err-clause-starves g c = λ _ _.
     let known = ap (λ (s : SessionState). s.known) c.self.view_is in
     let place = ap (λ (s : SessionState). s.place) c.self.view_is in (
       0,
@@ -20,7 +20,7 @@ returns-in-Err-clause-starves c = λ _ _.
     )
 
 pub returns-in-Some-fault-clause-starves : goal.returns-in-Some-fault-clause-starves
-returns-in-Some-fault-clause-starves c = λ _ starved.
+returns-in-Some-fault-clause-starves g c = λ _ starved.
     let known = ap (λ (s : SessionState). s.known) c.self.view_is in
     let place = ap (λ (s : SessionState). s.place) c.self.view_is in
     let rest = ap (λ (s : SessionState). s.rest) c.self.view_is in

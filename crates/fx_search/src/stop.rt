@@ -1,0 +1,21 @@
+//! Where a search stops before its certificate is whole.
+
+use crate::growing::Ahead;
+use crate::outcome::Limit;
+use fx_leaf::Judgement;
+
+/// Why a search stops at a region.
+#[derive(Clone, Copy)]
+pub(crate) enum Why {
+    /// Its packets do not have the fate that is wanted.
+    Wrong(Judgement),
+    /// A certificate that goes on there is too large.
+    TooLarge(Limit),
+}
+
+/// A region at which a search stops.
+#[derive(Drop)]
+pub(crate) struct Stop<'a> {
+    pub(crate) ahead: Ahead<'a>,
+    pub(crate) why: Why,
+}
