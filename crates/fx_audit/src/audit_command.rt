@@ -12,7 +12,8 @@ ghost use Rattle.fx_audit.specs.Texts.{IsAuditText};
 ghost use Rattle.fx_audit.specs.declared.answer.Answer.TheVariants.{Unknown};
 
 use crate::answer::Answer;
-use crate::document::{Documents, read_documents};
+use crate::document::{AcceptedDocuments, read_documents};
+use crate::explainer::{Explainer, Unexplained};
 use fx_base::{Fault, Sink, Source, put_text, refusals};
 use fx_cert::{Item, put_item};
 use fx_refute::put_refutation;
@@ -66,12 +67,20 @@ fn answer_none<S: Sink>(sink: &mut S, fault: Fault) -> Result<Answer, Fault>
     Ok(Answer::Unknown)
 }
 
+/// Lends the explainer a refutation that was found.
+fn lend_found<E: Explainer>(documents: &AcceptedDocuments, found: &Found, explainer: &mut E) {
+    if let Found::Refutation(refutation) = found {
+        explainer.on_refutation(documents, refutation);
+    }
+}
+
 /// Audits the traffic of a network, and writes the answer.
-fn audit<W: Watch, S: Sink>(
+fn audit<W: Watch, E: Explainer, S: Sink>(
     alloc: Global,
-    documents: &Documents,
+    documents: &AcceptedDocuments,
     limit: u64,
     watch: &mut W,
+    explainer: &mut E,
     sink: &mut S,
 ) -> Result<Answer, Fault>
     ensures answers { AnswersWith S.taken S.failed
@@ -80,7 +89,10 @@ fn audit<W: Watch, S: Sink>(
         ⊎ IsWriteFault (S.failed sink.new) e) }
 {
     match search(alloc, &documents.plan, &documents.traffic, limit, watch) {
-        Ok(found) => put_found(sink, &found),
+        Ok(found) => {
+            lend_found(documents, &found, explainer);
+            put_found(sink, &found)
+        }
         Err(fault) => answer_none(sink, fault),
     }
 }
@@ -116,6 +128,40 @@ pub fn audit_bytes<N: Source, T: Source, W: Watch, S: Sink>(
     ensures answers { AnswersWith S.taken S.failed IsAuditText sink.old sink.new result }
     ensures order { IfNetworkRefused (N.left network.old) (traffic.new ≡ traffic.old) }
 {
-    let documents = read_documents(alloc, network, traffic)?;
-    audit(alloc, &documents, limit, watch, sink)
+    audit_explained(
+        alloc,
+        network,
+        traffic,
+        limit,
+        watch,
+        &mut Unexplained,
+        sink,
+    )
+}
+
+/// Does what [`audit_bytes`] does, and lends the explainer what it knows.
+pub fn audit_explained<N: Source, T: Source, W: Watch, E: Explainer, S: Sink>(
+    alloc: Global,
+    network: &mut N,
+    traffic: &mut T,
+    limit: u64,
+    watch: &mut W,
+    explainer: &mut E,
+    sink: &mut S,
+) -> Result<Answer, Fault>
+    // Yes: each packet is counted once. No: not every complete run counts each packet once.
+    ensures ok { IfOk result (λ answer.
+        BothMayHaveLeft (N.left network.old) (T.left traffic.old) (λ n t.
+        Prints (IsAudited n t limit answer) (S.taken sink.old) (S.taken sink.new))) }
+    ensures err { IfErr result (λ e. IsMemory e
+        ⊎ (CannotRead N.left N.calls N.failed network.old network.new e
+        ⊎ (CannotRead T.left T.calls T.failed traffic.old traffic.new e
+        ⊎ (IsWriteFault (S.failed sink.new) e
+        ⊎ BothMayHaveLeft (N.left network.old) (T.left traffic.old)
+        (λ n t. IsRefusedByDocuments n t e))))) }
+    ensures answers { AnswersWith S.taken S.failed IsAuditText sink.old sink.new result }
+    ensures order { IfNetworkRefused (N.left network.old) (traffic.new ≡ traffic.old) }
+{
+    let documents = read_documents(alloc, network, traffic, explainer)?;
+    audit(alloc, &documents, limit, watch, explainer, sink)
 }

@@ -11,11 +11,12 @@ ghost use Rattle.fx_audit.specs.Texts.{IsBundleText};
 ghost use Rattle.fx_audit.specs.declared.bundle.Command.{Command};
 
 use crate::answer::Answer;
-use crate::audit_command::{AUDIT_LIMIT, audit_bytes};
+use crate::audit_command::{AUDIT_LIMIT, audit_explained};
 use crate::bundle::{Bundle, Command, read_bundle};
-use crate::check_command::check_bytes;
-use crate::confirm_command::confirm_bytes;
-use crate::replay_command::replay_bytes;
+use crate::check_command::check_explained;
+use crate::confirm_command::confirm_explained;
+use crate::explainer::{Explainer, Unexplained};
+use crate::replay_command::replay_explained;
 use fx_base::{Fault, LineReader, Octets, Sink, Source, read_whole, refusals};
 use fx_layout::Seed;
 use fx_search::Unwatched;
@@ -31,13 +32,14 @@ fn never_fails(lines: &LineReader<Octets<'_>>)
 
 /// Does what a command does with a network document, a traffic declaration and a third text, of which an audit reads
 /// nothing.
-fn answer_texts<N: Source, T: Source, R: Source, S: Sink>(
+fn answer_texts<N: Source, T: Source, R: Source, E: Explainer, S: Sink>(
     alloc: Global,
     seed: Seed,
     command: Command,
     network: &mut N,
     traffic: &mut T,
     third: &mut LineReader<R>,
+    explainer: &mut E,
     sink: &mut S,
 ) -> Result<Answer, Fault>
     ensures ok { IfOk result (λ answer.
@@ -51,18 +53,29 @@ fn answer_texts<N: Source, T: Source, R: Source, S: Sink>(
     ensures quiet { FailsQuietly S.failed sink.old sink.new result }
 {
     match command {
-        Command::Replay => replay_bytes(alloc, seed, network, traffic, third, sink),
-        Command::Check => check_bytes(alloc, network, traffic, third, sink),
-        Command::Confirm => confirm_bytes(alloc, network, traffic, third, sink),
-        Command::Audit => audit_bytes(alloc, network, traffic, AUDIT_LIMIT, &mut Unwatched, sink),
+        Command::Replay => {
+            replay_explained(alloc, seed, network, traffic, third, explainer, sink)
+        }
+        Command::Check => check_explained(alloc, network, traffic, third, explainer, sink),
+        Command::Confirm => confirm_explained(alloc, network, traffic, third, explainer, sink),
+        Command::Audit => audit_explained(
+            alloc,
+            network,
+            traffic,
+            AUDIT_LIMIT,
+            &mut Unwatched,
+            explainer,
+            sink,
+        ),
     }
 }
 
 /// Does what a bundle's command does with its texts.
-fn answer_bundle<S: Sink>(
+fn answer_bundle<E: Explainer, S: Sink>(
     alloc: Global,
     seed: Seed,
     bundle: &Bundle<'_>,
+    explainer: &mut E,
     sink: &mut S,
 ) -> Result<Answer, Fault>
     ensures answers { AnswersWith S.taken S.failed
@@ -77,6 +90,7 @@ fn answer_bundle<S: Sink>(
     let mut traffic = Octets::new(bundle.traffic);
     let mut third = LineReader::new(alloc, Octets::new(bundle.third))?;
     let command = bundle.command;
+    explainer.on_bundle(command);
     let answer = answer_texts(
         alloc,
         seed,
@@ -84,8 +98,10 @@ fn answer_bundle<S: Sink>(
         &mut network,
         &mut traffic,
         &mut third,
+        explainer,
         sink,
     );
+    explainer.on_answered_text(bundle.third);
     never_fails(&third);
     answer
 }
@@ -113,9 +129,33 @@ pub fn bundle_bytes<B: Source, S: Sink>(
         ⊎ MayHaveLeft (B.left bundle.old) (λ octets. IsRefusedBundle octets e)))) }
     ensures answers { AnswersWith S.taken S.failed IsBundleText sink.old sink.new result }
 {
+    bundle_explained(alloc, seed, bundle, &mut Unexplained, sink)
+}
+
+/// Does what [`bundle_bytes`] does, and lends the explainer what it knows.
+pub fn bundle_explained<B: Source, E: Explainer, S: Sink>(
+    alloc: Global,
+    seed: Seed,
+    bundle: &mut B,
+    explainer: &mut E,
+    sink: &mut S,
+) -> Result<Answer, Fault>
+    ensures ok { IfOk result (λ answer. MayHaveLeft (B.left bundle.old) (λ octets.
+        (command : Command) × (network : List ℕ) × (traffic : List ℕ) × (third : List ℕ)
+        × IsBundle octets command network traffic third
+        × Prints (IsDone command network traffic (lines_in third) answer)
+        (S.taken sink.old) (S.taken sink.new))) }
+    ensures err { IfErr result (λ e. IsMemory e
+        ⊎ (CannotRead B.left B.calls B.failed bundle.old bundle.new e
+        ⊎ (IsWriteFault (S.failed sink.new) e
+        ⊎ MayHaveLeft (B.left bundle.old) (λ octets. IsRefusedBundle octets e)))) }
+    ensures answers { AnswersWith S.taken S.failed IsBundleText sink.old sink.new result }
+{
     let octets = read_whole(alloc, bundle)?;
     let Some(bundle) = read_bundle(octets.as_slice()) else {
-        return Err(Fault::bare(refusals::SCHEDULE_OR_BUNDLE));
+        let fault = Fault::bare(refusals::SCHEDULE_OR_BUNDLE);
+        explainer.on_refused_bundle(octets.as_slice(), &fault);
+        return Err(fault);
     };
-    answer_bundle(alloc, seed, &bundle, sink)
+    answer_bundle(alloc, seed, &bundle, explainer, sink)
 }

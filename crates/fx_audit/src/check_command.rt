@@ -11,16 +11,32 @@ ghost use Rattle.fx_audit.specs.Texts.{IsCheckText};
 ghost use Rattle.fx_audit.specs.declared.answer.Answer.TheVariants.{Yes, No};
 
 use crate::answer::{Answer, answer_refusal};
-use crate::document::{Documents, read_documents};
-use fx_base::{Fault, LineReader, Sink, Source, put_text, refusals};
-use fx_check::check;
+use crate::document::{AcceptedDocuments, read_documents};
+use crate::explainer::{Explainer, Unexplained};
+use fx_base::{Fault, Line, LineReader, Sink, Source, put_text, refusals};
+use fx_check::{CheckWatch, Due, check_watched};
 use std::alloc::Global;
 
+/// Lends an explainer where a certificate is refused.
+#[derive(Drop)]
+struct Refusal<'a, E> {
+    documents: &'a AcceptedDocuments,
+    explainer: &'a mut E,
+}
+
+impl<E: Explainer> CheckWatch for Refusal<'_, E> {
+    fn on_refused(&mut self, due: &Due<'_>, line: Option<&Line<'_>>, fault: &Fault) {
+        self.explainer
+            .on_refused_certificate(self.documents, due, line, fault);
+    }
+}
+
 /// Checks the certificate that a reader's lines say, and writes the answer.
-fn check_lines<C: Source, S: Sink>(
+fn check_lines<C: Source, E: Explainer, S: Sink>(
     alloc: Global,
-    documents: &Documents,
+    documents: &AcceptedDocuments,
     certificate: &mut LineReader<C>,
+    explainer: &mut E,
     sink: &mut S,
 ) -> Result<Answer, Fault>
     ensures answer { IfOk result (λ answer. (answer ≡ Yes) ⊎ (answer ≡ No)) }
@@ -33,7 +49,17 @@ fn check_lines<C: Source, S: Sink>(
         ⊎ IsRefusedCertificate documents.now.plan documents.now.traffic certificate.old e))) }
     ensures numbers { IfErr result (IsUnanswered certificate.old) }
 {
-    match check(alloc, &documents.plan, &documents.traffic, certificate) {
+    let mut refusal = Refusal {
+        documents,
+        explainer,
+    };
+    match check_watched(
+        alloc,
+        &documents.plan,
+        &documents.traffic,
+        certificate,
+        &mut refusal,
+    ) {
         Ok(()) => {
             put_text(sink, b"yes\n")?;
             Ok(Answer::Yes)
@@ -81,6 +107,36 @@ pub fn check_bytes<N: Source, T: Source, C: Source, S: Sink>(
     ensures untouched { IfDocumentsRefused (N.left network.old) (T.left traffic.old)
         (certificate.new ≡ certificate.old) }
 {
-    let documents = read_documents(alloc, network, traffic)?;
-    check_lines(alloc, &documents, certificate, sink)
+    check_explained(alloc, network, traffic, certificate, &mut Unexplained, sink)
+}
+
+/// Does what [`check_bytes`] does, and lends the explainer what it knows.
+pub fn check_explained<N: Source, T: Source, C: Source, E: Explainer, S: Sink>(
+    alloc: Global,
+    network: &mut N,
+    traffic: &mut T,
+    certificate: &mut LineReader<C>,
+    explainer: &mut E,
+    sink: &mut S,
+) -> Result<Answer, Fault>
+    ensures answer { IfOk result (λ answer. (answer ≡ Yes) ⊎ (answer ≡ No)) }
+    // Yes: each packet is counted once.
+    ensures ok { IfOk result (λ answer.
+        BothMayHaveLeft (N.left network.old) (T.left traffic.old) (λ n t.
+        Prints (IsChecked n t certificate.old answer) (S.taken sink.old) (S.taken sink.new))) }
+    ensures err { IfErr result (FailsBy (CannotRead N.left N.calls N.failed network.old network.new)
+        (CannotRead T.left T.calls T.failed traffic.old traffic.new)
+        (Fails certificate.old certificate.new) (S.failed sink.new)
+        (λ e. BothMayHaveLeft (N.left network.old) (T.left traffic.old)
+        (λ n t. IsRefusedCheck n t certificate.old e))) }
+    // 401 to 415, with the line, are answered no. Once the certificate is read, what isn't answered is 900 to 903.
+    ensures numbers { IfErr result (λ e. (certificate.new ≡ certificate.old)
+        ⊎ IsUnanswered certificate.old e) }
+    ensures answers { AnswersWith S.taken S.failed IsCheckText sink.old sink.new result }
+    ensures order { IfNetworkRefused (N.left network.old) (traffic.new ≡ traffic.old) }
+    ensures untouched { IfDocumentsRefused (N.left network.old) (T.left traffic.old)
+        (certificate.new ≡ certificate.old) }
+{
+    let documents = read_documents(alloc, network, traffic, explainer)?;
+    check_lines(alloc, &documents, certificate, explainer, sink)
 }

@@ -11,8 +11,10 @@ ghost use Rattle.fx_audit.specs.declared.answer.Answer.TheVariants.{Yes};
 use crate::answer::Answer;
 use crate::collecting::collect;
 use crate::document::network_from;
+use crate::explainer::{Explainer, Unexplained};
 use fx_base::{Fault, Sink, Source};
 use fx_layout::Seed;
+use fx_session::{SessionWatch, Unwatched};
 use std::alloc::Global;
 
 /// Reads a network document, collects an IPFIX stream at the network's report and writes the totals of its flow
@@ -42,6 +44,40 @@ pub fn collect_bytes<N: Source, R: Source, S: Sink>(
     ensures answers { AnswersWith S.taken S.failed IsCollectText sink.old sink.new result }
     ensures untouched { IfNetworkRefused (N.left network.old) (stream.new ≡ stream.old) }
 {
-    let plan = network_from(alloc, network)?;
-    collect(alloc, seed, plan.net(), stream, sink)
+    collect_explained(
+        alloc,
+        seed,
+        network,
+        stream,
+        &mut Unexplained,
+        &mut Unwatched,
+        sink,
+    )
+}
+
+/// Does what [`collect_bytes`] does, lends the explainer what it knows, and reports to `watch` what the stream's messages
+/// say and under which layout they are tallied.
+pub fn collect_explained<N: Source, R: Source, E: Explainer, W: SessionWatch, S: Sink>(
+    alloc: Global,
+    seed: Seed,
+    network: &mut N,
+    stream: &mut R,
+    explainer: &mut E,
+    watch: &mut W,
+    sink: &mut S,
+) -> Result<Answer, Fault>
+    ensures ok { IfOk result (λ answer. (answer ≡ Yes)
+        × BothMayHaveLeft (N.left network.old) (R.left stream.old) (λ n octets.
+        Prints (IsCollected n octets) (S.taken sink.old) (S.taken sink.new))) }
+    ensures err { IfErr result (λ e. IsMemory e
+        ⊎ (CannotRead N.left N.calls N.failed network.old network.new e
+        ⊎ (CannotRead R.left R.calls R.failed stream.old stream.new e
+        ⊎ (IsWriteFault (S.failed sink.new) e
+        ⊎ BothMayHaveLeft (N.left network.old) (R.left stream.old)
+        (λ n octets. IsRefusedCollect n octets e))))) }
+    ensures answers { AnswersWith S.taken S.failed IsCollectText sink.old sink.new result }
+    ensures untouched { IfNetworkRefused (N.left network.old) (stream.new ≡ stream.old) }
+{
+    let plan = network_from(alloc, network, explainer)?;
+    collect(alloc, seed, plan.net(), stream, watch, sink)
 }

@@ -15,7 +15,7 @@ use crate::answer::Answer;
 use fx_base::{Fault, PieceReader, Sink, Source, refusals};
 use fx_collect::{Totals, put_number_line};
 use fx_layout::Seed;
-use fx_session::Session;
+use fx_session::{Session, SessionWatch};
 use fx_tables::Net;
 use std::alloc::Global;
 
@@ -33,7 +33,12 @@ fn tally_waiting(session: &mut Session, totals: &mut Totals) -> Result<(), Fault
 }
 
 /// Reads on with a piece of a stream, and tallies the records that it completes.
-fn take_piece(session: &mut Session, totals: &mut Totals, piece: &[u8]) -> Result<(), Fault>
+fn take_piece<W: SessionWatch>(
+    session: &mut Session,
+    totals: &mut Totals,
+    piece: &[u8],
+    watch: &mut W,
+) -> Result<(), Fault>
     requires { session.old.fault ≡ None }
     ensures session { OnOk result (session.new
         ≡ without_waiting (streams.after_piece session.old piece.now)) }
@@ -44,15 +49,16 @@ fn take_piece(session: &mut Session, totals: &mut Totals, piece: &[u8]) -> Resul
         ⊎ (streams.answer_of (streams.after_piece session.old piece.now).place
         (streams.after_piece session.old piece.now).fault ≡ Err e)) }
 {
-    session.feed(piece)?;
+    session.feed_watched(piece, watch)?;
     tally_waiting(session, totals)
 }
 
 /// Reads a stream to its end, piece by piece, and tallies its records.
-fn tally_stream<R: Source>(
+fn tally_stream<R: Source, W: SessionWatch>(
     session: &mut Session,
     totals: &mut Totals,
     stream: &mut R,
+    watch: &mut W,
 ) -> Result<(), Fault>
     requires { session.old ≡ streams.start }
     ensures ok { OnOk result (MayHaveLeft (R.left stream.old)
@@ -64,7 +70,7 @@ fn tally_stream<R: Source>(
 {
     let mut pieces = PieceReader::new();
     'pieces: while pieces.advance(stream)? {
-        take_piece(session, totals, pieces.piece())?;
+        take_piece(session, totals, pieces.piece(), watch)?;
     }
     Ok(())
 }
@@ -88,10 +94,11 @@ fn put_collected<S: Sink>(session: &Session, totals: &mut Totals, sink: &mut S) 
 }
 
 /// Reads a stream to its end, tallies its records, and writes what was collected.
-fn collect_by<R: Source, S: Sink>(
+fn collect_by<R: Source, W: SessionWatch, S: Sink>(
     session: &mut Session,
     totals: &mut Totals,
     stream: &mut R,
+    watch: &mut W,
     sink: &mut S,
 ) -> Result<Answer, Fault>
     requires { session.old ≡ streams.start }
@@ -106,8 +113,9 @@ fn collect_by<R: Source, S: Sink>(
         ⊎ MayHaveLeft (R.left stream.old) (λ octets. IsRefusedStream (stream_read octets) e)))) }
     ensures answers { AnswersWith S.taken S.failed IsCollectText sink.old sink.new result }
 {
-    tally_stream(session, totals, stream)?;
+    tally_stream(session, totals, stream, watch)?;
     if session.left() > 0 {
+        watch.on_unfinished(session.place(), session.unfinished());
         return Err(Fault::at_octet(refusals::MESSAGE_LENGTH, session.place()));
     }
     put_collected(session, totals, sink)?;
@@ -115,10 +123,11 @@ fn collect_by<R: Source, S: Sink>(
 }
 
 /// Collects a stream into totals, and writes them.
-fn collect_into<R: Source, S: Sink>(
+fn collect_into<R: Source, W: SessionWatch, S: Sink>(
     alloc: Global,
     totals: &mut Totals,
     stream: &mut R,
+    watch: &mut W,
     sink: &mut S,
 ) -> Result<Answer, Fault>
     ensures ok { IfOk result (λ answer. (answer ≡ Yes)
@@ -133,22 +142,24 @@ fn collect_into<R: Source, S: Sink>(
     ensures answers { AnswersWith S.taken S.failed IsCollectText sink.old sink.new result }
 {
     let mut session = Session::new(alloc)?;
-    collect_by(&mut session, totals, stream, sink)
+    collect_by(&mut session, totals, stream, watch, sink)
 }
 
 /// Tallies the flow records of an IPFIX stream under the keys of a network's report, and writes the totals and the
 /// numbers of gaps and of skipped records. The stream is read in pieces; of what was read, its templates, the
-/// unfinished message and the totals are kept, which hash keys by the seed.
+/// unfinished message and the totals are kept, which hash keys by the seed. What its messages say, and under which layout
+/// they are tallied, is reported to `watch`; what is returned and written is the same for every observer.
 ///
 /// Fails, at the first octet of a message, with 611 to 620 where the message is refused (see [`Session::feed`]) and
 /// with 612 where the stream ends inside it; at no place, with 901 where a read fails or the stream hasn't ended after
 /// 4,294,967,296 calls, with 900 for want of memory and 902 where a write fails. Nothing is written before the stream
 /// has ended and its totals are in order.
-pub fn collect<R: Source, S: Sink>(
+pub fn collect<R: Source, W: SessionWatch, S: Sink>(
     alloc: Global,
     seed: Seed,
     net: &Net,
     stream: &mut R,
+    watch: &mut W,
     sink: &mut S,
 ) -> Result<Answer, Fault>
     ensures ok { IfOk result (λ answer. (answer ≡ Yes)
@@ -162,5 +173,6 @@ pub fn collect<R: Source, S: Sink>(
     ensures answers { AnswersWith S.taken S.failed IsCollectText sink.old sink.new result }
 {
     let mut totals = Totals::new(alloc, seed, net.report_layout().copy())?;
-    collect_into(alloc, &mut totals, stream, sink)
+    watch.on_layout(net.report_layout());
+    collect_into(alloc, &mut totals, stream, watch, sink)
 }

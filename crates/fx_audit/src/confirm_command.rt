@@ -1,12 +1,13 @@
 //! The command that confirms a refutation, from octets to octets.
-ghost use Rattle.std.specs.Prelude.{◌≡◌, ◌⊎◌, Ok, IfOk, IfErr, OnOk};
+ghost use Rattle.std.specs.Prelude.{◌≡◌, ◌⊎◌, Ok, Err, IfOk, IfErr, OnOk};
 ghost use Rattle.fx_base.specs.Device.{IsWriteFault, PutsText, Writes};
 ghost use Rattle.fx_base.specs.Fault.{IsMemory};
 ghost use Rattle.fx_base.specs.Lines.{Fails};
 ghost use Rattle.fx_collect.specs.Report.{KeysAscend};
 ghost use Rattle.fx_plan.specs.Tables.{net_of};
 ghost use Rattle.fx_refute.specs.RefutationReading.{MayReadRefutation};
-ghost use Rattle.fx_refute.specs.Refutations.{AreTotals, Refutation, Refutes};
+ghost use Rattle.fx_refute.specs.Refutations.{AreTotals, IsNoRefutation, Refutes};
+ghost use Rattle.fx_refute.specs.Refutations as refutations;
 ghost use Rattle.fx_audit.specs.Commands.{IsConfirmed, IsRefusedConfirm};
 ghost use Rattle.fx_audit.specs.Confirms.{IsConfirmedIn, IsInOrder, IsRefusedOtherwise, IsRefusedRefutation, IsRefuted, printed_refusal, refuted_text};
 ghost use Rattle.fx_audit.specs.Documents.{BothMayHaveLeft, CannotRead, IfDocumentsRefused, IfNetworkRefused};
@@ -15,19 +16,99 @@ ghost use Rattle.fx_audit.specs.Texts.{IsConfirmText};
 ghost use Rattle.fx_audit.specs.declared.answer.Answer.TheVariants.{Yes, No};
 
 use crate::answer::{Answer, answer_refusal};
-use crate::document::{Documents, read_documents};
+use crate::document::{AcceptedDocuments, read_documents};
+use crate::explainer::{Explainer, Unexplained};
 use fx_base::{Fault, LineReader, Sink, Source, put_text, refusals};
 use fx_collect::Totals;
-use fx_refute::{confirm, read_refutation};
+use fx_machine::{State, StepWatch};
+use fx_refute::{Refutation, confirm_watched, read_refutation};
+use fx_run_text::Step;
 use std::alloc::Global;
 
-/// The totals of the run of the refutation that a reader's lines say, and the plain sums over its packet.
-fn confirm_said<C: Source>(
+/// Reads the refutation that a reader's lines say. The explainer gets the line where it is refused.
+fn read_lent<C: Source, E: Explainer>(
     alloc: Global,
-    documents: &Documents,
-    refutation: &mut LineReader<C>,
+    documents: &AcceptedDocuments,
+    lines: &mut LineReader<C>,
+    explainer: &mut E,
+) -> Result<Refutation, Fault>
+    ensures ok { IfOk result (λ r. MayReadRefutation lines.old (Ok r)) }
+    ensures err { IfErr result (λ e. IsMemory e
+        ⊎ (Fails lines.old lines.new e ⊎ MayReadRefutation lines.old (Err e))) }
+{
+    let read = read_refutation(alloc, lines);
+    if let Err(fault) = &read {
+        explainer.on_refused_line(documents, &lines.line(), fault);
+    }
+    read
+}
+
+/// Lends an explainer the state in which the run of a refutation stops.
+#[derive(Drop)]
+struct Stop<'a, E> {
+    documents: &'a AcceptedDocuments,
+    refutation: &'a Refutation,
+    explainer: &'a mut E,
+}
+
+impl<E: Explainer> StepWatch for Stop<'_, E> {
+    fn on_refused_step(&mut self, state: &State<'_>, _step: &Step, number: u64, fault: &Fault) {
+        self.explainer
+            .on_refused_refutation(self.documents, self.refutation, state, number, fault);
+    }
+
+    fn on_last_state(&mut self, state: &State<'_>) {
+        self.explainer
+            .on_unconfirmed(self.documents, self.refutation, state);
+    }
+}
+
+/// Confirms a refutation. The explainer gets it, with where its run stops if it refutes nothing.
+fn confirm_lent<E: Explainer>(
+    alloc: Global,
+    documents: &AcceptedDocuments,
+    refutation: &Refutation,
+    explainer: &mut E,
 ) -> Result<(Totals, Totals), Fault>
-    ensures ok { IfOk result (λ t. (said : Refutation)
+    ensures refutes { OnOk result (Refutes
+        (net_of documents.now.plan) documents.now.traffic refutation.now) }
+    ensures totals { IfOk result (λ t.
+        AreTotals (net_of documents.now.plan) documents.now.traffic refutation.now t.0 t.1) }
+    ensures err { IfErr result (λ e. IsMemory e
+        ⊎ IsNoRefutation (net_of documents.now.plan) documents.now.traffic refutation.now e) }
+{
+    let mut stop = Stop {
+        documents,
+        refutation,
+        explainer: &mut *explainer,
+    };
+    let confirmed = confirm_watched(
+        alloc,
+        &documents.plan,
+        &documents.traffic,
+        refutation,
+        &mut stop,
+    );
+    drop(stop);
+    match &confirmed {
+        Ok(_) => explainer.on_refutation(documents, refutation),
+        Err(fault) => {
+            if fault.number == refusals::REFUTATION_PACKET {
+                explainer.on_refused_packet(documents, refutation);
+            }
+        }
+    }
+    confirmed
+}
+
+/// The totals of the run of the refutation that a reader's lines say, and the plain sums over its packet.
+fn confirm_said<C: Source, E: Explainer>(
+    alloc: Global,
+    documents: &AcceptedDocuments,
+    refutation: &mut LineReader<C>,
+    explainer: &mut E,
+) -> Result<(Totals, Totals), Fault>
+    ensures ok { IfOk result (λ t. (said : refutations.Refutation)
         × MayReadRefutation refutation.old (Ok said)
         × Refutes (net_of documents.now.plan) documents.now.traffic said
         × AreTotals (net_of documents.now.plan) documents.now.traffic said t.0 t.1) }
@@ -35,8 +116,8 @@ fn confirm_said<C: Source>(
         ⊎ (Fails refutation.old refutation.new e
         ⊎ IsRefusedRefutation documents.now.plan documents.now.traffic refutation.old e)) }
 {
-    let said = read_refutation(alloc, refutation)?;
-    confirm(alloc, &documents.plan, &documents.traffic, &said)
+    let said = read_lent(alloc, documents, refutation, explainer)?;
+    confirm_lent(alloc, documents, &said, explainer)
 }
 
 /// Puts the keys of both totals in ascending order.
@@ -52,10 +133,11 @@ fn sort_both(ran: &mut Totals, plain: &mut Totals) -> Result<(), Fault>
 
 /// The totals of the run of the refutation that a reader's lines say, and the plain sums over its packet, both with
 /// their keys in ascending order.
-fn totals_of_refutation<C: Source>(
+fn totals_of_refutation<C: Source, E: Explainer>(
     alloc: Global,
-    documents: &Documents,
+    documents: &AcceptedDocuments,
     refutation: &mut LineReader<C>,
+    explainer: &mut E,
 ) -> Result<(Totals, Totals), Fault>
     ensures ok { IfOk result (λ t.
         IsRefuted documents.now.plan documents.now.traffic refutation.old t.0 t.1) }
@@ -63,7 +145,7 @@ fn totals_of_refutation<C: Source>(
         ⊎ (Fails refutation.old refutation.new e
         ⊎ IsRefusedRefutation documents.now.plan documents.now.traffic refutation.old e)) }
 {
-    let (mut ran, mut plain) = confirm_said(alloc, documents, refutation)?;
+    let (mut ran, mut plain) = confirm_said(alloc, documents, refutation, explainer)?;
     sort_both(&mut ran, &mut plain)?;
     Ok((ran, plain))
 }
@@ -105,10 +187,11 @@ fn without_place_of_form(fault: Fault) -> Fault
 }
 
 /// Confirms the refutation that a reader's lines say, and writes the answer.
-fn confirm_lines<C: Source, S: Sink>(
+fn confirm_lines<C: Source, E: Explainer, S: Sink>(
     alloc: Global,
-    documents: &Documents,
+    documents: &AcceptedDocuments,
     refutation: &mut LineReader<C>,
+    explainer: &mut E,
     sink: &mut S,
 ) -> Result<Answer, Fault>
     ensures answer { IfOk result (λ answer. (answer ≡ Yes) ⊎ (answer ≡ No)) }
@@ -120,7 +203,7 @@ fn confirm_lines<C: Source, S: Sink>(
         ⊎ (IsWriteFault (S.failed sink.new) e
         ⊎ IsRefusedOtherwise documents.now.plan documents.now.traffic refutation.old e))) }
 {
-    match totals_of_refutation(alloc, documents, refutation) {
+    match totals_of_refutation(alloc, documents, refutation, explainer) {
         Ok((ran, plain)) => answer_refuted(sink, &ran, &plain),
         Err(fault) => answer_refusal(
             sink,
@@ -163,6 +246,33 @@ pub fn confirm_bytes<N: Source, T: Source, C: Source, S: Sink>(
     ensures untouched { IfDocumentsRefused (N.left network.old) (T.left traffic.old)
         (refutation.new ≡ refutation.old) }
 {
-    let documents = read_documents(alloc, network, traffic)?;
-    confirm_lines(alloc, &documents, refutation, sink)
+    confirm_explained(alloc, network, traffic, refutation, &mut Unexplained, sink)
+}
+
+/// Does what [`confirm_bytes`] does, and lends the explainer what it knows.
+pub fn confirm_explained<N: Source, T: Source, C: Source, E: Explainer, S: Sink>(
+    alloc: Global,
+    network: &mut N,
+    traffic: &mut T,
+    refutation: &mut LineReader<C>,
+    explainer: &mut E,
+    sink: &mut S,
+) -> Result<Answer, Fault>
+    ensures answer { IfOk result (λ answer. (answer ≡ Yes) ⊎ (answer ≡ No)) }
+    // Yes: not every complete run counts each packet exactly once.
+    ensures ok { IfOk result (λ answer.
+        BothMayHaveLeft (N.left network.old) (T.left traffic.old) (λ n t.
+        Prints (IsConfirmed n t refutation.old answer) (S.taken sink.old) (S.taken sink.new))) }
+    ensures err { IfErr result (FailsBy (CannotRead N.left N.calls N.failed network.old network.new)
+        (CannotRead T.left T.calls T.failed traffic.old traffic.new)
+        (Fails refutation.old refutation.new) (S.failed sink.new)
+        (λ e. BothMayHaveLeft (N.left network.old) (T.left traffic.old)
+        (λ n t. IsRefusedConfirm n t refutation.old e))) }
+    ensures answers { AnswersWith S.taken S.failed IsConfirmText sink.old sink.new result }
+    ensures order { IfNetworkRefused (N.left network.old) (traffic.new ≡ traffic.old) }
+    ensures untouched { IfDocumentsRefused (N.left network.old) (T.left traffic.old)
+        (refutation.new ≡ refutation.old) }
+{
+    let documents = read_documents(alloc, network, traffic, explainer)?;
+    confirm_lines(alloc, &documents, refutation, explainer, sink)
 }

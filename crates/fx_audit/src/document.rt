@@ -7,10 +7,13 @@ ghost use Rattle.fx_base.specs.Fault.{fault_at, IsMemory};
 ghost use Rattle.fx_base.specs.declared.fault.Fault.{Fault};
 ghost use Rattle.fx_base.specs.declared.fault.Place.TheVariants as places;
 ghost use Rattle.fx_base.specs.Refusals.{not_json};
+ghost use Rattle.fx_plan.specs.Plans.{ReadsPlan};
+ghost use Rattle.fx_walk.specs.Walk.{Reads};
 ghost use Rattle.fx_topology.specs.Networks.{device_names};
-ghost use Rattle.fx_traffic.specs.Classes.{traffic_faults};
+ghost use Rattle.fx_traffic.specs.Classes.{traffic_faults, traffic_of};
 ghost use Rattle.fx_audit.specs.Documents.{BothMayHaveLeft, CannotRead, IfNetworkRefused, IsFirstFault, IsJson, IsNetworkDocument, IsRefusedByDocuments, IsRefusedNetwork, IsTraffic};
 
+use crate::explainer::Explainer;
 use fx_base::{Fault, Source, read_whole, refusals};
 use fx_plan::{Plan, read_plan};
 use fx_traffic::{Traffic, read_traffic};
@@ -36,16 +39,97 @@ fn value_of(alloc: Global, octets: &[u8]) -> Result<Value, Fault>
     }
 }
 
+/// Returns the network that the value of the JSON text `octets` describes, and reports the outcome to the explainer.
+///
+/// Fails as [`read_plan`] does.
+fn plan_from<E: Explainer>(
+    alloc: Global,
+    octets: &[u8],
+    value: &Value,
+    explainer: &mut E,
+) -> Result<Plan, Fault>
+    ensures { ReadsPlan (view value.now) result }
+{
+    let read = read_plan(alloc, value);
+    match &read {
+        Ok(plan) => explainer.on_network(octets, plan),
+        Err(fault) => explainer.on_refused_network(octets, fault),
+    }
+    read
+}
+
+/// The value that the octets of a network's document are the text of. The explainer gets the octets where they are
+/// none.
+///
+/// Fails as [`value_of`] does.
+fn network_value<E: Explainer>(
+    alloc: Global,
+    octets: &[u8],
+    explainer: &mut E,
+) -> Result<Value, Fault>
+    ensures ok { IfOk result (λ value. IsJson octets.now (view value)) }
+    ensures err { IfErr result (λ e. IsMemory e
+        ⊎ ((e ≡ fault_at not_json places.None) × ((d : Data) → IsJson octets.now d → ⊥))) }
+{
+    let read = value_of(alloc, octets);
+    if let Err(fault) = &read {
+        explainer.on_refused_network(octets, fault);
+    }
+    read
+}
+
+/// The value that the octets of a traffic declaration are the text of. The explainer gets the octets where they are
+/// none.
+///
+/// Fails as [`value_of`] does.
+fn traffic_value<E: Explainer>(
+    alloc: Global,
+    octets: &[u8],
+    plan: &Plan,
+    explainer: &mut E,
+) -> Result<Value, Fault>
+    ensures ok { IfOk result (λ value. IsJson octets.now (view value)) }
+    ensures err { IfErr result (λ e. IsMemory e
+        ⊎ ((e ≡ fault_at not_json places.None) × ((d : Data) → IsJson octets.now d → ⊥))) }
+{
+    let read = value_of(alloc, octets);
+    if let Err(fault) = &read {
+        explainer.on_refused_traffic(octets, plan, fault);
+    }
+    read
+}
+
+/// Returns the traffic that the value of the JSON text `octets` describes, and reports the outcome to the explainer.
+///
+/// Fails as [`read_traffic`] does.
+fn classes_from<E: Explainer>(
+    alloc: Global,
+    octets: &[u8],
+    value: &Value,
+    plan: &Plan,
+    explainer: &mut E,
+) -> Result<Traffic, Fault>
+    ensures { Reads (traffic_faults (device_names plan.now) [] (view value.now))
+        (traffic_of (device_names plan.now) (view value.now)) result }
+{
+    let read = read_traffic(alloc, value, plan);
+    match &read {
+        Ok(traffic) => explainer.on_traffic(octets, plan, traffic),
+        Err(fault) => explainer.on_refused_traffic(octets, plan, fault),
+    }
+    read
+}
+
 /// What the two documents say.
-pub struct Documents {
+pub struct AcceptedDocuments {
     /// The network.
     pub plan: Plan,
     /// The traffic that crosses it.
     pub traffic: Traffic,
 }
 
-impl Drop for Documents {
-    /// Lets its parts go: proved once, and one call wherever one is let go.
+impl Drop for AcceptedDocuments {
+    /// Takes it apart in one place.
     fn drop(self) {
         let Self {
             plan: _,
@@ -58,7 +142,11 @@ impl Drop for Documents {
 ///
 /// Fails with 101, at no place, where they are no JSON text; as [`read_plan`] does; with 901, at no place, where
 /// a read fails or the source hasn't ended after 4,294,967,296 calls; and with 900 for want of memory.
-pub(crate) fn network_from<R: Source>(alloc: Global, source: &mut R) -> Result<Plan, Fault>
+pub(crate) fn network_from<R: Source, E: Explainer>(
+    alloc: Global,
+    source: &mut R,
+    explainer: &mut E,
+) -> Result<Plan, Fault>
     ensures ok { IfOk result (λ plan. MayHaveLeft (R.left source.old)
         (λ octets. IsNetworkDocument octets plan)) }
     ensures err { IfErr result (λ e. IsMemory e
@@ -66,14 +154,19 @@ pub(crate) fn network_from<R: Source>(alloc: Global, source: &mut R) -> Result<P
         ⊎ MayHaveLeft (R.left source.old) (λ octets. IsRefusedNetwork octets e))) }
 {
     let octets = read_whole(alloc, source)?;
-    let value = value_of(alloc, octets.as_slice())?;
-    read_plan(alloc, &value)
+    let value = network_value(alloc, octets.as_slice(), explainer)?;
+    plan_from(alloc, octets.as_slice(), &value, explainer)
 }
 
 /// The traffic that a source's octets are the declaration of, in a network.
 ///
 /// Fails as [`network_from`] does, but as [`read_traffic`] in place of [`read_plan`].
-fn traffic_from<R: Source>(alloc: Global, source: &mut R, plan: &Plan) -> Result<Traffic, Fault>
+fn traffic_from<R: Source, E: Explainer>(
+    alloc: Global,
+    source: &mut R,
+    plan: &Plan,
+    explainer: &mut E,
+) -> Result<Traffic, Fault>
     ensures ok { IfOk result (λ traffic. MayHaveLeft (R.left source.old)
         (λ octets. IsTraffic plan.now octets traffic)) }
     ensures err { IfErr result (λ e. IsMemory e
@@ -82,19 +175,20 @@ fn traffic_from<R: Source>(alloc: Global, source: &mut R, plan: &Plan) -> Result
         (traffic_faults (device_names plan.now) []) octets e))) }
 {
     let octets = read_whole(alloc, source)?;
-    let value = value_of(alloc, octets.as_slice())?;
-    read_traffic(alloc, &value, plan)
+    let value = traffic_value(alloc, octets.as_slice(), plan, explainer)?;
+    classes_from(alloc, octets.as_slice(), &value, plan, explainer)
 }
 
 /// Reads the network's document and then, where it is accepted, the declaration of its traffic.
 ///
 /// Fails, at the first fault, with 101 at no place, or as [`read_plan`] and [`read_traffic`] do; with 901, at no
 /// place, where a read fails or a source hasn't ended after 4,294,967,296 calls; and with 900 for want of memory.
-pub fn read_documents<N: Source, T: Source>(
+pub(crate) fn read_documents<N: Source, T: Source, E: Explainer>(
     alloc: Global,
     network: &mut N,
     traffic: &mut T,
-) -> Result<Documents, Fault>
+    explainer: &mut E,
+) -> Result<AcceptedDocuments, Fault>
     ensures network { IfOk result (λ documents. MayHaveLeft (N.left network.old)
         (λ octets. IsNetworkDocument octets documents.plan)) }
     ensures traffic { IfOk result (λ documents. MayHaveLeft (T.left traffic.old)
@@ -106,7 +200,7 @@ pub fn read_documents<N: Source, T: Source>(
         (λ n t. IsRefusedByDocuments n t e)))) }
     ensures order { IfNetworkRefused (N.left network.old) (traffic.new ≡ traffic.old) }
 {
-    let plan = network_from(alloc, network)?;
-    let traffic = traffic_from(alloc, traffic, &plan)?;
-    Ok(Documents { plan, traffic })
+    let plan = network_from(alloc, network, explainer)?;
+    let traffic = traffic_from(alloc, traffic, &plan, explainer)?;
+    Ok(AcceptedDocuments { plan, traffic })
 }

@@ -10,6 +10,7 @@ ghost use Rattle.fx_audit.specs.declared.answer.Answer.TheVariants.{Yes};
 
 use crate::answer::Answer;
 use crate::document::{network_from, read_documents};
+use crate::explainer::{Explainer, Unexplained};
 use fx_base::{Fault, Sink, Source, put_text};
 use std::alloc::Global;
 
@@ -33,7 +34,26 @@ pub fn lint_bytes<N: Source, S: Sink>(
         ⊎ MayHaveLeft (N.left network.old) (λ n. IsRefusedNetwork n e)))) }
     ensures answers { AnswersWith S.taken S.failed IsLintText sink.old sink.new result }
 {
-    network_from(alloc, network)?;
+    lint_explained(alloc, network, &mut Unexplained, sink)
+}
+
+/// Does what [`lint_bytes`] does, and lends the explainer what it knows.
+pub fn lint_explained<N: Source, E: Explainer, S: Sink>(
+    alloc: Global,
+    network: &mut N,
+    explainer: &mut E,
+    sink: &mut S,
+) -> Result<Answer, Fault>
+    ensures ok { IfOk result (λ answer. (answer ≡ Yes)
+        × MayHaveLeft (N.left network.old) (λ n.
+        Prints (IsLinted n) (S.taken sink.old) (S.taken sink.new))) }
+    ensures err { IfErr result (λ e. IsMemory e
+        ⊎ (CannotRead N.left N.calls N.failed network.old network.new e
+        ⊎ (IsWriteFault (S.failed sink.new) e
+        ⊎ MayHaveLeft (N.left network.old) (λ n. IsRefusedNetwork n e)))) }
+    ensures answers { AnswersWith S.taken S.failed IsLintText sink.old sink.new result }
+{
+    network_from(alloc, network, explainer)?;
     put_text(sink, b"ok\n")?;
     Ok(Answer::Yes)
 }
@@ -63,7 +83,30 @@ pub fn lint_both_bytes<N: Source, T: Source, S: Sink>(
     ensures answers { AnswersWith S.taken S.failed IsLintText sink.old sink.new result }
     ensures order { IfNetworkRefused (N.left network.old) (traffic.new ≡ traffic.old) }
 {
-    read_documents(alloc, network, traffic)?;
+    lint_both_explained(alloc, network, traffic, &mut Unexplained, sink)
+}
+
+/// Does what [`lint_both_bytes`] does, and lends the explainer what it knows.
+pub fn lint_both_explained<N: Source, T: Source, E: Explainer, S: Sink>(
+    alloc: Global,
+    network: &mut N,
+    traffic: &mut T,
+    explainer: &mut E,
+    sink: &mut S,
+) -> Result<Answer, Fault>
+    ensures ok { IfOk result (λ answer. (answer ≡ Yes)
+        × BothMayHaveLeft (N.left network.old) (T.left traffic.old) (λ n t.
+        Prints (AreLinted n t) (S.taken sink.old) (S.taken sink.new))) }
+    ensures err { IfErr result (λ e. IsMemory e
+        ⊎ (CannotRead N.left N.calls N.failed network.old network.new e
+        ⊎ (CannotRead T.left T.calls T.failed traffic.old traffic.new e
+        ⊎ (IsWriteFault (S.failed sink.new) e
+        ⊎ BothMayHaveLeft (N.left network.old) (T.left traffic.old)
+        (λ n t. IsRefusedByDocuments n t e))))) }
+    ensures answers { AnswersWith S.taken S.failed IsLintText sink.old sink.new result }
+    ensures order { IfNetworkRefused (N.left network.old) (traffic.new ≡ traffic.old) }
+{
+    read_documents(alloc, network, traffic, explainer)?;
     put_text(sink, b"ok\n")?;
     Ok(Answer::Yes)
 }

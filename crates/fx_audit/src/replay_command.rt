@@ -10,18 +10,20 @@ ghost use Rattle.fx_audit.specs.Texts.{IsReplayText};
 ghost use Rattle.fx_audit.specs.declared.answer.Answer.TheVariants.{Yes};
 
 use crate::answer::Answer;
-use crate::document::{Documents, read_documents};
+use crate::document::{AcceptedDocuments, read_documents};
+use crate::explainer::{Explainer, Unexplained};
 use crate::replaying::replay;
 use fx_base::{Fault, LineReader, Sink, Source};
 use fx_layout::Seed;
 use std::alloc::Global;
 
 /// Replays the run that a reader's lines say, and writes the text of its last state.
-fn replay_lines<R: Source, S: Sink>(
+fn replay_lines<R: Source, E: Explainer, S: Sink>(
     alloc: Global,
     seed: Seed,
-    documents: &Documents,
+    documents: &AcceptedDocuments,
     run: &mut LineReader<R>,
+    explainer: &mut E,
     sink: &mut S,
 ) -> Result<Answer, Fault>
     ensures ok { IfOk result (λ answer. (answer ≡ Yes)
@@ -34,7 +36,16 @@ fn replay_lines<R: Source, S: Sink>(
     ensures quiet { FailsQuietly S.failed sink.old sink.new result }
 {
     let classes = documents.traffic.classes();
-    replay(alloc, seed, documents.plan.net(), classes, run, sink)
+    replay(
+        alloc,
+        seed,
+        documents,
+        documents.plan.net(),
+        classes,
+        run,
+        explainer,
+        sink,
+    )
 }
 
 /// Reads a network document, a traffic declaration and the text of a run, replays the run and writes the
@@ -65,6 +76,32 @@ pub fn replay_bytes<N: Source, T: Source, R: Source, S: Sink>(
     ensures untouched { IfDocumentsRefused (N.left network.old) (T.left traffic.old)
         (run.new ≡ run.old) }
 {
-    let documents = read_documents(alloc, network, traffic)?;
-    replay_lines(alloc, seed, &documents, run, sink)
+    replay_explained(alloc, seed, network, traffic, run, &mut Unexplained, sink)
+}
+
+/// Does what [`replay_bytes`] does, and lends the explainer what it knows.
+pub fn replay_explained<N: Source, T: Source, R: Source, E: Explainer, S: Sink>(
+    alloc: Global,
+    seed: Seed,
+    network: &mut N,
+    traffic: &mut T,
+    run: &mut LineReader<R>,
+    explainer: &mut E,
+    sink: &mut S,
+) -> Result<Answer, Fault>
+    ensures ok { IfOk result (λ answer. (answer ≡ Yes)
+        × BothMayHaveLeft (N.left network.old) (T.left traffic.old) (λ n t.
+        Prints (IsReplayed n t run.old) (S.taken sink.old) (S.taken sink.new))) }
+    ensures err { IfErr result (FailsBy (CannotRead N.left N.calls N.failed network.old network.new)
+        (CannotRead T.left T.calls T.failed traffic.old traffic.new)
+        (Fails run.old run.new) (S.failed sink.new)
+        (λ e. BothMayHaveLeft (N.left network.old) (T.left traffic.old)
+        (λ n t. IsRefusedReplay n t run.old e))) }
+    ensures answers { AnswersWith S.taken S.failed IsReplayText sink.old sink.new result }
+    ensures order { IfNetworkRefused (N.left network.old) (traffic.new ≡ traffic.old) }
+    ensures untouched { IfDocumentsRefused (N.left network.old) (T.left traffic.old)
+        (run.new ≡ run.old) }
+{
+    let documents = read_documents(alloc, network, traffic, explainer)?;
+    replay_lines(alloc, seed, &documents, run, explainer, sink)
 }

@@ -14,6 +14,8 @@ ghost use Rattle.fx_audit.specs.Replay.{complete_line, CannotReplay, ComesTo, Is
 ghost use Rattle.fx_audit.specs.declared.answer.Answer.TheVariants.{Yes};
 
 use crate::answer::Answer;
+use crate::document::AcceptedDocuments;
+use crate::explainer::Explainer;
 use fx_base::{Fault, LineReader, Sink, Source, put_text, refusals};
 use fx_collect::Totals;
 use fx_layout::Seed;
@@ -26,10 +28,13 @@ use std::alloc::Global;
 ///
 /// Fails with 900, at no place, where memory runs out.
 #[inline(always)]
-fn make_step(
+fn make_step<E: Explainer>(
+    documents: &AcceptedDocuments,
     state: &mut State<'_>,
     step: &Step,
+    line: u64,
     refused: Option<Fault>,
+    explainer: &mut E,
 ) -> Result<Option<Fault>, Fault>
     ensures tables { (state.new.net ≡ state.old.net) × (state.new.classes ≡ state.old.classes)
         × (state.new.packets ≡ state.old.packets) }
@@ -48,12 +53,14 @@ fn make_step(
     if refused.is_some() {
         return Ok(refused);
     }
+    explainer.on_step(step);
     match state.step(step) {
         Ok(()) => Ok(None),
         Err(fault) => {
             if fault.number == refusals::WANT_OF_MEMORY {
                 Err(fault)
             } else {
+                explainer.on_refused_step(documents, state, step, line, &fault);
                 Ok(Some(fault))
             }
         }
@@ -65,11 +72,13 @@ fn make_step(
 ///
 /// Fails, where the lines say no run, as [`fx_run_text::read_run`]; else, at no place, with the number of the first step
 /// that is refused (851, 853, 852); and with 900 as soon as memory runs out.
-fn last_state<'a, R: Source>(
+fn last_state<'a, R: Source, E: Explainer>(
     alloc: Global,
+    documents: &AcceptedDocuments,
     net: &'a Net,
     classes: &'a Classes,
     lines: &mut LineReader<R>,
+    explainer: &mut E,
 ) -> Result<State<'a>, Fault>
     ensures ok { IfOk result (λ state. (state.net ≡ net.now) × ((last : states.State)
         × ComesTo net.now classes.now lines.old last
@@ -89,7 +98,14 @@ fn last_state<'a, R: Source>(
         let Some(step) = next else {
             break;
         };
-        refused = make_step(&mut state, &step, refused)?;
+        refused = make_step(
+            documents,
+            &mut state,
+            &step,
+            lines.number(),
+            refused,
+            explainer,
+        )?;
         drop(step);
         next = read_next_step(alloc, version, lines)?;
     }
@@ -97,6 +113,29 @@ fn last_state<'a, R: Source>(
         Some(fault) => Err(fault),
         None => Ok(state),
     }
+}
+
+/// Does what [`last_state`] does, and lends the explainer the state, or the last line that was read and the refusal.
+fn lent_state<'a, R: Source, E: Explainer>(
+    alloc: Global,
+    documents: &AcceptedDocuments,
+    net: &'a Net,
+    classes: &'a Classes,
+    lines: &mut LineReader<R>,
+    explainer: &mut E,
+) -> Result<State<'a>, Fault>
+    ensures ok { IfOk result (λ state. (state.net ≡ net.now) × ((last : states.State)
+        × ComesTo net.now classes.now lines.old last
+        × (state.state ≡ states.told_state last))) }
+    ensures err { IfErr result (λ e. IsMemory e
+        ⊎ (Fails lines.old lines.new e ⊎ CannotReplay net.now classes.now lines.old e)) }
+{
+    let state = last_state(alloc, documents, net, classes, lines, explainer);
+    match &state {
+        Ok(state) => explainer.on_last_state(documents, state),
+        Err(fault) => explainer.on_refused_line(documents, &lines.line(), fault),
+    }
+    state
 }
 
 /// Writes the line that says whether a run is complete.
@@ -152,12 +191,14 @@ fn put_state<S: Sink>(
 /// Fails, where the lines say no run, as [`fx_run_text::read_run`]; else, at no place, with the number of the first step
 /// that is refused (851, 853, 852), with 900 for want of memory and with 902 where a write fails. Nothing is written
 /// before the last state is known and its totals are in order.
-pub fn replay<R: Source, S: Sink>(
+pub fn replay<R: Source, E: Explainer, S: Sink>(
     alloc: Global,
     seed: Seed,
+    documents: &AcceptedDocuments,
     net: &Net,
     classes: &Classes,
     lines: &mut LineReader<R>,
+    explainer: &mut E,
     sink: &mut S,
 ) -> Result<Answer, Fault>
     ensures ok { IfOk result (λ answer. (answer ≡ Yes) × ((last : states.State)
@@ -170,7 +211,7 @@ pub fn replay<R: Source, S: Sink>(
         ⊎ CannotReplay net.now classes.now lines.old e))) }
     ensures quiet { FailsQuietly S.failed sink.old sink.new result }
 {
-    let state = last_state(alloc, net, classes, lines)?;
+    let state = lent_state(alloc, documents, net, classes, lines, explainer)?;
     // For the prover alone: the report's layout fits its axes.
     let _layout = net.report_layout();
     put_state(alloc, seed, &state, sink)?;

@@ -5,7 +5,7 @@ ghost use Rattle.fx_base.specs.Fault.{IsMemory};
 ghost use Rattle.fx_base.specs.declared.fault.Fault.{Fault};
 ghost use Rattle.fx_pcap.specs.Captures.{IsUnreadable};
 ghost use Rattle.fx_pcap.specs.Records.{format_of};
-ghost use Rattle.fx_net.specs.Running.{FailsOutside};
+ghost use Rattle.fx_net.specs.Running.{FailsOutside, RefusesRun, RunsTo, begun};
 ghost use Rattle.fx_audit.specs.Documents.{BothMayHaveLeft, CannotRead, IfDocumentsRefused, IfNetworkRefused};
 ghost use Rattle.fx_audit.specs.Metering.{IsMetered, IsMeteredIn, IsMeteredText, IsRun, skipped_line, IsRefusedOver, IsRefusedMetering, IsStateOfSource};
 ghost use Rattle.fx_audit.specs.Outputs.{AnswersWith, FailsQuietly, Prints};
@@ -13,7 +13,8 @@ ghost use Rattle.fx_audit.specs.Texts.{IsRunText};
 ghost use Rattle.fx_audit.specs.declared.answer.Answer.TheVariants.{Yes};
 
 use crate::answer::Answer;
-use crate::document::{Documents, read_documents};
+use crate::document::{AcceptedDocuments, read_documents};
+use crate::explainer::{Explainer, PacketAt, Unexplained};
 use fx_base::{Fault, LineReader, Sink, Source, put_number, put_text};
 use fx_collect::{Totals, put_number_line};
 use fx_conform::plans_are_sound;
@@ -30,14 +31,53 @@ struct Metered {
     skipped: Skipped,
 }
 
-/// Opens a capture, and runs a network over it as the lines of a schedule say.
-fn meter<C: Source, Q: Source, L: Links>(
+/// Runs a network over a capture, as [`run`] does. The explainer gets where it is refused.
+fn run_lent<C: Source, Q: Source, L: Links, E: Explainer>(
     alloc: Global,
     seed: Seed,
-    documents: &Documents,
+    documents: &AcceptedDocuments,
+    capture: &mut Capture<C>,
+    schedule: &mut LineReader<Q>,
+    links: &mut L,
+    explainer: &mut E,
+) -> Result<Totals, Fault>
+    ensures ok { IfOk result (λ totals.
+        RunsTo (begun documents.now.plan documents.now.traffic) capture.old capture.new
+        schedule.old schedule.new (L.put_on links.old) (L.put_on links.new) totals) }
+    ensures going { OnOk result (KeepsGoing (L.failed links.old) (L.failed links.new)) }
+    ensures err { IfErr result (λ e. FailsOutside (L.failed links.new) e
+        ⊎ RefusesRun (begun documents.now.plan documents.now.traffic) capture.old capture.new
+        schedule.old schedule.new (L.put_on links.old) e) }
+{
+    let outcome = run(
+        alloc,
+        seed,
+        &documents.plan,
+        &documents.traffic,
+        capture,
+        schedule,
+        links,
+    );
+    if let Err(fault) = &outcome {
+        let at = PacketAt {
+            frame: capture.frame(),
+            packets: capture.packets(),
+            skipped: capture.skipped(),
+        };
+        explainer.on_refused_metering(documents, &schedule.line(), &at, fault);
+    }
+    outcome
+}
+
+/// Opens a capture, and runs a network over it as the lines of a schedule say.
+fn meter<C: Source, Q: Source, L: Links, E: Explainer>(
+    alloc: Global,
+    seed: Seed,
+    documents: &AcceptedDocuments,
     capture: C,
     schedule: &mut LineReader<Q>,
     links: &mut L,
+    explainer: &mut E,
 ) -> Result<Metered, Fault>
     ensures ok { IfOk result (λ metered. IsRun documents.now.plan documents.now.traffic
         (C.left capture) (C.calls capture) schedule.old schedule.new (L.put_on links.old)
@@ -52,14 +92,14 @@ fn meter<C: Source, Q: Source, L: Links>(
         → format_of c ≡ Err e → (schedule.new ≡ schedule.old) × (links.new ≡ links.old)) }
 {
     let mut capture = Capture::new(alloc, capture)?;
-    let outcome = run(
+    let outcome = run_lent(
         alloc,
         seed,
-        &documents.plan,
-        &documents.traffic,
+        documents,
         &mut capture,
         schedule,
         links,
+        explainer,
     );
     // For the prover alone: the contract speaks of the source after the run.
     capture.get_ref();
@@ -102,13 +142,14 @@ fn put_metered<S: Sink>(metered: Metered, sink: &mut S) -> Result<(), Fault>
 }
 
 /// Runs a network over a capture, and writes the text of what it has metered.
-fn run_capture<C: Source, Q: Source, L: Links, S: Sink>(
+fn run_capture<C: Source, Q: Source, L: Links, E: Explainer, S: Sink>(
     alloc: Global,
     seed: Seed,
-    documents: &Documents,
+    documents: &AcceptedDocuments,
     capture: C,
     schedule: &mut LineReader<Q>,
     links: &mut L,
+    explainer: &mut E,
     sink: &mut S,
 ) -> Result<Answer, Fault>
     ensures ok { IfOk result (λ answer. (answer ≡ Yes)
@@ -125,7 +166,7 @@ fn run_capture<C: Source, Q: Source, L: Links, S: Sink>(
         → format_of c ≡ Err e → (schedule.new ≡ schedule.old) × (links.new ≡ links.old)) }
     ensures quiet { FailsQuietly S.failed sink.old sink.new result }
 {
-    let metered = meter(alloc, seed, documents, capture, schedule, links)?;
+    let metered = meter(alloc, seed, documents, capture, schedule, links, explainer)?;
     put_metered(metered, sink)?;
     Ok(Answer::Yes)
 }
@@ -170,7 +211,54 @@ pub fn run_bytes<N: Source, T: Source, C: Source, Q: Source, L: Links, S: Sink>(
     ensures unopened { IfSome (C.left capture.old) (λ c. (e : Fault)
         → format_of c ≡ Err e → (schedule.new ≡ schedule.old) × (links.new ≡ links.old)) }
 {
-    let documents = read_documents(alloc, network, traffic)?;
+    run_explained(
+        alloc,
+        seed,
+        network,
+        traffic,
+        capture,
+        schedule,
+        links,
+        &mut Unexplained,
+        sink,
+    )
+}
+
+/// Does what [`run_bytes`] does, and lends the explainer what it knows.
+pub fn run_explained<N: Source, T: Source, C: Source, Q: Source, L: Links, E: Explainer, S: Sink>(
+    alloc: Global,
+    seed: Seed,
+    network: &mut N,
+    traffic: &mut T,
+    capture: &mut C,
+    schedule: &mut LineReader<Q>,
+    links: &mut L,
+    explainer: &mut E,
+    sink: &mut S,
+) -> Result<Answer, Fault>
+    ensures ok { IfOk result (λ answer. (answer ≡ Yes)
+        × BothMayHaveLeft (N.left network.old) (T.left traffic.old) (λ n t.
+        Prints (IsMetered n t (C.left capture.old) (C.calls capture.old) schedule.old schedule.new
+        (L.put_on links.old) (L.put_on links.new)) (S.taken sink.old) (S.taken sink.new))) }
+    ensures links_going { OnOk result (KeepsGoing (L.failed links.old) (L.failed links.new)) }
+    ensures err { IfErr result (λ e. FailsOutside (L.failed links.new) e
+        ⊎ (CannotRead N.left N.calls N.failed network.old network.new e
+        ⊎ (CannotRead T.left T.calls T.failed traffic.old traffic.new e
+        ⊎ (IsWriteFault (S.failed sink.new) e
+        ⊎ BothMayHaveLeft (N.left network.old) (T.left traffic.old) (λ n t. IsRefusedMetering n t
+        (C.left capture.old) (C.calls capture.old) (IsUnreadable C.calls C.failed
+        (C.left capture.old) (C.calls capture.old)) (IsStateOfSource C.calls C.failed)
+        schedule.old schedule.new (L.put_on links.old) e))))) }
+    ensures answers { AnswersWith S.taken S.failed IsRunText sink.old sink.new result }
+    ensures order { IfNetworkRefused (N.left network.old) (traffic.new ≡ traffic.old) }
+    ensures untouched { IfDocumentsRefused (N.left network.old) (T.left traffic.old)
+        ((capture.new ≡ capture.old) × (schedule.new ≡ schedule.old) × (links.new ≡ links.old)) }
+    ensures unopened { IfSome (C.left capture.old) (λ c. (e : Fault)
+        → format_of c ≡ Err e → (schedule.new ≡ schedule.old) × (links.new ≡ links.old)) }
+{
+    let documents = read_documents(alloc, network, traffic, explainer)?;
     plans_are_sound(&documents.plan);
-    run_capture(alloc, seed, &documents, capture, schedule, links, sink)
+    run_capture(
+        alloc, seed, &documents, capture, schedule, links, explainer, sink,
+    )
 }

@@ -1,8 +1,9 @@
 //! The command that adds up totals, from octets to octets.
-ghost use Rattle.std.specs.Prelude.{◌≡◌, ◌⊎◌, IfOk, IfErr};
+ghost use Rattle.std.specs.Prelude.{◌≡◌, ◌⊎◌, Ok, Err, IfOk, IfErr, OnOk};
 ghost use Rattle.fx_base.specs.Device.{IsWriteFault, MayHaveLeft};
 ghost use Rattle.fx_base.specs.Fault.{IsMemory};
 ghost use Rattle.fx_base.specs.Lines.{Fails};
+ghost use Rattle.fx_sums.specs.SumReading.{MayGive, Refuses, sum_of_texts};
 ghost use Rattle.fx_sums.specs.Sums.{no_sum};
 ghost use Rattle.fx_audit.specs.Documents.{CannotRead, IfNetworkRefused};
 ghost use Rattle.fx_audit.specs.Outputs.{AnswersWith, FailsQuietly, Prints};
@@ -12,6 +13,7 @@ ghost use Rattle.fx_audit.specs.declared.answer.Answer.TheVariants.{Yes};
 
 use crate::answer::Answer;
 use crate::document::network_from;
+use crate::explainer::{Explainer, Unexplained};
 use fx_base::{Fault, LineReader, Sink, Source};
 use fx_layout::{Layout, Seed};
 use fx_sums::Sum;
@@ -30,10 +32,32 @@ fn put_sum<S: Sink>(sum: &mut Sum, sink: &mut S) -> Result<Answer, Fault>
     Ok(Answer::Yes)
 }
 
-/// Adds the texts of totals that a reader's lines say to a sum of none, and writes what they come to.
-fn sum_into<R: Source, S: Sink>(
+/// Adds the texts of totals that a reader's lines say to a sum. The explainer gets the line where one is refused.
+///
+/// Fails as [`Sum::add_texts`] does.
+fn add_lent<R: Source, E: Explainer>(
     sum: &mut Sum,
+    key: &Layout,
     texts: &mut LineReader<R>,
+    explainer: &mut E,
+) -> Result<(), Fault>
+    ensures ok { OnOk result (MayGive (sum_of_texts sum.old) texts.old (Ok sum.new)) }
+    ensures err { IfErr result (λ e. IsMemory e
+        ⊎ Refuses (sum_of_texts sum.old) texts.old texts.new e) }
+{
+    let added = sum.add_texts(texts);
+    if let Err(fault) = &added {
+        explainer.on_refused_totals(key, &texts.line(), fault);
+    }
+    added
+}
+
+/// Adds the texts of totals that a reader's lines say to a sum of none, and writes what they come to.
+fn sum_into<R: Source, E: Explainer, S: Sink>(
+    sum: &mut Sum,
+    key: &Layout,
+    texts: &mut LineReader<R>,
+    explainer: &mut E,
     sink: &mut S,
 ) -> Result<Answer, Fault>
     requires { sum.old ≡ no_sum sum.old.totals.layout }
@@ -46,16 +70,17 @@ fn sum_into<R: Source, S: Sink>(
         ⊎ IsRefusedTotals sum.old.totals.layout texts.old e))) }
     ensures quiet { FailsQuietly S.failed sink.old sink.new result }
 {
-    sum.add_texts(texts)?;
+    add_lent(sum, key, texts, explainer)?;
     put_sum(sum, sink)
 }
 
 /// Adds up the texts of totals under a layout's keys that a reader's lines say, and writes the sum.
-fn sum_lines<R: Source, S: Sink>(
+fn sum_lines<R: Source, E: Explainer, S: Sink>(
     alloc: Global,
     seed: Seed,
     layout: &Layout,
     texts: &mut LineReader<R>,
+    explainer: &mut E,
     sink: &mut S,
 ) -> Result<Answer, Fault>
     ensures ok { IfOk result (λ answer. (answer ≡ Yes)
@@ -67,7 +92,7 @@ fn sum_lines<R: Source, S: Sink>(
     ensures quiet { FailsQuietly S.failed sink.old sink.new result }
 {
     let mut sum = Sum::new(alloc, seed, layout.copy())?;
-    sum_into(&mut sum, texts, sink)
+    sum_into(&mut sum, layout, texts, explainer, sink)
 }
 
 /// Reads a network document, adds up texts of totals under the key of its report, one or more, one directly behind
@@ -96,6 +121,36 @@ pub fn sum_bytes<N: Source, R: Source, S: Sink>(
     ensures answers { AnswersWith S.taken S.failed IsSumText sink.old sink.new result }
     ensures untouched { IfNetworkRefused (N.left network.old) (texts.new ≡ texts.old) }
 {
-    let plan = network_from(alloc, network)?;
-    sum_lines(alloc, seed, plan.net().report_layout(), texts, sink)
+    sum_explained(alloc, seed, network, texts, &mut Unexplained, sink)
+}
+
+/// Does what [`sum_bytes`] does, and lends the explainer what it knows.
+pub fn sum_explained<N: Source, R: Source, E: Explainer, S: Sink>(
+    alloc: Global,
+    seed: Seed,
+    network: &mut N,
+    texts: &mut LineReader<R>,
+    explainer: &mut E,
+    sink: &mut S,
+) -> Result<Answer, Fault>
+    ensures ok { IfOk result (λ answer. (answer ≡ Yes)
+        × MayHaveLeft (N.left network.old) (λ n.
+        Prints (IsSummed n texts.old) (S.taken sink.old) (S.taken sink.new))) }
+    ensures err { IfErr result (λ e. IsMemory e
+        ⊎ (CannotRead N.left N.calls N.failed network.old network.new e
+        ⊎ (Fails texts.old texts.new e
+        ⊎ (IsWriteFault (S.failed sink.new) e
+        ⊎ MayHaveLeft (N.left network.old) (λ n. IsRefusedSum n texts.old e))))) }
+    ensures answers { AnswersWith S.taken S.failed IsSumText sink.old sink.new result }
+    ensures untouched { IfNetworkRefused (N.left network.old) (texts.new ≡ texts.old) }
+{
+    let plan = network_from(alloc, network, explainer)?;
+    sum_lines(
+        alloc,
+        seed,
+        plan.net().report_layout(),
+        texts,
+        explainer,
+        sink,
+    )
 }

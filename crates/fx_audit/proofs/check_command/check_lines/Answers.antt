@@ -8,11 +8,11 @@ returns-in_err-put_text-in-Ok-clause-numbers g c =
 
 pub returns-in-Err-clause-answers : goal.returns-in-Err-clause-answers
 returns-in-Err-clause-answers g c =
-    (certificate_answered c.args.documents.now.plan c.args.documents.now.traffic c.args.certificate.now c.check.new.lines c.in-Err.fault _ _ c.answer_refusal.result c.in-Err.ensures.err c.in-Err.ensures.numbers c.answer_refusal.ensures.ok, c.answer_refusal.ensures.quiet)
+    (certificate_answered c.args.documents.now.plan c.args.documents.now.traffic c.args.certificate.now c.check_watched.new.lines c.in-Err.fault _ _ c.answer_refusal.result c.in-Err.ensures.err c.in-Err.ensures.numbers c.answer_refusal.ensures.ok, c.answer_refusal.ensures.quiet)
 
 pub returns-in-Err-clause-err : goal.returns-in-Err-clause-err
 returns-in-Err-clause-err g c =
-    certificate_refused c.args.documents.now.plan c.args.documents.now.traffic c.args.certificate.now c.check.new.lines c.in-Err.fault _ c.answer_refusal.result c.in-Err.ensures.err c.answer_refusal.ensures.err
+    certificate_refused c.args.documents.now.plan c.args.documents.now.traffic c.args.certificate.now c.check_watched.new.lines c.in-Err.fault _ c.answer_refusal.result c.in-Err.ensures.err c.answer_refusal.ensures.err
 
 pub returns-in-Err-clause-numbers : goal.returns-in-Err-clause-numbers
 returns-in-Err-clause-numbers g c =

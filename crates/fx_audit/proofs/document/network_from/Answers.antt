@@ -5,11 +5,11 @@ use Rattle.fx_audit.proofs.document.network_from.Goals as goal
 
 pub returns-clause-ok : goal.returns-clause-ok
 returns-clause-ok g c =
-    network_read (g.R.Source.left c.args.source.now) c.in_ok-octets.octets.items c.as_slice.result.now (view c.in_ok-value.value) c.in_ok-octets.ensures.all c.as_slice.ensures.value c.in_ok-value.ensures.ok c.read_plan.result c.read_plan.ensures
+    network_read (g.R.Source.left c.args.source.now) c.in_ok-octets.octets.items c.as_slice.result.now (view c.in_ok-value.value) c.in_ok-octets.ensures.all c.as_slice.ensures.value c.in_ok-value.ensures.ok c.plan_from.result c.plan_from.ensures
 
 pub returns-clause-err : goal.returns-clause-err
 returns-clause-err g c =
-    network_refused (g.R.Source.left c.args.source.now) c.in_ok-octets.octets.items c.as_slice.result.now (view c.in_ok-value.value) (λ e. ReadFails (g.R.Source.left c.args.source.now) (g.R.Source.calls c.args.source.now) (g.R.Source.calls c.read_whole.new.source) (g.R.Source.failed c.read_whole.new.source) e) c.in_ok-octets.ensures.all c.as_slice.ensures.value c.in_ok-value.ensures.ok c.read_plan.result c.read_plan.ensures
+    network_refused (g.R.Source.left c.args.source.now) c.in_ok-octets.octets.items c.as_slice.result.now (view c.in_ok-value.value) (λ e. ReadFails (g.R.Source.left c.args.source.now) (g.R.Source.calls c.args.source.now) (g.R.Source.calls c.read_whole.new.source) (g.R.Source.failed c.read_whole.new.source) e) c.in_ok-octets.ensures.all c.as_slice.ensures.value c.in_ok-value.ensures.ok c.plan_from.result c.plan_from.ensures
 
 pub returns-in_err-value-clause-err : goal.returns-in_err-value-clause-err
 returns-in_err-value-clause-err g c =

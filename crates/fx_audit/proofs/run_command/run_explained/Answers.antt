@@ -3,7 +3,7 @@ use Rattle.fx_audit.proofs.Collects.{documents_faultless}
 use Rattle.fx_audit.proofs.Documents.{exit_with}
 use Rattle.fx_audit.proofs.Metering.{run_done, run_refused, run_unread}
 use Rattle.fx_audit.proofs.Texts.{yes_told_as}
-use Rattle.fx_audit.proofs.run_command.run_bytes.Goals as goal
+use Rattle.fx_audit.proofs.run_command.run_explained.Goals as goal
 
 pub returns-clause-ok : goal.returns-clause-ok
 returns-clause-ok g c =

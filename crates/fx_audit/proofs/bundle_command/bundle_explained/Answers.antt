@@ -1,11 +1,11 @@
 use Rattle.std.proofs.Common.{inr}
 use Rattle.fx_audit.proofs.Commands.{bundle_done, bundle_refused, no_bundle}
 use Rattle.fx_audit.proofs.Texts.{bundle_text, told_as}
-use Rattle.fx_audit.proofs.bundle_command.bundle_bytes.Goals as goal
+use Rattle.fx_audit.proofs.bundle_command.bundle_explained.Goals as goal
 
 pub returns-in_default-clause-err : goal.returns-in_default-clause-err
 returns-in_default-clause-err g c =
-    inr (inr (inr (no_bundle (g.B.Source.left c.args.bundle.now) c.in_ok-octets.octets.items c.as_slice.result.now c.bare.result c.in_ok-octets.ensures.all c.as_slice.ensures.value c.bare.ensures c.in_default.ensures.none)))
+    inr (inr (inr (no_bundle (g.B.Source.left c.args.bundle.now) c.in_ok-octets.octets.items c.as_slice.result.now c.bare-fault.result c.in_ok-octets.ensures.all c.as_slice.ensures.value c.bare-fault.ensures c.in_default.ensures.none)))
 
 pub returns-clause-ok : goal.returns-clause-ok
 returns-clause-ok g c =

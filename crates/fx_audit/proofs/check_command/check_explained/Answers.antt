@@ -3,7 +3,7 @@ use Rattle.fx_audit.proofs.Checks.{or_unanswered}
 use Rattle.fx_audit.proofs.Collects.{documents_faultless, network_faultless}
 use Rattle.fx_audit.proofs.Documents.{documents_done, documents_refused, documents_unread, exit_with}
 use Rattle.fx_audit.proofs.Texts.{check_text, told_as}
-use Rattle.fx_audit.proofs.check_command.check_bytes.Goals as goal
+use Rattle.fx_audit.proofs.check_command.check_explained.Goals as goal
 
 pub returns-clause-ok : goal.returns-clause-ok
 returns-clause-ok g c =

@@ -2,7 +2,7 @@ use Rattle.fx_audit.specs.Confirms.{IsConfirmedIn, IsRefusedOtherwise}
 use Rattle.fx_audit.proofs.Collects.{documents_faultless, network_faultless}
 use Rattle.fx_audit.proofs.Documents.{documents_done, documents_refused, documents_unread, exit_with}
 use Rattle.fx_audit.proofs.Texts.{confirm_text, told_as}
-use Rattle.fx_audit.proofs.confirm_command.confirm_bytes.Goals as goal
+use Rattle.fx_audit.proofs.confirm_command.confirm_explained.Goals as goal
 
 pub returns-clause-ok : goal.returns-clause-ok
 returns-clause-ok g c =

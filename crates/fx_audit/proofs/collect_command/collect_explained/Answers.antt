@@ -1,6 +1,6 @@
 use Rattle.fx_audit.proofs.Collects.{collect_done, collect_refused, collect_unread, network_faultless}
 use Rattle.fx_audit.proofs.Documents.{exit_with}
-use Rattle.fx_audit.proofs.collect_command.collect_bytes.Goals as goal
+use Rattle.fx_audit.proofs.collect_command.collect_explained.Goals as goal
 
 pub returns-clause-ok : goal.returns-clause-ok
 returns-clause-ok g c =

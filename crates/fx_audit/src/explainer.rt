@@ -1,0 +1,191 @@
+//! What a command lends to whoever explains its answer.
+
+use crate::bundle::Command;
+use crate::document::AcceptedDocuments;
+use fx_base::{Fault, Line};
+use fx_check::Due;
+use fx_layout::Layout;
+use fx_machine::State;
+use fx_pcap::{Frame, Skipped};
+use fx_plan::Plan;
+use fx_refute::Refutation;
+use fx_run_text::Step;
+use fx_traffic::Traffic;
+
+/// Where a run over a capture is: at the last packet that was read.
+#[derive(Clone, Copy, Drop)]
+pub struct PacketAt<'a> {
+    /// The packet.
+    pub frame: Frame<'a>,
+    /// How many packets were read, with this one. Where it is 0, none was read.
+    pub packets: u64,
+    /// The frames that were skipped.
+    pub skipped: Skipped,
+}
+
+/// Gets what a command knows when it answers or refuses, while the command still has it. Methods get shared references
+/// and return nothing, and no clause about an answer names the explainer, so an answer is the same whoever explains it.
+pub trait Explainer: Drop {
+    /// The network's document was accepted.
+    fn on_network(&mut self, octets: &[u8], plan: &Plan);
+
+    /// The network's document was refused.
+    fn on_refused_network(&mut self, octets: &[u8], fault: &Fault);
+
+    /// The traffic's declaration was accepted.
+    fn on_traffic(&mut self, octets: &[u8], plan: &Plan, traffic: &Traffic);
+
+    /// The traffic's declaration was refused in this network.
+    fn on_refused_traffic(&mut self, octets: &[u8], plan: &Plan, fault: &Fault);
+
+    /// A certificate was refused: what the line had to be, and the line, which is none where the text ends before it.
+    fn on_refused_certificate(
+        &mut self,
+        documents: &AcceptedDocuments,
+        due: &Due<'_>,
+        line: Option<&Line<'_>>,
+        fault: &Fault,
+    );
+
+    /// An audit found this refutation, or a confirmation confirmed it.
+    fn on_refutation(&mut self, documents: &AcceptedDocuments, refutation: &Refutation);
+
+    /// The text of a run or of a refutation was refused. The line is the last one that was read.
+    fn on_refused_line(&mut self, documents: &AcceptedDocuments, line: &Line<'_>, fault: &Fault);
+
+    /// A refutation was read, and its packet isn't in its class.
+    fn on_refused_packet(&mut self, documents: &AcceptedDocuments, refutation: &Refutation);
+
+    /// A step of a refutation was refused in this state, the one after the steps before it. Steps count from 1.
+    fn on_refused_refutation(
+        &mut self,
+        documents: &AcceptedDocuments,
+        refutation: &Refutation,
+        state: &State<'_>,
+        number: u64,
+        fault: &Fault,
+    );
+
+    /// The run of a refutation came to this state, and isn't complete or has the plain sums.
+    fn on_unconfirmed(
+        &mut self,
+        documents: &AcceptedDocuments,
+        refutation: &Refutation,
+        last: &State<'_>,
+    );
+
+    /// A step of a run is about to be made.
+    fn on_step(&mut self, step: &Step);
+
+    /// A step of a run was refused in this state. The line is that of the step, from 1.
+    fn on_refused_step(
+        &mut self,
+        documents: &AcceptedDocuments,
+        state: &State<'_>,
+        step: &Step,
+        line: u64,
+        fault: &Fault,
+    );
+
+    /// A run that was replayed came to this state.
+    fn on_last_state(&mut self, documents: &AcceptedDocuments, state: &State<'_>);
+
+    /// A run over a capture was refused. The line is the last one of the schedule that was read.
+    fn on_refused_metering(
+        &mut self,
+        documents: &AcceptedDocuments,
+        line: &Line<'_>,
+        at: &PacketAt<'_>,
+        fault: &Fault,
+    );
+
+    /// A text of totals under this key was refused. The line is the last one that was read.
+    fn on_refused_totals(&mut self, key: &Layout, line: &Line<'_>, fault: &Fault);
+
+    /// Octets are a bundle, which has this command.
+    fn on_bundle(&mut self, command: Command);
+
+    /// The command of a bundle has answered that reads this text, line by line, after the documents.
+    fn on_answered_text(&mut self, text: &[u8]);
+
+    /// Octets are no bundle.
+    fn on_refused_bundle(&mut self, octets: &[u8], fault: &Fault);
+}
+
+/// Explains nothing.
+#[derive(Debug, Drop)]
+pub struct Unexplained;
+
+impl Explainer for Unexplained {
+    fn on_network(&mut self, _octets: &[u8], _plan: &Plan) {}
+
+    fn on_refused_network(&mut self, _octets: &[u8], _fault: &Fault) {}
+
+    fn on_traffic(&mut self, _octets: &[u8], _plan: &Plan, _traffic: &Traffic) {}
+
+    fn on_refused_traffic(&mut self, _octets: &[u8], _plan: &Plan, _fault: &Fault) {}
+
+    fn on_refused_certificate(
+        &mut self,
+        _documents: &AcceptedDocuments,
+        _due: &Due<'_>,
+        _line: Option<&Line<'_>>,
+        _fault: &Fault,
+    ) {}
+
+    fn on_refutation(&mut self, _documents: &AcceptedDocuments, _refutation: &Refutation) {}
+
+    fn on_refused_line(
+        &mut self,
+        _documents: &AcceptedDocuments,
+        _line: &Line<'_>,
+        _fault: &Fault,
+    ) {}
+
+    fn on_refused_packet(&mut self, _documents: &AcceptedDocuments, _refutation: &Refutation) {}
+
+    fn on_refused_refutation(
+        &mut self,
+        _documents: &AcceptedDocuments,
+        _refutation: &Refutation,
+        _state: &State<'_>,
+        _number: u64,
+        _fault: &Fault,
+    ) {}
+
+    fn on_unconfirmed(
+        &mut self,
+        _documents: &AcceptedDocuments,
+        _refutation: &Refutation,
+        _last: &State<'_>,
+    ) {}
+
+    fn on_step(&mut self, _step: &Step) {}
+
+    fn on_refused_step(
+        &mut self,
+        _documents: &AcceptedDocuments,
+        _state: &State<'_>,
+        _step: &Step,
+        _line: u64,
+        _fault: &Fault,
+    ) {}
+
+    fn on_last_state(&mut self, _documents: &AcceptedDocuments, _state: &State<'_>) {}
+
+    fn on_refused_metering(
+        &mut self,
+        _documents: &AcceptedDocuments,
+        _line: &Line<'_>,
+        _at: &PacketAt<'_>,
+        _fault: &Fault,
+    ) {}
+
+    fn on_refused_totals(&mut self, _key: &Layout, _line: &Line<'_>, _fault: &Fault) {}
+
+    fn on_bundle(&mut self, _command: Command) {}
+
+    fn on_answered_text(&mut self, _text: &[u8]) {}
+
+    fn on_refused_bundle(&mut self, _octets: &[u8], _fault: &Fault) {}
+}
