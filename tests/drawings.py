@@ -149,6 +149,25 @@ def unlike(graph, network):
                 yield f"{node}: the report or not"
 
 
+def unseen_of(network, traffic):
+    """The crossings that no observation point sees, by the nodes' names of their paths: the lines of each."""
+    points = {}
+    for device in network["devices"]:
+        points[device["name"]] = device["config"]["ietf-ipfix-psamp:ipfix"].get("observationPoint", [])
+    found = {}
+    for c, one in enumerate(traffic["classes"], 1):
+        for p, path in enumerate(one["paths"], 1):
+            lines = []
+            for x, crossing in enumerate(path, 1):
+                interface, direction = crossing["interface"], crossing["direction"]
+                sees = (it for it in points[crossing["device"]] if interface in it.get("ifName", []))
+                if not any(it.get("direction", "both") in ("both", direction) for it in sees):
+                    lines.append(f"crossing {x}: {shown(crossing['device'])} {shown(interface)} {direction}")
+            if lines:
+                found[f"unseen{c}_{p}_0"] = ["no observation point", *lines]
+    return found
+
+
 def leaves(certificate):
     """The places that a certificate's leaves name, each once: class, path, crossing, point and process."""
     found, at = set(), None
@@ -205,6 +224,12 @@ class Drawer:
             text = done.stdout.decode()
             graph = Graph(text)
             faults = list(unlike(graph, document))
+            if texts:
+                with open(texts[0], encoding="utf-8") as file:
+                    unseen = unseen_of(document, json.load(file))
+                drawn = {name: lines for name, (_, lines) in graph.nodes.items() if name.startswith("unseen")}
+                if drawn != unseen:
+                    faults.append(f"unseen {drawn}, not {unseen}")
             if len(texts) == 2:
                 with open(texts[1], encoding="utf-8") as file:
                     faults += unmarked(graph, file.read())

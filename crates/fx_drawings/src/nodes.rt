@@ -59,9 +59,9 @@ pub(crate) fn packets(class: u64, path: u64) -> Node {
     named("packets", class, path, 0)
 }
 
-/// A crossing of a path that no observation point sees.
-pub(crate) fn unseen(class: u64, path: u64, crossing: u64) -> Node {
-    named("unseen", class, path, crossing)
+/// The crossings of a path that no observation point sees.
+pub(crate) fn unseen(class: u64, path: u64) -> Node {
+    named("unseen", class, path, 0)
 }
 
 /// What the run of a refutation comes to.

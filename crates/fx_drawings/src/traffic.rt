@@ -31,63 +31,89 @@ fn draw_sight(dot: &mut Dot, from: Node, to: Node, crossing: u64) {
         " [color=blue, fontcolor=blue, style=dashed, label=\"crossing ",
         crossing,
     );
-    dot.line("\"];")
+    dot.line("\"];");
 }
 
-/// Draws a crossing that no observation point sees.
-fn draw_unseen<'x>(dot: &mut Dot, plan: &'x Plan, node: Node, crossing: &'x Crossing) {
-    let direction = if crossing.inwards {
-        " ingress"
-    } else {
-        " egress"
-    };
-    let name = match plan
-        .network()
-        .devices
-        .as_slice()
-        .get(place_before(crossing.device))
-    {
-        Some(device) => device.name.as_str(),
-        None => "",
-    };
-    dot.code_node("  ", node);
-    dot.code_quoted(" [shape=plaintext, fontcolor=gray40, label=\"", name);
-    dot.code_quoted(" ", crossing.interface.as_str());
-    dot.code(direction);
-    dot.line("\\nno observation point\"];")
-}
-
-/// The place, from 0, of what has this number, from 1.
+/// Returns the place, from 0, of what has this number, from 1.
 fn place_before(number: u64) -> usize {
     number.saturating_sub(1) as usize
 }
 
-/// Draws what sees a crossing, and answers whether anything does.
-fn draw_seeing(dot: &mut Dot, plan: &Plan, from: Node, number: u64, crossing: &Crossing) -> bool {
-    let mut seen = false;
+/// Adds a crossing to a label, in a line with its number.
+fn add_crossing<'x>(dot: &mut Dot, plan: &'x Plan, number: u64, crossing: &'x Crossing) {
+    let devices = plan.network().devices.as_slice();
+    let name = match devices.get(place_before(crossing.device)) {
+        Some(device) => device.name.as_str(),
+        None => "",
+    };
+    dot.code_number("\\ncrossing ", number);
+    dot.code_quoted(": ", name);
+    dot.code_quoted(" ", crossing.interface.as_str());
+    dot.code(if crossing.inwards {
+        " ingress"
+    } else {
+        " egress"
+    });
+}
+
+/// Returns whether an observation point sees a crossing.
+fn is_seen(plan: &Plan, crossing: &Crossing) -> bool {
+    for point in plan.net().points_of(crossing.device) {
+        if point.watches(crossing) {
+            return true;
+        }
+    }
+    false
+}
+
+/// Returns whether observation points see all crossings of a path.
+fn are_all_seen(plan: &Plan, crossings: &[Crossing]) -> bool {
+    for crossing in crossings {
+        if !is_seen(plan, crossing) {
+            return false;
+        }
+    }
+    true
+}
+
+/// Draws the crossings of a path that no observation point sees, in one node.
+fn draw_unseen(dot: &mut Dot, plan: &Plan, target: &Target<'_>) {
+    let node = nodes::unseen(target.class, target.path);
+    dot.code_node("  ", node);
+    dot.code(" [shape=plaintext, fontcolor=gray40, label=\"no observation point");
+    for place in 0..target.crossings.len() {
+        let crossing = &target.crossings[place];
+        if !is_seen(plan, crossing) {
+            add_crossing(dot, plan, place as u64 + 1, crossing);
+        }
+    }
+    dot.line("\"];");
+    dot.code_node("  ", nodes::packets(target.class, target.path));
+    dot.code_node(" -> ", node);
+    dot.line(" [color=gray40, style=dashed];");
+}
+
+/// Draws what sees a crossing.
+fn draw_seeing(dot: &mut Dot, plan: &Plan, from: Node, number: u64, crossing: &Crossing) {
     let points = plan.net().points_of(crossing.device);
     for place in 0..points.len() {
         if points[place].watches(crossing) {
             let to = nodes::point(crossing.device, place as u64 + 1);
             draw_sight(dot, from, to, number);
-            seen = true;
         }
     }
-    seen
 }
 
-/// Draws a path of a class: its packets, and each crossing with what sees it.
+/// Draws a path of a class: its packets, each crossing with what sees it, and those that nothing sees.
 fn draw_path(dot: &mut Dot, documents: &Documents, target: &Target<'_>) {
     draw_packets(dot, documents, target);
     let from = nodes::packets(target.class, target.path);
     for place in 0..target.crossings.len() {
         let crossing = &target.crossings[place];
-        let number = place as u64 + 1;
-        if !draw_seeing(dot, &documents.plan, from, number, crossing) {
-            let node = nodes::unseen(target.class, target.path, number);
-            draw_unseen(dot, &documents.plan, node, crossing);
-            draw_sight(dot, from, node, number);
-        }
+        draw_seeing(dot, &documents.plan, from, place as u64 + 1, crossing);
+    }
+    if !are_all_seen(&documents.plan, target.crossings) {
+        draw_unseen(dot, &documents.plan, target);
     }
 }
 
