@@ -1,5 +1,5 @@
 #!/usr/bin/env python3
-"""members.py PROGRAM: checks that `lint --words` names, for each object, the members that the schemas of docs/schemas allow.
+"""members.py PROGRAM: checks that `lint --explain` names, for each object, the members that the schemas of docs/schemas allow.
 
 Each object of the documents of `schema_cases` gets one more member, with a name that is near none. After `refused 102` the program must name
 those members that the object's schema has and the object doesn't, except those that are refused with a number of their own, whose
@@ -80,7 +80,7 @@ def allowed(program, folder, documents):
         files.append(os.path.join(folder, name))
         with open(files[-1], "w", encoding="utf-8") as file:
             json.dump(value, file)
-    ran = run([program, "lint", *files, "--words"], text=True)
+    ran = run([program, "lint", *files, "--explain"], text=True)
     for line in ran.stdout.splitlines():
         if line.startswith(BEGIN):
             return [name for name in line[len(BEGIN) :].split(", ") if name != "none"]

@@ -4,7 +4,7 @@
   words    the program's arguments, in one line; the files that they name are beside it (no file: no arguments)
   stdin    what it gets on standard input (no file: nothing)
   stdout   what it must print, octet for octet (no file: not compared)
-  told     what follows that with `--words`, except what is said of each refusal of its number (rows_in_words.py)
+  explained  what follows that with `--explain`, except what is said of each refusal of its number (rows_explained.py)
   output   the file that its standard output is, as /dev/full (no file: it is read)
   status   its exit status
   refutes  is there if it must print a refutation that `confirm` accepts, over the same documents; with a number: one of that many

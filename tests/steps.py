@@ -5,8 +5,8 @@ from dataclasses import dataclass
 from typing import Tuple
 
 PROGRAM = "./once"
-# What the tests of once-import compare with: programs that meter, collect and capture.
-IMPORTERS = ("mypy", "iproute2", "jq", "openvswitch-common", "openvswitch-switch", "pmacct", "python3-jsonpatch", "python3-jsonschema", "python3-pytest", "python3-pytest-xdist", "softflowd", "tshark")
+# What the tests of the tools need: programs that meter, collect and capture, and what once-report runs.
+IMPORTERS = ("mypy", "graphviz", "iproute2", "jq", "openvswitch-common", "openvswitch-switch", "pmacct", "python3-jinja2", "python3-jsonpatch", "python3-jsonschema", "python3-pytest", "python3-pytest-xdist", "softflowd", "tshark")
 
 
 @dataclass(frozen=True)
@@ -52,7 +52,7 @@ STEPS = [
     script("yang_module", needs=("libyang-tools",)),
     script("tools", PROGRAM),
     script("rows", PROGRAM),
-    script("rows_in_words", PROGRAM),
+    script("rows_explained", PROGRAM),
     script("terminal", PROGRAM),
     script("progress", PROGRAM, alone=True),
     script("pages", PROGRAM),

@@ -2,7 +2,7 @@
 """terminal.py PROGRAM: runs the program as a newcomer does.
 
 Without arguments on a terminal it must print its help and not wait. With arguments that don't parse it must end with status 6, and
-say last what to do (`ADVICE`), without the tip that an option is a file's name. With `--words` it must not wait for a pipe that it has read
+say last what to do (`ADVICE`), without the tip that an option is a file's name. With `--explain` it must not wait for a pipe that it has read
 to its end, and it must say that a directory is one and that standard input is closed, and not write a link's file over one of
 the run's own. The lines of its help must have at most 100 columns, and it must accept the examples there: documents, certificate,
 refutation, run, schedule, totals and the lines for a shell.
@@ -25,14 +25,14 @@ from program import DidNotEnd, run
 from verdict import report_named
 
 FLAG = "Write %s once, without a value and before any --, after which all arguments are files; it goes with %s."
-WORDS = FLAG % ("--words", "each command")
+WORDS = FLAG % ("--explain", "each command")
 PROGRESS = FLAG % ("--progress", "audit, collect and run")
 OPTION_OF_ONE = "%s goes with %s alone, after that word and before any --: `once %s`."
 LIMIT = OPTION_OF_ONE % ("--limit", "audit", "audit NETWORK TRAFFIC --limit N")
 LINKS = OPTION_OF_ONE % ("--links", "run", "run NETWORK TRAFFIC CAPTURE SCHEDULE --links PREFIX")
 NUMBER = "Write --limit once, followed by a whole number from 1 to 1000000, as in --limit 20000."
 OPTION = (
-    "There is no such option. --words goes with each command, --progress with audit, collect and run, --limit with audit "
+    "There is no such option. --explain goes with each command, --progress with audit, collect and run, --limit with audit "
     "and --links with run. A file whose name begins with - is named after --, as in `once lint -- -file`."
 )
 COMMAND = "The first word is a command: `once help` lists them."
@@ -44,15 +44,15 @@ RUN_WITH_LINKS = "run-over-a-packet-of-ipv6"
 
 # Words that don't parse, with what is told to be done about them.
 ADVICE = {
-    "--words --words check n t c": WORDS,
-    "check n t c --words --words": WORDS,
-    "audit n t -- --words": WORDS,
-    "audit -- n t --words": WORDS,
-    "--word check n t c": WORDS,
-    "check n t c --wrods": WORDS,
-    "check n t c --Word": WORDS,
-    "words check n t c": WORDS,
-    "lint --words=yes n": WORDS,
+    "--explain --explain check n t c": WORDS,
+    "check n t c --explain --explain": WORDS,
+    "audit n t -- --explain": WORDS,
+    "audit -- n t --explain": WORDS,
+    "--explian check n t c": WORDS,
+    "check n t c --expain": WORDS,
+    "check n t c --Explain": WORDS,
+    "explain check n t c": "Write the number alone, as in `once explain 407`, or `once explain all`.",
+    "lint --explain=yes n": WORDS,
     "audit n t --progress=1": PROGRESS,
     "audit n t --progress --progress": PROGRESS,
     "audit -- n t --progress": PROGRESS,
@@ -121,28 +121,26 @@ def faults_of_pipe(program):
             feeder = threading.Thread(target=feed, args=(pipe, file.read()), daemon=True)
         feeder.start()
         try:
-            ran = run([program, "--words", *words[:-1], pipe], row, seconds=60)
+            ran = run([program, "--explain", *words[:-1], pipe], row, seconds=60)
         except DidNotEnd:
             yield "it waits for the pipe again"
             return
-    wanted = rows.octets_of(row, "stdout") + (
-        "%s can't be read again, as a file can, so what is there isn't explained. Write it to a file first, and name that.\n"
-        "what to do: `once explain NUMBER` says what the number after `no` means.\n" % pipe
-    ).encode()
-    if ran.stdout != wanted:
+    # (a pipe is explained like a file)
+    wanted = run([program, "--explain", *words], row).stdout.replace(words[-1].encode(), pipe.encode())
+    if ran.stdout != wanted or b"\nwhat to do: " not in wanted:
         yield "printed %r instead of %r" % (ran.stdout, wanted)
 
 
 def faults_of_directory(program):
     with tempfile.TemporaryDirectory() as folder:
-        ran = run([program, "lint", folder, "--words"])
+        ran = run([program, "lint", folder, "--explain"])
         wanted = "device 901\nfile: %s: it is a directory\n" % folder
         if ran.returncode != 5 or not ran.stdout.decode().startswith(wanted):
             yield "status %d, printed %r, which doesn't begin with %r" % (ran.returncode, ran.stdout, wanted)
 
 
 def faults_of_closed_input(program):
-    ran = run([program, "--words"], preexec_fn=lambda: os.close(0))
+    ran = run([program, "--explain"], preexec_fn=lambda: os.close(0))
     wanted = b"device 901\nfile: standard input: it is closed, it is a directory, or a read of it failed\n"
     if ran.returncode != 5 or not ran.stdout.startswith(wanted):
         yield "status %d, printed %r, which doesn't begin with %r" % (ran.returncode, ran.stdout, wanted)
@@ -186,7 +184,7 @@ def faults_of_help_documents(program):
         with tempfile.TemporaryDirectory() as folder:
             write(folder, "network", network)
             write(folder, "traffic", traffic)
-            said = printed_by(program, folder, "lint", "network", "traffic", "--words")
+            said = printed_by(program, folder, "lint", "network", "traffic", "--explain")
             # Of the second traffic it is told that a class is exempt, and that one of its paths has no crossing.
             if said != "ok\n" and (network is found[0] or said.split("\n")[0] != "ok"):
                 yield "printed %r of the documents in the help" % said
@@ -266,7 +264,7 @@ def faults_of_links_over_input(program):
         for name in ("network.json", "traffic.json", "capture.pcap"):
             shutil.copy(os.path.join(row, name), folder)
         shutil.copy(os.path.join(row, "schedule"), os.path.join(folder, "link1"))
-        words = ["run", "network.json", "traffic.json", "capture.pcap", "link1", "--links", "link", "--words"]
+        words = ["run", "network.json", "traffic.json", "capture.pcap", "link1", "--links", "link", "--explain"]
         ran = run([program, *words], folder)
         wanted = b"device 902\nfile: link1: the command reads this file, and doesn't write over it\n"
         if ran.returncode != 5 or not ran.stdout.startswith(wanted):

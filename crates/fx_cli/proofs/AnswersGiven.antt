@@ -3,7 +3,7 @@ use Rattle.std.proofs.Common.{◌≡◌, ◌⊎◌, ◌&&◌, ◌==◌, ◌++◌
 use Rattle.std.specs.Prelude.{IfErr, IfOk, Result, Ok, Err}
 use Rattle.clap.specs.Words.{Text}
 use Rattle.fx_cli.specs.Arguments.{EndsAfterFlush}
-use Rattle.fx_cli.specs.WordFlag.{AddsHelp, wants_help}
+use Rattle.fx_cli.specs.OptionFlag.{AddsHelp, wants_help}
 
 -- a flush behind it
 pub handed_on : {S : Type 0} (taken : S → Option (List ℕ)) (failed holds_back : S → Bool) (Ends : S → ℕ → Type 0) (mid new : S) (code last : ℕ) → Ends mid code

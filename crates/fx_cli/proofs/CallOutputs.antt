@@ -18,7 +18,7 @@ use Rattle.fx_link.specs.Links.{Put}
 use Rattle.fx_audit.specs.Metering.{IsMetered}
 use Rattle.fx_audit.specs.Outputs.{AnswersWith, Prints}
 use Rattle.fx_audit.specs.declared.answer.Answer.{Answer}
-use Rattle.fx_cli.specs.Running.{EndsAs, EndsInWords, HasFailedInWords, HasFailedToWrite, IsAtBeginning, IsCallRefusal, IsCallText, IsLintRefusal, IsLintOutput, IsRunOutput, IsRefusal, IsRunRefusal, IsAuditOutput, ForSomeNetwork, ForSomeDocuments, ForSomeTexts}
+use Rattle.fx_cli.specs.Running.{EndsAs, EndsExplained, HasFailedExplained, HasFailedToWrite, IsAtBeginning, IsCallRefusal, IsCallText, IsLintRefusal, IsLintOutput, IsRunOutput, IsRefusal, IsRunRefusal, IsAuditOutput, ForSomeNetwork, ForSomeDocuments, ForSomeTexts}
 use Rattle.fx_command_line.specs.Words.{Names, NamesAudit, NamesFiles, NamesRun, NamesWith, IsLimit, IsLimitSet, file_given, file_names}
 use Rattle.fx_command_line.specs.declared.words.Call.{Call}
 use Rattle.fx_command_line.specs.declared.words.Call.TheVariants.{Audit, Check, Collect, Confirm, Draw, Explain, Lint, Replay, Run, Sum}
@@ -242,9 +242,9 @@ ended {S} taken failed IsText IsRefused (Err e) first then last code (told, (goi
     inr (inl (λ fine. keeps (subst (λ (s : S). failed s ≡ false) (sym same) fine), (e, why, subst (λ (s : S). Writes (taken s) (taken last) (refusal_line e)) same line, code_is)))
 ended {S} taken failed IsText IsRefused (Err e) first then last code answers why answered (inr (five, fails)) = inr (inr (five, inl fails))
 
-pub ends_in_words_as : (words : List Text) (one other : Call) → Names words one → Names words other → (old new : Option (List ℕ)) (Going Failed : Type 0) (code : ℕ)
-    → EndsInWords (IsCallText one) (IsCallRefusal one) old new Going Failed code → EndsInWords (IsCallText other) (IsCallRefusal other) old new Going Failed code
-ends_in_words_as words one other n m old new Going Failed code ends = elim ends [
+pub ends_explained_as : (words : List Text) (one other : Call) → Names words one → Names words other → (old new : Option (List ℕ)) (Going Failed : Type 0) (code : ℕ)
+    → EndsExplained (IsCallText one) (IsCallRefusal one) old new Going Failed code → EndsExplained (IsCallText other) (IsCallRefusal other) old new Going Failed code
+ends_explained_as words one other n m old new Going Failed code ends = elim ends [
   | inl (going, (answer, text, more, is, told, ended)) ↦ inl (going, (answer, text, more, same_text words one other n m answer text is, told, ended))
   | inr (inl (going, (e, more, is, told, ended))) ↦ inr (inl (going, (e, more, same_refusal words one other n m e is, told, ended)))
   | inr (inr failed) ↦ inr (inr failed)
@@ -252,22 +252,22 @@ ends_in_words_as words one other n m old new Going Failed code ends = elim ends 
 
 -- an answer that was told, or a refusal that came with nothing written or with a failed write and then its line, and words
 -- behind it
-pub ended_in_words : {S : Type 0} (taken : S → Option (List ℕ)) (failed : S → Bool) (IsText : Answer → List ℕ → Type 0) (IsRefused : Fault → Type 0) (r : Result Answer Fault) (more : List ℕ) (first then last : S) (code : ℕ)
+pub ended_explained : {S : Type 0} (taken : S → Option (List ℕ)) (failed : S → Bool) (IsText : Answer → List ℕ → Type 0) (IsRefused : Fault → Type 0) (r : Result Answer Fault) (more : List ℕ) (first then last : S) (code : ℕ)
     → AnswersWith taken failed IsText first then r
     → IfErr r (λ e. IsWriteFault (failed then) e ⊎ IsRefused e)
     → IfOk r (λ _. EndsWith taken failed more (status r) then last code)
     → IfErr r (λ e. EndsWith taken failed (refusal_line e ++ more) (refusal_status e) then last code)
-    → EndsInWords IsText IsRefused (taken first) (taken last) (failed first ≡ false → failed last ≡ false) (HasFailedInWords taken failed last) code
-ended_in_words {S} taken failed IsText IsRefused (Ok answer) more first then last code ((text, is, told), (going, quiet)) why (inl (code_is, line, keeps)) refused =
+    → EndsExplained IsText IsRefused (taken first) (taken last) (failed first ≡ false → failed last ≡ false) (HasFailedExplained taken failed last) code
+ended_explained {S} taken failed IsText IsRefused (Ok answer) more first then last code ((text, is, told), (going, quiet)) why (inl (code_is, line, keeps)) refused =
     inl (λ fine. keeps (going fine), (answer, text, more, is, writes_both (taken first) (taken then) (taken last) text more (text ++ more) told line refl, code_is))
-ended_in_words {S} taken failed IsText IsRefused (Ok answer) more first then last code answers why (inr (five, fails)) refused = inr (inr (five, inl fails))
-ended_in_words {S} taken failed IsText IsRefused (Err e) more first then last code answers (inl (is, fails)) answered (inl (code_is, line, keeps)) =
+ended_explained {S} taken failed IsText IsRefused (Ok answer) more first then last code answers why (inr (five, fails)) refused = inr (inr (five, inl fails))
+ended_explained {S} taken failed IsText IsRefused (Err e) more first then last code answers (inl (is, fails)) answered (inl (code_is, line, keeps)) =
     inr (inr (code_is ∙ ap refusal_status is, inr (then, more, fails, subst (λ (x : Fault). Writes (taken then) (taken last) (refusal_line x ++ more)) is line)))
-ended_in_words {S} taken failed IsText IsRefused (Err e) more first then last code (told, (going, inl (is, fails))) (inr why) answered (inl (code_is, line, keeps)) =
+ended_explained {S} taken failed IsText IsRefused (Err e) more first then last code (told, (going, inl (is, fails))) (inr why) answered (inl (code_is, line, keeps)) =
     inr (inr (code_is ∙ ap refusal_status is, inr (then, more, fails, subst (λ (x : Fault). Writes (taken then) (taken last) (refusal_line x ++ more)) is line)))
-ended_in_words {S} taken failed IsText IsRefused (Err e) more first then last code (told, (going, inr same)) (inr why) answered (inl (code_is, line, keeps)) =
+ended_explained {S} taken failed IsText IsRefused (Err e) more first then last code (told, (going, inr same)) (inr why) answered (inl (code_is, line, keeps)) =
     inr (inl (λ fine. keeps (subst (λ (s : S). failed s ≡ false) (sym same) fine), (e, more, why, subst (λ (s : S). Writes (taken s) (taken last) (refusal_line e ++ more)) same line, code_is)))
-ended_in_words {S} taken failed IsText IsRefused (Err e) more first then last code answers why answered (inr (five, fails)) = inr (inr (five, inl fails))
+ended_explained {S} taken failed IsText IsRefused (Err e) more first then last code answers why answered (inr (five, fails)) = inr (inr (five, inl fails))
 
 -- a command answers as the one of its branches does that was taken
 pub answers_as : {S : Type 0} (taken : S → Option (List ℕ)) (failed : S → Bool) (IsText : Answer → List ℕ → Type 0) (first last then : S) (r s : Result Answer Fault)

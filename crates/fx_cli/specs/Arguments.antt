@@ -5,9 +5,9 @@ use Rattle.fx_base.specs.Device.{KeepsGoing}
 use Rattle.fx_command_line.specs.Words.{Names, NamesNoCall}
 use Rattle.fx_command_line.specs.declared.words.Call.{Call}
 use Rattle.fx_cli.specs.Ending.{EndsWith}
-use Rattle.fx_cli.specs.Running.{EndsAs, EndsInWords, HasFailedInWords, HasFailedToWrite, IsBundleOutput, IsBundleRefusal, IsCallRefusal, IsCallText, IsRefusal}
-use Rattle.fx_cli.specs.WordFlag.{AddsHelp, RemovesOptions, wants_help}
-use Rattle.fx_cli.specs.WordsEnding.{EndsWithoutCall, memory_line}
+use Rattle.fx_cli.specs.Running.{EndsAs, EndsExplained, HasFailedExplained, HasFailedToWrite, IsBundleOutput, IsBundleRefusal, IsCallRefusal, IsCallText, IsRefusal}
+use Rattle.fx_cli.specs.OptionFlag.{AddsHelp, RemovesOptions, wants_help}
+use Rattle.fx_cli.specs.ArgumentErrors.{EndsWithoutCall, memory_line}
 
 -- the arguments after the name of the program name a call, which is answered; without any, the bundle on standard input is
 pub record EndsByArguments {A S : Type 0} (text_of : A → Text) (taken : S → Option (List ℕ)) (failed : S → Bool) (arguments : List A) (old new : S) (code : ℕ) : Type 0 where
@@ -16,19 +16,19 @@ pub record EndsByArguments {A S : Type 0} (text_of : A → Text) (taken : S → 
   pub no_call : 2 ≤ length arguments → NamesNoCall (map text_of arguments) → EndsWithoutCall taken failed (map text_of arguments) old new code
 
 -- the same with sentences after the answer
-pub record EndsByArgumentsInWords {A S : Type 0} (text_of : A → Text) (taken : S → Option (List ℕ)) (failed : S → Bool) (arguments : List A) (old new : S) (code : ℕ) : Type 0 where
-  pub bundle : length arguments < 2 → EndsInWords IsBundleOutput (IsRefusal IsBundleRefusal) (taken old) (taken new) (KeepsGoing (failed old) (failed new)) (HasFailedInWords taken failed new) code
-  pub call : (call : Call) → Names (map text_of arguments) call → EndsInWords (IsCallText call) (IsCallRefusal call) (taken old) (taken new) (KeepsGoing (failed old) (failed new)) (HasFailedInWords taken failed new) code
+pub record EndsByArgumentsExplained {A S : Type 0} (text_of : A → Text) (taken : S → Option (List ℕ)) (failed : S → Bool) (arguments : List A) (old new : S) (code : ℕ) : Type 0 where
+  pub bundle : length arguments < 2 → EndsExplained IsBundleOutput (IsRefusal IsBundleRefusal) (taken old) (taken new) (KeepsGoing (failed old) (failed new)) (HasFailedExplained taken failed new) code
+  pub call : (call : Call) → Names (map text_of arguments) call → EndsExplained (IsCallText call) (IsCallRefusal call) (taken old) (taken new) (KeepsGoing (failed old) (failed new)) (HasFailedExplained taken failed new) code
   pub no_call : 2 ≤ length arguments → NamesNoCall (map text_of arguments) → EndsWithoutCall taken failed (map text_of arguments) old new code
 
-abbrev pub EndsInWordsIf : Bool → {A S : Type 0} → (A → Text) → (S → Option (List ℕ)) → (S → Bool) → List A → S → S → ℕ → Type 0
-EndsInWordsIf false text_of taken failed arguments old new code = EndsByArguments text_of taken failed arguments old new code
-EndsInWordsIf true text_of taken failed arguments old new code = EndsByArgumentsInWords text_of taken failed arguments old new code
+abbrev pub EndsExplainedIf : Bool → {A S : Type 0} → (A → Text) → (S → Option (List ℕ)) → (S → Bool) → List A → S → S → ℕ → Type 0
+EndsExplainedIf false text_of taken failed arguments old new code = EndsByArguments text_of taken failed arguments old new code
+EndsExplainedIf true text_of taken failed arguments old new code = EndsByArgumentsExplained text_of taken failed arguments old new code
 
--- the options `--progress` and `--words` are removed, and what is left is answered: in words where `--words` was there
+-- the options `--progress` and `--explain` are removed, and what is left is answered: in words where `--explain` was there
 abbrev pub EndsByOptions : {A S : Type 0} → (A → Text) → (S → Option (List ℕ)) → (S → Bool) → List A → S → S → ℕ → Type 0
 EndsByOptions {A} {S} text_of taken failed given old new code =
-    (rest : List A) × (in_words : Bool) × (progress : Bool) × RemovesOptions text_of given rest in_words progress × EndsInWordsIf in_words text_of taken failed rest old new code
+    (rest : List A) × (explained : Bool) × (progress : Bool) × RemovesOptions text_of given rest explained progress × EndsExplainedIf explained text_of taken failed rest old new code
 
 -- arguments that the system gives are answered so, with `--help` added where somebody waits at a terminal, unless memory
 -- runs out for that

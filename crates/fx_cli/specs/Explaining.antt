@@ -19,13 +19,13 @@ small None = None
 small (Some number) = if nat_lt number 65536 then Some number else None
 
 -- the explanation of a number, where a refusal can have it
-abbrev pub IsToldAs : Bool → ℕ → Answer → List ℕ → Type 0
-IsToldAs true number answer text = (answer ≡ Yes) × (text ≡ explanation_of (row_of number table))
-IsToldAs false number answer text = (answer ≡ No) × (text ≡ unknown_number_line)
+abbrev pub IsExplainedAs : Bool → ℕ → Answer → List ℕ → Type 0
+IsExplainedAs true number answer text = (answer ≡ Yes) × (text ≡ explanation_of (row_of number table))
+IsExplainedAs false number answer text = (answer ≡ No) × (text ≡ unknown_number_line)
 
 abbrev pub IsExplained : Option ℕ → Answer → List ℕ → Type 0
 IsExplained None answer text = (answer ≡ No) × (text ≡ unknown_number_line)
-IsExplained (Some number) answer text = IsToldAs (is_refusal_number number) number answer text
+IsExplained (Some number) answer text = IsExplainedAs (is_refusal_number number) number answer text
 
 -- for the word `all` the list of all numbers, for a number in decimal digits its explanation
 abbrev pub IsExplainText : Text → Answer → List ℕ → Type 0

@@ -6,5 +6,5 @@ pub mod Ending
 pub mod Explaining
 pub mod Arguments
 pub mod Running
-pub mod WordFlag
-pub mod WordsEnding
+pub mod OptionFlag
+pub mod ArgumentErrors

@@ -162,8 +162,8 @@ abbrev pub HasFailedToWrite : {S : Type 0} → (S → Option (List ℕ)) → (S 
 HasFailedToWrite {S} taken failed new = (failed new ≡ true) ⊎ ((then : S) × (failed then ≡ true) × Writes (taken then) (taken new) (refusal_line (fault_at failed_write places.None)))
 
 -- the same where words stand behind that line
-abbrev pub HasFailedInWords : {S : Type 0} → (S → Option (List ℕ)) → (S → Bool) → S → Type 0
-HasFailedInWords {S} taken failed new =
+abbrev pub HasFailedExplained : {S : Type 0} → (S → Option (List ℕ)) → (S → Bool) → S → Type 0
+HasFailedExplained {S} taken failed new =
     (failed new ≡ true) ⊎ ((then : S) × (words : List ℕ) × (failed then ≡ true) × Writes (taken then) (taken new) (refusal_line (fault_at failed_write places.None) ++ words))
 
 -- How the program ends: with the text of an answer and that answer's status; with the line of a refusal that is possible
@@ -176,8 +176,8 @@ EndsAs IsText IsRefused old new Going Failed code =
     ⊎ ((code ≡ 5) × Failed))
 
 -- How it ends where words stand behind the answer's text or the line of the refusal.
-abbrev pub EndsInWords : (Answer → List ℕ → Type 0) → (Fault → Type 0) → Option (List ℕ) → Option (List ℕ) → Type 0 → Type 0 → ℕ → Type 0
-EndsInWords IsText IsRefused old new Going Failed code =
+abbrev pub EndsExplained : (Answer → List ℕ → Type 0) → (Fault → Type 0) → Option (List ℕ) → Option (List ℕ) → Type 0 → Type 0 → ℕ → Type 0
+EndsExplained IsText IsRefused old new Going Failed code =
     (Going × ((answer : Answer) × (text : List ℕ) × (words : List ℕ) × IsText answer text × Writes old new (text ++ words) × (code ≡ status (Ok answer))))
     ⊎ ((Going × ((e : Fault) × (words : List ℕ) × IsRefused e × Writes old new (refusal_line e ++ words) × (code ≡ refusal_status e)))
     ⊎ ((code ≡ 5) × Failed))

@@ -1,4 +1,4 @@
-//! What to do about words that don't parse.
+//! What to do about arguments that don't parse.
 
 use clap::error::ErrorKind;
 use std::alloc::{AllocError, Global};
@@ -6,8 +6,8 @@ use std::alloc::{AllocError, Global};
 /// The options, each with where it goes.
 const OPTIONS: [(&str, &str); 6] = [
     (
-        "--words",
-        "Write --words once, without a value and before any --, after which all arguments are files; it goes with each command.",
+        "--explain",
+        "Write --explain once, without a value and before any --, after which all arguments are files; it goes with each command.",
     ),
     (
         "--progress",
@@ -34,10 +34,10 @@ const LIMIT: &str =
 
 /// What to do about an option that isn't there.
 const NO_OPTION: &str =
-    "There is no such option. --words goes with each command, --progress with audit, collect and run, --limit with audit \
+    "There is no such option. --explain goes with each command, --progress with audit, collect and run, --limit with audit \
 and --links with run. A file whose name begins with - is named after --, as in `once lint -- -file`.";
 
-/// How many octets are the same at the front of both.
+/// Returns how many octets are the same at the front of both.
 fn same_in_front(a: &[u8], b: &[u8]) -> usize {
     let mut same: usize = 0;
     for (x, y) in a.iter().zip(b.iter()) {
@@ -49,7 +49,7 @@ fn same_in_front(a: &[u8], b: &[u8]) -> usize {
     same
 }
 
-/// How many octets are the same at the end of both.
+/// Returns how many octets are the same at the end of both.
 fn same_behind(a: &[u8], b: &[u8]) -> usize {
     let mut same: usize = 0;
     for (x, y) in a.iter().rev().zip(b.iter().rev()) {
@@ -61,8 +61,8 @@ fn same_behind(a: &[u8], b: &[u8]) -> usize {
     same
 }
 
-/// Whether a word may be meant for an option: at most two of its letters that stand together are others, too many or
-/// missing, whatever their case.
+/// Returns whether a word may be meant for an option: at most two of its letters that stand together are others, too
+/// many or missing, whatever their case.
 fn is_near(word: &[u8], option: &[u8]) -> bool {
     let longest = word.len().max(option.len());
     same_in_front(word, option)
@@ -71,7 +71,7 @@ fn is_near(word: &[u8], option: &[u8]) -> bool {
         >= longest
 }
 
-/// Where the option goes for which a word may be meant.
+/// Returns where the option goes for which a word may be meant.
 fn option_advice(word: &str) -> Option<&'static str> {
     for (option, advice) in OPTIONS {
         if is_near(word.as_bytes(), option.as_bytes()) {
@@ -81,7 +81,7 @@ fn option_advice(word: &str) -> Option<&'static str> {
     None
 }
 
-/// What to do about a word that the command doesn't take.
+/// Returns what to do about a word that the command doesn't take.
 fn unknown_word_advice(word: &str) -> &'static str {
     let Some(behind) = word.strip_prefix("-") else {
         return "Leave it out: the usage line has all that the command takes, in this order.";
@@ -92,7 +92,7 @@ fn unknown_word_advice(word: &str) -> &'static str {
     option_advice(word).unwrap_or(NO_OPTION)
 }
 
-/// What to do about a word that is no command: the first, or one behind `help` and a command.
+/// Returns what to do about a word that is no command: the first, or one after `help` and a command.
 fn unknown_command_advice(text: &str) -> &'static str {
     if text.contains(" <COMMAND>") {
         "The first word is a command: `once help` lists them."
@@ -102,7 +102,7 @@ fn unknown_command_advice(text: &str) -> &'static str {
 }
 
 /// Returns the argument that an error's text is about: the first in quotation marks.
-fn word_told(text: &str) -> &str {
+fn named_word(text: &str) -> &str {
     match text.split_once("'") {
         Some((_, behind)) => match behind.split_once("'") {
             Some((word, _)) => word,
@@ -112,34 +112,34 @@ fn word_told(text: &str) -> &str {
     }
 }
 
-/// What to do about a word too many behind a command that people give other words.
+/// Returns what to do about a word too many after a command that people give other words.
 fn extra_word_advice(text: &str) -> Option<&'static str> {
     if text.contains(" explain <") {
         Some("Write the number alone, as in `once explain 407`, or `once explain all`.")
-    } else if text.contains(" sum <") && !word_told(text).starts_with("-") {
+    } else if text.contains(" sum <") && !named_word(text).starts_with("-") {
         Some("All totals come in one file: `cat FIRST SECOND | once sum NETWORK /dev/stdin`.")
-    } else if text.contains(" audit [") && !word_told(text).starts_with("-") {
+    } else if text.contains(" audit [") && !named_word(text).starts_with("-") {
         Some(
             "An audit takes the network and the traffic; `once check` takes a certificate after them.",
         )
-    } else if word_told(text) == "-o" || word_told(text) == "--output" {
+    } else if named_word(text) == "-o" || named_word(text) == "--output" {
         Some("The answer goes to standard output: write `> FILE` after the command.")
     } else {
         None
     }
 }
 
-/// What to do about words that don't parse, by the kind of the error and its text.
+/// Returns what to do about arguments that don't parse, by the kind of the error and its text.
 fn advice_of(kind: ErrorKind, text: &str) -> Option<&'static str> {
     if text.contains("remove the '--' before it") {
         return None;
     }
     match kind {
         ErrorKind::UnknownArgument => {
-            Some(extra_word_advice(text).unwrap_or(unknown_word_advice(word_told(text))))
+            Some(extra_word_advice(text).unwrap_or(unknown_word_advice(named_word(text))))
         }
         ErrorKind::InvalidSubcommand => {
-            Some(option_advice(word_told(text)).unwrap_or(unknown_command_advice(text)))
+            Some(option_advice(named_word(text)).unwrap_or(unknown_command_advice(text)))
         }
         ErrorKind::MissingSubcommand => Some("Write a command: `once help` lists them."),
         ErrorKind::MissingRequiredArgument => Some(
@@ -152,7 +152,7 @@ fn advice_of(kind: ErrorKind, text: &str) -> Option<&'static str> {
     }
 }
 
-/// What to do about the value of an option.
+/// Returns what to do about the value of an option.
 fn value_advice(text: &str) -> Option<&'static str> {
     if text.contains("--limit") {
         Some(
@@ -167,7 +167,7 @@ fn value_advice(text: &str) -> Option<&'static str> {
     }
 }
 
-/// A text but for the tip that a word may be a file's name, which is no help where an option is meant.
+/// Returns a text but for the tip that a word may be a file's name, which is no help where an option is meant.
 fn without_tip(text: &str) -> (&str, &str) {
     let Some((before, tip)) = text.split_once("\n\n  tip: to pass '") else {
         return (text, "");

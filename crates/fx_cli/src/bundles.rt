@@ -1,8 +1,6 @@
 //! Bundles that were read from standard input, for the sentences after their answers.
 
-use crate::asked::{Asked, DocumentRead, LinesAt, Question};
-use crate::gathering::Words;
-use fx_audit::AUDIT_LIMIT;
+use crate::gathering::Gathered;
 
 /// The line that ends each text.
 const MARK: &[u8] = b"%%\n";
@@ -23,7 +21,7 @@ fn first_text(octets: &[u8]) -> Option<(&[u8], &[u8])> {
     None
 }
 
-/// The place of the first line feed, if there is one.
+/// Returns the place of the first line feed, if there is one.
 fn first_line_feed(octets: &[u8]) -> Option<usize> {
     for place in 0..octets.len() {
         if octets[place] == b'\n' {
@@ -44,43 +42,6 @@ fn first_line(octets: &[u8]) -> (&[u8], &[u8]) {
     }
 }
 
-/// What the first line of a bundle asks of the third of its texts.
-fn asked_of<'a>(command: &[u8], third: &'a [u8]) -> Option<Asked<'a>> {
-    let lines = LinesAt::Octets(third);
-    match command {
-        b"audit" => Some(Asked::Audit(AUDIT_LIMIT)),
-        b"check" => Some(Asked::Check(lines)),
-        b"confirm" => Some(Asked::Confirm(lines)),
-        b"replay" => Some(Asked::Replay(lines)),
-        _ => None,
-    }
-}
-
-/// What a bundle asks, or none where the octets are none.
-pub(crate) fn question_of_bundle(octets: &[u8]) -> Option<Question<'_>> {
-    let (command, rest) = first_line(octets);
-    if texts_in(rest) != (texts_of(command), false) {
-        return None;
-    }
-    let (network, rest) = first_text(rest)?;
-    let (traffic, rest) = first_text(rest)?;
-    let third = match first_text(rest) {
-        Some((third, _)) => third,
-        None => b"",
-    };
-    Some(Question {
-        asked: asked_of(command, third)?,
-        network: Some(DocumentRead {
-            name: "standard input, the network in the bundle",
-            octets: Some(network),
-        }),
-        traffic: Some(DocumentRead {
-            name: "standard input, the traffic in the bundle",
-            octets: Some(traffic),
-        }),
-    })
-}
-
 /// Returns how many lines `%%` these octets have, and whether something follows the last.
 fn texts_in(octets: &[u8]) -> (u64, bool) {
     let mut rest = octets;
@@ -95,7 +56,7 @@ fn texts_in(octets: &[u8]) -> (u64, bool) {
     (count, !rest.is_empty())
 }
 
-/// Whether a line has `%%` at its end, or in front, and isn't it.
+/// Returns whether a line has `%%` at its end, or in front, and isn't it.
 fn is_nearly_mark(line: &[u8], at_end: bool) -> bool {
     let begins = line.starts_with(b"%%");
     if at_end {
@@ -105,8 +66,8 @@ fn is_nearly_mark(line: &[u8], at_end: bool) -> bool {
     }
 }
 
-/// How many lines have `%%` at their ends, or in front, and aren't it, and the number of the first, where these begin with
-/// the second of all.
+/// Returns how many lines have `%%` at their ends, or in front, and aren't it, and the number of the first, where these
+/// begin with the second of all.
 fn nearly_marks(octets: &[u8], at_end: bool) -> (u64, u64) {
     let mut rest = octets;
     let mut count: u64 = 0;
@@ -130,7 +91,7 @@ fn nearly_marks(octets: &[u8], at_end: bool) -> (u64, u64) {
 }
 
 /// Writes how many lines have `%%` at their ends, or in front, and aren't it, where there are some, and what to do.
-fn put_nearly_marks(octets: &[u8], at_end: bool, words: &mut Words) {
+fn put_nearly_marks(octets: &[u8], at_end: bool, words: &mut Gathered) {
     let (count, first) = nearly_marks(octets, at_end);
     if count == 0 {
         return;
@@ -151,7 +112,7 @@ fn put_nearly_marks(octets: &[u8], at_end: bool, words: &mut Words) {
 }
 
 /// Writes how many lines `%%` a bundle has and its command wants, and which lines nearly are such.
-fn put_mark_words(octets: &[u8], count: u64, wanted: u64, words: &mut Words) {
+fn put_mark_words(octets: &[u8], count: u64, wanted: u64, words: &mut Gathered) {
     words.text(b"the bundle has ");
     words.number(count);
     words.text(b" lines %%; its command wants ");
@@ -180,7 +141,7 @@ const SHOWN: usize = 40;
 const ORDER_MARK: &[u8] = b"\xef\xbb\xbf";
 
 /// Writes that a line names no command, and shows it.
-fn put_first_line(line: &[u8], words: &mut Words) {
+fn put_first_line(line: &[u8], words: &mut Gathered) {
     words.text(b"the first line of standard input is none of audit, check, confirm and replay: \"");
     for octet in line.get(..SHOWN).unwrap_or(line) {
         words.text(&[if octet.is_ascii_graphic() {
@@ -199,7 +160,7 @@ fn put_first_line(line: &[u8], words: &mut Words) {
 }
 
 /// Writes why octets are no bundle.
-pub(crate) fn put_bundle_words(octets: &[u8], words: &mut Words) {
+pub(crate) fn put_bundle_words(octets: &[u8], words: &mut Gathered) {
     if octets.is_empty() {
         words.text(
             b"standard input has no octets; without other words a bundle is read from there\n",

@@ -16,26 +16,24 @@ use crate::files::open;
 use crate::kept::KeptSource;
 use crate::link_files::LinkFiles;
 use crate::notes::Notes;
-use crate::progress::{ToldSearch, ToldSource};
+use crate::progress::{ProgressSearch, ProgressSource};
 use crate::seeds::seed_at_random;
+use crate::sentences::Sentences;
 use fx_audit::{
-    Answer, audit_bytes, check_bytes, collect_bytes, confirm_bytes, lint_both_bytes, lint_bytes,
-    replay_bytes, run_bytes, sum_bytes,
+    Answer, audit_explained, check_explained, collect_explained, confirm_explained,
+    lint_both_explained, lint_explained, replay_explained, run_explained, sum_explained,
 };
 use fx_base::{Fault, LineReader, Outside, Sink, Source};
 use fx_command_line::Call;
 use fx_layout::Seed;
 use fx_link::{Links, Nowhere, OpenedSinks};
+use fx_stories::StreamWatch;
 use std::alloc::Global;
 use std::random::RandomSource;
 use std::rt::{Clock, Files};
 
 /// A network document and a traffic declaration, and the lines of a third text.
-type Texts<F> = (
-    KeptSource<Outside<F>>,
-    KeptSource<Outside<F>>,
-    LineReader<Outside<F>>,
-);
+type Texts<F> = (Outside<F>, Outside<F>, LineReader<KeptSource<Outside<F>>>);
 
 /// Opens the files of a network document, a traffic declaration and a third text, in this order.
 fn open_texts<R: AllocGlobal + Files>(
@@ -43,7 +41,7 @@ fn open_texts<R: AllocGlobal + Files>(
     network: &str,
     traffic: &str,
     third: &str,
-    notes: &mut Notes,
+    notes: &mut Notes<'_>,
 ) -> Result<Texts<R::File>, Fault>
     ensures ok { IfOk result (λ texts. IsAtBeginning texts.2) }
     ensures err { IfErr result (λ e. (e ≡ fault_at failed_read places.None)
@@ -52,8 +50,9 @@ fn open_texts<R: AllocGlobal + Files>(
     let network = open(rt, network, notes)?;
     let traffic = open(rt, traffic, notes)?;
     let third = open(rt, third, notes)?;
-    let lines = LineReader::new(rt.alloc(), third)?;
-    Ok((notes.source(network), notes.source(traffic), lines))
+    let lines = LineReader::new(rt.alloc(), notes.kept(third))?;
+    notes.opened();
+    Ok((network, traffic, lines))
 }
 
 /// Replays the run in these files.
@@ -62,7 +61,7 @@ fn replay<R: AllocGlobal + Files + RandomSource, S: Sink>(
     network: &str,
     traffic: &str,
     run: &str,
-    notes: &mut Notes,
+    notes: &mut Notes<'_>,
     sink: &mut S,
 ) -> Result<Answer, Fault>
     ensures answers { AnswersWith S.taken S.failed IsReplayOutput sink.old sink.new result }
@@ -71,15 +70,18 @@ fn replay<R: AllocGlobal + Files + RandomSource, S: Sink>(
 {
     let seed = seed_at_random(rt)?;
     let (mut network, mut traffic, mut lines) = open_texts(rt, network, traffic, run, notes)?;
-    let answer = replay_bytes(
+    let answer = replay_explained(
         rt.alloc(),
         seed,
         &mut network,
         &mut traffic,
         &mut lines,
+        &mut notes.sentences,
         sink,
     );
-    notes.keep(network, traffic);
+    notes
+        .sentences
+        .explain_line(lines.get_ref().copy().octets());
     answer
 }
 
@@ -88,7 +90,7 @@ fn collect<R: AllocGlobal + Clock + Eprint + Files + RandomSource, S: Sink>(
     rt: &R,
     network: &str,
     stream: &str,
-    notes: &mut Notes,
+    notes: &mut Notes<'_>,
     sink: &mut S,
 ) -> Result<Answer, Fault>
     ensures answers { AnswersWith S.taken S.failed IsCollectOutput sink.old sink.new result }
@@ -96,12 +98,22 @@ fn collect<R: AllocGlobal + Clock + Eprint + Files + RandomSource, S: Sink>(
         ⊎ IsRefusal IsCollectRefusal e) }
 {
     let seed = seed_at_random(rt)?;
-    let network = open(rt, network, notes)?;
+    let mut network = open(rt, network, notes)?;
     let file = open(rt, stream, notes)?;
-    let mut network = notes.source(network);
-    let mut stream = ToldSource::new(file, stream, notes.progress(rt));
-    let answer = collect_bytes(rt.alloc(), seed, &mut network, &mut stream, sink);
-    notes.network = network.into_copy();
+    notes.opened();
+    let mut stream = ProgressSource::new(file, stream, notes.progress(rt));
+    let alloc = rt.alloc();
+    let mut watch = StreamWatch::new(alloc, notes.sentences.are_wanted());
+    let answer = collect_explained(
+        alloc,
+        seed,
+        &mut network,
+        &mut stream,
+        &mut notes.sentences,
+        &mut watch,
+        sink,
+    );
+    notes.sentences.explain_stream(&watch, &answer);
     answer
 }
 
@@ -111,7 +123,7 @@ fn check<R: AllocGlobal + Files, S: Sink>(
     network: &str,
     traffic: &str,
     certificate: &str,
-    notes: &mut Notes,
+    notes: &mut Notes<'_>,
     sink: &mut S,
 ) -> Result<Answer, Fault>
     ensures answers { AnswersWith S.taken S.failed IsCheckOutput sink.old sink.new result }
@@ -125,9 +137,14 @@ fn check<R: AllocGlobal + Files, S: Sink>(
         certificate,
         notes,
     )?;
-    let answer = check_bytes(rt.alloc(), &mut network, &mut traffic, &mut lines, sink);
-    notes.keep(network, traffic);
-    answer
+    check_explained(
+        rt.alloc(),
+        &mut network,
+        &mut traffic,
+        &mut lines,
+        &mut notes.sentences,
+        sink,
+    )
 }
 
 /// Confirms the refutation in these files.
@@ -136,7 +153,7 @@ fn confirm<R: AllocGlobal + Files, S: Sink>(
     network: &str,
     traffic: &str,
     refutation: &str,
-    notes: &mut Notes,
+    notes: &mut Notes<'_>,
     sink: &mut S,
 ) -> Result<Answer, Fault>
     ensures answers { AnswersWith S.taken S.failed IsConfirmOutput sink.old sink.new result }
@@ -146,8 +163,17 @@ fn confirm<R: AllocGlobal + Files, S: Sink>(
     let (mut network, mut traffic, mut lines) = open_texts(
         rt, network, traffic, refutation, notes,
     )?;
-    let answer = confirm_bytes(rt.alloc(), &mut network, &mut traffic, &mut lines, sink);
-    notes.keep(network, traffic);
+    let answer = confirm_explained(
+        rt.alloc(),
+        &mut network,
+        &mut traffic,
+        &mut lines,
+        &mut notes.sentences,
+        sink,
+    );
+    notes
+        .sentences
+        .explain_line(lines.get_ref().copy().octets());
     answer
 }
 
@@ -157,28 +183,26 @@ fn audit<R: AllocGlobal + Clock + Eprint + Files, S: Sink>(
     network: &str,
     traffic: &str,
     limit: u64,
-    notes: &mut Notes,
+    notes: &mut Notes<'_>,
     sink: &mut S,
 ) -> Result<Answer, Fault>
     ensures answers { AnswersWith S.taken S.failed (IsAuditOutput limit) sink.old sink.new result }
     ensures refused { IfErr result (λ e. IsWriteFault (S.failed sink.new) e
         ⊎ IsRefusal IsDocumentsRefusal e) }
 {
-    let network = open(rt, network, notes)?;
-    let traffic = open(rt, traffic, notes)?;
-    let mut network = notes.source(network);
-    let mut traffic = notes.source(traffic);
-    let mut watch = ToldSearch::new(limit, notes.progress(rt));
-    let answer = audit_bytes(
+    let mut network = open(rt, network, notes)?;
+    let mut traffic = open(rt, traffic, notes)?;
+    notes.opened();
+    let mut watch = ProgressSearch::new(limit, notes.progress(rt));
+    audit_explained(
         rt.alloc(),
         &mut network,
         &mut traffic,
         limit,
         &mut watch,
+        &mut notes.sentences,
         sink,
-    );
-    notes.keep(network, traffic);
-    answer
+    )
 }
 
 /// Runs a network over a capture, as a schedule says, and writes the octets of its links to `links`, which it returns.
@@ -187,39 +211,33 @@ fn run_on_links<N: Source, T: Source, C: Source, Q: Source, L: Links, S: Sink>(
     seed: Seed,
     network: &mut N,
     traffic: &mut T,
-    mut capture: C,
+    capture: &mut C,
     schedule: &mut LineReader<Q>,
     mut links: L,
+    sentences: &mut Sentences<'_>,
     sink: &mut S,
 ) -> (Result<Answer, Fault>, L)
     ensures ok { IfOk result.0 (λ answer. (answer ≡ Yes)
         × BothMayHaveLeft (N.left network.old) (T.left traffic.old) (λ n t.
-        Prints (IsMetered n t (C.left capture) (C.calls capture) schedule.old schedule.new
+        Prints (IsMetered n t (C.left capture.old) (C.calls capture.old) schedule.old schedule.new
         (L.put_on links) (L.put_on result.1)) (S.taken sink.old) (S.taken sink.new))) }
     ensures err { IfErr result.0 (λ e. IsMemory e
         ⊎ ((e ≡ fault_at failed_read places.None)
         ⊎ (IsWriteFault (L.failed result.1) e
         ⊎ (IsWriteFault (S.failed sink.new) e
         ⊎ BothMayHaveLeft (N.left network.old) (T.left traffic.old) (λ n t. IsRefusedMetering n t
-        (C.left capture) (C.calls capture) ⊥ (IsStateOfSource C.calls C.failed)
+        (C.left capture.old) (C.calls capture.old) ⊥ (IsStateOfSource C.calls C.failed)
         schedule.old schedule.new (L.put_on links) e))))) }
     ensures quiet { FailsQuietly S.failed sink.old sink.new result.0 }
 {
-    let answer = run_bytes(
-        alloc,
-        seed,
-        network,
-        traffic,
-        &mut capture,
-        schedule,
-        &mut links,
-        sink,
+    let answer = run_explained(
+        alloc, seed, network, traffic, capture, schedule, &mut links, sentences, sink,
     );
     (answer, links)
 }
 
-/// Runs a network over a capture, as a schedule says, with the octets of each link in a file of its own, whose name begins
-/// with a prefix, and by which no file of the input was named.
+/// Runs a network over a capture, as a schedule says, with the octets of each link in a file of its own, whose name
+/// begins with a prefix, and by which no file of the input was named.
 fn run_onto_files<R: AllocGlobal + Files, N: Source, T: Source, C: Source, Q: Source, S: Sink>(
     rt: &R,
     seed: Seed,
@@ -227,9 +245,9 @@ fn run_onto_files<R: AllocGlobal + Files, N: Source, T: Source, C: Source, Q: So
     inputs: &[&str],
     network: &mut N,
     traffic: &mut T,
-    capture: C,
+    capture: &mut C,
     schedule: &mut LineReader<Q>,
-    notes: &mut Notes,
+    notes: &mut Notes<'_>,
     sink: &mut S,
 ) -> Result<Answer, Fault>
     requires { IsAtBeginning schedule.old }
@@ -241,7 +259,15 @@ fn run_onto_files<R: AllocGlobal + Files, N: Source, T: Source, C: Source, Q: So
     let maker = LinkFiles::new(alloc, rt, prefix, inputs, notes.failing_files());
     let files = OpenedSinks::new(alloc, maker);
     let (answer, files) = run_on_links(
-        alloc, seed, network, traffic, capture, schedule, files, sink,
+        alloc,
+        seed,
+        network,
+        traffic,
+        capture,
+        schedule,
+        files,
+        &mut notes.sentences,
+        sink,
     );
     notes.failed_file = files.into_maker().into_failed_file();
     answer
@@ -253,8 +279,9 @@ fn run_onto_nowhere<N: Source, T: Source, C: Source, Q: Source, S: Sink>(
     seed: Seed,
     network: &mut N,
     traffic: &mut T,
-    capture: C,
+    capture: &mut C,
     schedule: &mut LineReader<Q>,
+    sentences: &mut Sentences<'_>,
     sink: &mut S,
 ) -> Result<Answer, Fault>
     requires { IsAtBeginning schedule.old }
@@ -263,7 +290,7 @@ fn run_onto_nowhere<N: Source, T: Source, C: Source, Q: Source, S: Sink>(
         ⊎ IsRefusal (IsRunRefusal false) e) }
 {
     let (answer, _nowhere) = run_on_links(
-        alloc, seed, network, traffic, capture, schedule, Nowhere, sink,
+        alloc, seed, network, traffic, capture, schedule, Nowhere, sentences, sink,
     );
     answer
 }
@@ -277,7 +304,7 @@ fn run_capture<R: AllocGlobal + Clock + Eprint + Files + RandomSource, S: Sink>(
     capture: &str,
     schedule: &str,
     links: Option<&str>,
-    notes: &mut Notes,
+    notes: &mut Notes<'_>,
     sink: &mut S,
 ) -> Result<Answer, Fault>
     ensures answers { AnswersWith S.taken S.failed IsRunOutput sink.old sink.new result }
@@ -286,14 +313,13 @@ fn run_capture<R: AllocGlobal + Clock + Eprint + Files + RandomSource, S: Sink>(
 {
     let seed = seed_at_random(rt)?;
     let inputs = [network, traffic, capture, schedule];
-    let network = open(rt, network, notes)?;
-    let traffic = open(rt, traffic, notes)?;
+    let mut network = open(rt, network, notes)?;
+    let mut traffic = open(rt, traffic, notes)?;
     let frames = open(rt, capture, notes)?;
     let schedule = open(rt, schedule, notes)?;
-    let mut network = notes.source(network);
-    let mut traffic = notes.source(traffic);
-    let capture = ToldSource::new(frames, capture, notes.progress(rt));
-    let mut lines = LineReader::new(rt.alloc(), schedule)?;
+    notes.opened();
+    let mut capture = ProgressSource::new(frames, capture, notes.progress(rt));
+    let mut lines = LineReader::new(rt.alloc(), notes.kept(schedule))?;
     let alloc = rt.alloc();
     let answer = match links {
         Some(prefix) => run_onto_files(
@@ -303,7 +329,7 @@ fn run_capture<R: AllocGlobal + Clock + Eprint + Files + RandomSource, S: Sink>(
             &inputs,
             &mut network,
             &mut traffic,
-            capture,
+            &mut capture,
             &mut lines,
             notes,
             sink,
@@ -313,12 +339,16 @@ fn run_capture<R: AllocGlobal + Clock + Eprint + Files + RandomSource, S: Sink>(
             seed,
             &mut network,
             &mut traffic,
-            capture,
+            &mut capture,
             &mut lines,
+            &mut notes.sentences,
             sink,
         ),
     };
-    notes.keep(network, traffic);
+    notes.sentences.explain_capture(capture.head(), &answer);
+    notes
+        .sentences
+        .explain_line(lines.get_ref().copy().octets());
     answer
 }
 
@@ -327,7 +357,7 @@ fn lint<R: AllocGlobal + Files, S: Sink>(
     rt: &R,
     network: &str,
     traffic: Option<&str>,
-    notes: &mut Notes,
+    notes: &mut Notes<'_>,
     sink: &mut S,
 ) -> Result<Answer, Fault>
     ensures answers { AnswersWith S.taken S.failed (IsLintOutput (is_some traffic.entry)) sink.old
@@ -335,18 +365,20 @@ fn lint<R: AllocGlobal + Files, S: Sink>(
     ensures refused { IfErr result (λ e. IsWriteFault (S.failed sink.new) e
         ⊎ IsRefusal (IsLintRefusal (is_some traffic.entry)) e) }
 {
-    let network = open(rt, network, notes)?;
-    let mut network = notes.source(network);
+    let mut network = open(rt, network, notes)?;
     let Some(traffic) = traffic else {
-        let answer = lint_bytes(rt.alloc(), &mut network, sink);
-        notes.network = network.into_copy();
-        return answer;
+        notes.opened();
+        return lint_explained(rt.alloc(), &mut network, &mut notes.sentences, sink);
     };
-    let traffic = open(rt, traffic, notes)?;
-    let mut traffic = notes.source(traffic);
-    let answer = lint_both_bytes(rt.alloc(), &mut network, &mut traffic, sink);
-    notes.keep(network, traffic);
-    answer
+    let mut traffic = open(rt, traffic, notes)?;
+    notes.opened();
+    lint_both_explained(
+        rt.alloc(),
+        &mut network,
+        &mut traffic,
+        &mut notes.sentences,
+        sink,
+    )
 }
 
 /// Adds up the totals in this file.
@@ -354,7 +386,7 @@ fn sum<R: AllocGlobal + Files + RandomSource, S: Sink>(
     rt: &R,
     network: &str,
     totals: &str,
-    notes: &mut Notes,
+    notes: &mut Notes<'_>,
     sink: &mut S,
 ) -> Result<Answer, Fault>
     ensures answers { AnswersWith S.taken S.failed IsSumOutput sink.old sink.new result }
@@ -362,24 +394,34 @@ fn sum<R: AllocGlobal + Files + RandomSource, S: Sink>(
         ⊎ IsRefusal IsSumRefusal e) }
 {
     let seed = seed_at_random(rt)?;
-    let network = open(rt, network, notes)?;
+    let alloc = rt.alloc();
+    let mut network = open(rt, network, notes)?;
     let totals = open(rt, totals, notes)?;
-    let mut network = notes.source(network);
-    let mut lines = LineReader::new(rt.alloc(), totals)?;
-    let answer = sum_bytes(rt.alloc(), seed, &mut network, &mut lines, sink);
-    notes.network = network.into_copy();
+    notes.opened();
+    let mut lines = LineReader::new(alloc, notes.kept(totals))?;
+    let answer = sum_explained(
+        alloc,
+        seed,
+        &mut network,
+        &mut lines,
+        &mut notes.sentences,
+        sink,
+    );
+    notes
+        .sentences
+        .explain_totals(lines.get_ref().copy().octets(), &answer);
     answer
 }
 
-/// Opens the files that a call names, in the order of its words, and only then reads them and answers. What words behind
-/// the answer need is noted.
+/// Opens the files that a call names, in the order of its arguments, and only then reads them and answers. What
+/// arguments after the answer need is noted.
 ///
 /// Fails with 901 where a file can't be opened, or the system gives no octets at random to a call that finds keys by a
-/// hash, with 900 for want of memory, else as the command does.
+/// hash, with 900 where memory runs out, else as the command does.
 pub(crate) fn answer_call<R: AllocGlobal + Clock + Eprint + Files + RandomSource, S: Sink>(
     rt: &R,
     call: &Call,
-    notes: &mut Notes,
+    notes: &mut Notes<'_>,
     sink: &mut S,
 ) -> Result<Answer, Fault>
     ensures answers { AnswersWith S.taken S.failed (IsCallText call.now) sink.old sink.new result }

@@ -3,19 +3,19 @@ ghost use Rattle.fx_audit.specs.Outputs.{AnswersWith};
 ghost use Rattle.fx_cli.specs.Drawing.{IsDrawingText};
 
 use crate::files::open;
-use crate::kept::OctetCopy;
 use crate::notes::Notes;
-use fx_audit::Answer;
-use fx_base::{Fault, Outside, Sink, Source, read_whole};
+use crate::sentences::{Progressed, Sentences};
+use fx_audit::{Answer, check_explained, confirm_explained, lint_both_explained, lint_explained};
+use fx_base::{Fault, LineReader, Octets, Outside, Sink, Source, read_whole, refusals};
 use fx_drawings::put_drawing;
 use std::alloc::Global;
 use std::rt::Files;
 
-/// A file that may be left out, opened where it is given.
+/// Returns a file that may be left out, opened where it is given.
 fn open_given<R: Files>(
     rt: &R,
     path: Option<&str>,
-    notes: &mut Notes,
+    notes: &mut Notes<'_>,
 ) -> Result<Option<Outside<R::File>>, Fault> {
     match path {
         Some(path) => Ok(Some(open(rt, path, notes)?)),
@@ -23,41 +23,87 @@ fn open_given<R: Files>(
     }
 }
 
-/// What a file says, and the copy of it that is kept.
-fn read_kept<F: Source>(
-    alloc: Global,
-    notes: &Notes,
-    file: F,
-) -> (Result<Vec<u8>, Fault>, OctetCopy) {
-    let mut source = notes.source(file);
-    let octets = read_whole(alloc, &mut source);
-    (octets, source.into_copy())
-}
-
-/// What the traffic's declaration says, where one is given.
-fn read_traffic<F: Source>(
-    alloc: Global,
-    notes: &mut Notes,
-    file: Option<F>,
-) -> Result<Option<Vec<u8>>, Fault> {
-    let Some(file) = file else {
-        return Ok(None);
-    };
-    let (octets, copy) = read_kept(alloc, notes, file);
-    notes.traffic = copy;
-    Ok(Some(octets?))
-}
-
-/// What the text of an answer says, where one is given.
-fn read_answer<F: Source>(alloc: Global, file: Option<F>) -> Result<Option<Vec<u8>>, Fault> {
+/// Returns what a file says, where one is given.
+fn read_given<F: Source>(alloc: Global, file: Option<F>) -> Result<Option<Vec<u8>>, Fault> {
     match file {
         Some(mut file) => Ok(Some(read_whole(alloc, &mut file)?)),
         None => Ok(None),
     }
 }
 
-/// Draws the network in this file, the traffic in another, where there is one, and what the text in a third says of both,
-/// where there is one too. All files are opened before the first is read.
+/// Explains why the text of an answer isn't drawn, as the command does that reads such a text.
+fn explain_answer(
+    alloc: Global,
+    network: &[u8],
+    traffic: Option<&[u8]>,
+    answer: Option<&[u8]>,
+    fault: &Fault,
+    sentences: &mut Sentences<'_>,
+) -> Result<Answer, Fault> {
+    let mut unwritten = Outside::new(Vec::new(alloc));
+    let mut network = Octets::new(network);
+    let mut traffic = Octets::new(traffic.unwrap_or(b""));
+    let mut lines = LineReader::new(alloc, Octets::new(answer.unwrap_or(b"")))?;
+    if fault.number < refusals::REFUTATION_FIRST {
+        check_explained(
+            alloc,
+            &mut network,
+            &mut traffic,
+            &mut lines,
+            sentences,
+            &mut unwritten,
+        )
+    } else {
+        confirm_explained(
+            alloc,
+            &mut network,
+            &mut traffic,
+            &mut lines,
+            sentences,
+            &mut unwritten,
+        )
+    }
+}
+
+/// Explains why documents aren't drawn, as the command does that lints them.
+fn explain_documents(
+    alloc: Global,
+    network: &[u8],
+    traffic: Option<&[u8]>,
+    sentences: &mut Sentences<'_>,
+) -> Result<Answer, Fault> {
+    let mut unwritten = Outside::new(Vec::new(alloc));
+    let mut network = Octets::new(network);
+    match traffic {
+        None => lint_explained(alloc, &mut network, sentences, &mut unwritten),
+        Some(traffic) => {
+            let mut traffic = Octets::new(traffic);
+            lint_both_explained(alloc, &mut network, &mut traffic, sentences, &mut unwritten)
+        }
+    }
+}
+
+/// Explains why texts aren't drawn.
+fn explain_undrawn(
+    alloc: Global,
+    network: &[u8],
+    traffic: Option<&[u8]>,
+    answer: Option<&[u8]>,
+    fault: &Fault,
+    sentences: &mut Sentences<'_>,
+) {
+    if !sentences.are_wanted() || fault.number >= refusals::WANT_OF_MEMORY {
+        return;
+    }
+    let _again = if fault.number < refusals::CERTIFICATE_FIRST {
+        explain_documents(alloc, network, traffic, sentences)
+    } else {
+        explain_answer(alloc, network, traffic, answer, fault, sentences)
+    };
+}
+
+/// Draws the network in this file, the traffic in another, where there is one, and what the text in a third says of
+/// both, where there is one too. All files are opened before the first is read.
 ///
 /// Fails with 901 where a file can't be opened or read, else as [`put_drawing`] does.
 pub(crate) fn draw<R: AllocGlobal + Files, S: Sink>(
@@ -65,26 +111,42 @@ pub(crate) fn draw<R: AllocGlobal + Files, S: Sink>(
     network: &str,
     traffic: Option<&str>,
     answer: Option<&str>,
-    notes: &mut Notes,
+    notes: &mut Notes<'_>,
     sink: &mut S,
 ) -> Result<Answer, Fault>
     ensures { AnswersWith S.taken S.failed IsDrawingText sink.old sink.new result }
 {
     let alloc = rt.alloc();
-    let network = open(rt, network, notes)?;
+    let mut network = open(rt, network, notes)?;
     let traffic = open_given(rt, traffic, notes)?;
     let answer = open_given(rt, answer, notes)?;
-    let (octets, copy) = read_kept(alloc, notes, network);
-    notes.network = copy;
-    let network = octets?;
-    let traffic = read_traffic(alloc, notes, traffic)?;
-    let answer = read_answer(alloc, answer)?;
-    put_drawing(
+    notes.opened();
+    let network = read_whole(alloc, &mut network)?;
+    notes.sentences.progressed = Progressed::Network;
+    let traffic = read_given(alloc, traffic)?;
+    notes.sentences.progressed = Progressed::Traffic;
+    let answer = read_given(alloc, answer)?;
+    let drawn = put_drawing(
         alloc,
         network.as_slice(),
         traffic.as_deref(),
         answer.as_deref(),
         sink,
-    )?;
-    Ok(Answer::Yes)
+    );
+    match drawn {
+        Ok(()) => Ok(Answer::Yes),
+        Err(fault) => {
+            let (traffic, answer) = (traffic.as_deref(), answer.as_deref());
+            let sentences = &mut notes.sentences;
+            explain_undrawn(
+                alloc,
+                network.as_slice(),
+                traffic,
+                answer,
+                &fault,
+                sentences,
+            );
+            Err(fault)
+        }
+    }
 }

@@ -28,7 +28,7 @@ fn put_refusal<S: Sink>(sink: &mut S, fault: &Fault) -> Result<(), Fault>
     }
 }
 
-/// The exit status of a refusal.
+/// Returns the exit status of a refusal.
 fn status_of_refusal(fault: &Fault) -> u8
     ensures status { result ≡ refusal_status fault.now }
     ensures exit { IsExitStatus result }
@@ -41,7 +41,7 @@ fn status_of_refusal(fault: &Fault) -> u8
     }
 }
 
-/// The exit status of an answer.
+/// Returns the exit status of an answer.
 fn status_of_answer(answer: Answer) -> u8
     ensures status { result ≡ status (Ok answer) }
     ensures exit { IsExitStatus result }
@@ -53,7 +53,7 @@ fn status_of_answer(answer: Answer) -> u8
     }
 }
 
-/// Ends a command: writes the line of a refusal, and gives the program's exit status. An answer's text has been
+/// Ends a command: writes the line of a refusal, and returns the program's exit status. An answer's text has been
 /// written before.
 ///
 /// 0 an answer of yes, 1 of no, 3 of unknown; 2 a refusal (`refused N PLACE`), 4 out of memory (`memory 900`),
@@ -78,13 +78,13 @@ pub fn finish<S: Sink>(outcome: &Result<Answer, Fault>, sink: &mut S) -> u8
 /// is 5.
 pub(crate) fn finish_with<S: Sink>(
     outcome: &Result<Answer, Fault>,
-    words: &[u8],
+    explanation: &[u8],
     sink: &mut S,
 ) -> u8
     ensures answered { IfOk outcome.now (λ _. EndsWith S.taken S.failed
-        words.now (status outcome.now) sink.old sink.new result) }
+        explanation.now (status outcome.now) sink.old sink.new result) }
     ensures refused { IfErr outcome.now (λ e. EndsWith S.taken S.failed
-        (refusal_line e ++ words.now) (refusal_status e) sink.old sink.new result) }
+        (refusal_line e ++ explanation.now) (refusal_status e) sink.old sink.new result) }
     ensures exit { IsExitStatus result }
 {
     let code = match outcome {
@@ -94,7 +94,7 @@ pub(crate) fn finish_with<S: Sink>(
             Err(_) => return WRITE_FAILED,
         },
     };
-    match put_text(sink, words) {
+    match put_text(sink, explanation) {
         Ok(()) => code,
         Err(_) => WRITE_FAILED,
     }

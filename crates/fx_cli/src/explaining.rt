@@ -28,7 +28,7 @@ fn explain_number<S: Sink>(number: u16, sink: &mut S) -> Result<Answer, Fault>
     }
 }
 
-/// The number below 65,536 that a word is in decimal digits.
+/// Returns the number below 65,536 that a word is in decimal digits.
 fn number_in(word: &str) -> Option<u16>
     ensures { result ≡ small (number_of largest word.now) }
 {

@@ -1,10 +1,9 @@
 //! Which file an answer is about, in words.
 
-use crate::asked::{LinesAt, documents_of};
-use crate::gathering::Words;
+use crate::gathering::Gathered;
 use crate::notes::Notes;
+use crate::sentences::Progressed;
 use fx_base::{Fault, Place, refusals};
-use fx_command_line::Call;
 use std::fs;
 use std::rt::Files;
 
@@ -12,7 +11,7 @@ use std::rt::Files;
 const IN_BUNDLE: &[u8] =
     b"file: standard input, the third text in the bundle, of which the lines are counted from 1\n";
 
-/// Whether a directory has this name.
+/// Returns whether a directory has this name.
 fn is_directory<R: Files>(rt: &R, path: &str) -> bool {
     match fs::metadata(rt, path) {
         Ok(metadata) => metadata.is_dir(),
@@ -20,7 +19,7 @@ fn is_directory<R: Files>(rt: &R, path: &str) -> bool {
     }
 }
 
-/// Whether a refusal of this number is that of a run's step, which has no place.
+/// Returns whether a refusal of this number is that of a run's step, which has no place.
 fn is_of_step(number: u16) -> bool {
     matches!(
         number,
@@ -36,7 +35,7 @@ fn is_behind_documents(fault: &Fault) -> bool {
 }
 
 /// Writes a file's name in a line of its own.
-fn put_file_name<R: Files>(rt: &R, file: &str, words: &mut Words) {
+fn put_file_name<R: Files>(rt: &R, file: &str, words: &mut Gathered) {
     words.text(b"file: ");
     words.text(file.as_bytes());
     if is_directory(rt, file) {
@@ -49,77 +48,55 @@ fn put_file_name<R: Files>(rt: &R, file: &str, words: &mut Words) {
 /// made or read. Which document is refused is explained with what is there.
 pub(crate) fn put_file_words<R: Files>(
     rt: &R,
-    call: Option<&Call>,
-    notes: &Notes,
+    notes: &Notes<'_>,
     fault: &Fault,
-    words: &mut Words,
+    words: &mut Gathered,
 ) {
-    let file = match (fault.number, notes.failed_file.told(), call) {
-        (refusals::FAILED_READ | refusals::FAILED_WRITE, Some(file), _) => Some(file),
-        (refusals::FAILED_READ, None, Some(call)) => unread_file(call, notes),
-        (refusals::LONG_LINE, _, Some(call)) => file_of_lines(call),
-        (number, _, Some(call)) if is_behind_documents(fault) => {
-            file_behind_documents(call, number)
+    let names = &notes.sentences.names;
+    let file = match (fault.number, notes.failed_file.description()) {
+        (refusals::FAILED_READ | refusals::FAILED_WRITE, Some(file)) => file,
+        (refusals::FAILED_READ, None) => unread_file(notes),
+        (refusals::LONG_LINE, _) => names.last,
+        (number, _) if is_behind_documents(fault) => {
+            if number >= refusals::CAPTURE_FORMAT
+                && number <= refusals::LONG_CAPTURE_RECORD
+                && !names.capture.is_empty()
+            {
+                names.capture
+            } else {
+                names.last
+            }
         }
-        _ => None,
+        _ => "",
     };
-    if let Some(file) = file {
+    if !file.is_empty() {
         put_file_name(rt, file, words);
     }
 }
 
-/// Returns the file after a call's documents that a refusal of this number is about.
-fn file_behind_documents(call: &Call, number: u16) -> Option<&str> {
-    match call {
-        Call::Collect { stream, .. } => Some(stream.as_str()),
-        Call::Run { capture, .. } if number <= refusals::LONG_CAPTURE_RECORD => {
-            Some(capture.as_str())
-        }
-        _ => file_of_lines(call),
+/// Returns the file whose last read failed: a document, or the one that is read after them.
+fn unread_file<'a>(notes: &Notes<'a>) -> &'a str {
+    let names = &notes.sentences.names;
+    match notes.sentences.progressed {
+        Progressed::Begun => "",
+        Progressed::Opened => names.network,
+        Progressed::Network if !names.traffic.is_empty() => names.traffic,
+        _ if !names.capture.is_empty() => names.capture,
+        _ => names.last,
     }
 }
 
-/// The file of a call whose last read failed: a document, or the one that is read after them.
-fn unread_file<'a>(call: &'a Call, notes: &Notes) -> Option<&'a str> {
-    let (network, traffic) = documents_of(call)?;
-    let _read = notes.network.octets()?;
-    if notes.network.failed() {
-        return Some(network);
-    }
-    if notes.traffic.failed() {
-        return traffic;
-    }
-    match call {
-        Call::Collect { stream, .. } => Some(stream.as_str()),
-        Call::Run { capture, .. } => Some(capture.as_str()),
-        _ => file_of_lines(call),
+/// Writes the name of the file that the last text is in.
+pub(crate) fn put_text_name<R: Files>(rt: &R, notes: &Notes<'_>, words: &mut Gathered) {
+    match notes.sentences.command {
+        None => put_file_name(rt, notes.sentences.names.last, words),
+        Some(_) => words.text(IN_BUNDLE),
     }
 }
 
-/// The file of a call that is read line by line.
-fn file_of_lines(call: &Call) -> Option<&str> {
-    match call {
-        Call::Replay { run, .. } => Some(run.as_str()),
-        Call::Check { certificate, .. } => Some(certificate.as_str()),
-        Call::Confirm { refutation, .. } => Some(refutation.as_str()),
-        Call::Run { schedule, .. } => Some(schedule.as_str()),
-        Call::Sum { totals, .. } => Some(totals.as_str()),
-        Call::Draw { answer, .. } => answer.as_deref(),
-        _ => None,
-    }
-}
-
-/// Writes the name of the file that a text is in.
-pub(crate) fn put_text_name<R: Files>(rt: &R, text: LinesAt<'_>, words: &mut Words) {
-    match text {
-        LinesAt::File(file) => put_file_name(rt, file, words),
-        LinesAt::Octets(_) => words.text(IN_BUNDLE),
-    }
-}
-
-/// Writes that a text is in a bundle, where it is; a file's name was written before.
-pub(crate) fn put_bundled_name(text: LinesAt<'_>, words: &mut Words) {
-    if matches!(text, LinesAt::Octets(_)) {
+/// Writes that the last text is in a bundle, where it is; a file's name was written before.
+pub(crate) fn put_bundled_name(notes: &Notes<'_>, words: &mut Gathered) {
+    if notes.sentences.command.is_some() {
         words.text(IN_BUNDLE);
     }
 }

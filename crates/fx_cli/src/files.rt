@@ -9,10 +9,10 @@ use fx_base::{Fault, Outside, refusals};
 use std::fs;
 use std::rt::Files;
 
-/// A file, opened to be read from its beginning.
+/// Returns a file, opened to be read from its beginning.
 ///
 /// Fails with 901, at no place, where it can't be opened; which file it is and why is noted.
-pub fn open<R: Files>(rt: &R, path: &str, notes: &mut Notes) -> Result<Outside<R::File>, Fault>
+pub fn open<R: Files>(rt: &R, path: &str, notes: &mut Notes<'_>) -> Result<Outside<R::File>, Fault>
     ensures { IfErr result (λ e. e ≡ fault_at failed_read places.None) }
 {
     match fs::open(rt, path) {
@@ -24,7 +24,7 @@ pub fn open<R: Files>(rt: &R, path: &str, notes: &mut Notes) -> Result<Outside<R
     }
 }
 
-/// A file, made to be written from its beginning, or emptied where it is there.
+/// Returns a file, made to be written from its beginning, or emptied where it is there.
 ///
 /// Fails with 902, at no place, where it can't be made; which file it is and why is noted.
 pub fn make<R: Files>(

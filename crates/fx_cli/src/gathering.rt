@@ -1,31 +1,31 @@
-//! Words that are gathered before any of them is written.
+//! Text that is gathered before any of it is written.
 
 use fx_base::{Fault, Outside, put_number, put_text};
 use std::alloc::Global;
 
-/// Sentences after an answer. If some can't be made, since memory runs out or a read of what they are about fails, there
-/// are none at the end.
+/// Sentences after an answer. If some can't be made, since memory runs out or a read of what they are about fails,
+/// there are none at the end.
 #[derive(Drop)]
-pub(crate) struct Words {
+pub(crate) struct Gathered {
     sink: Outside<Vec<u8>>,
     failed: bool,
 }
 
-impl Words {
-    /// None yet.
-    pub(crate) fn new(alloc: Global) -> Words {
-        Words {
+impl Gathered {
+    /// Returns an empty text.
+    pub(crate) fn new(alloc: Global) -> Gathered {
+        Gathered {
             sink: Outside::new(Vec::new(alloc)),
             failed: false,
         }
     }
 
-    /// Where a function writes words that answers whether it could, which is to be noted then.
+    /// Returns the sink for a function that returns whether it could write, which is to be noted then.
     pub(crate) fn sink(&mut self) -> &mut Outside<Vec<u8>> {
         &mut self.sink
     }
 
-    /// Notes whether words could be had.
+    /// Notes whether a text could be made.
     pub(crate) fn note(&mut self, outcome: Result<(), Fault>) {
         if outcome.is_err() {
             self.fail();
@@ -44,14 +44,24 @@ impl Words {
         self.note(written);
     }
 
-    /// Notes that words can't be had.
+    /// Appends another text.
+    pub(crate) fn all_of(&mut self, others: Gathered) {
+        let Gathered { sink, failed } = others;
+        if failed {
+            self.fail();
+            return;
+        }
+        self.text(sink.into_inner().as_slice());
+    }
+
+    /// Notes that a text can't be made.
     pub(crate) fn fail(&mut self) {
         self.failed = true;
     }
 
-    /// All words, or none where some couldn't be had.
+    /// Returns the whole text, or none where a part couldn't be made.
     pub(crate) fn into_octets(self, alloc: Global) -> Vec<u8> {
-        let Words { sink, failed } = self;
+        let Gathered { sink, failed } = self;
         if failed {
             return Vec::new(alloc);
         }

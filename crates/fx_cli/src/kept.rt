@@ -8,15 +8,13 @@ use std::alloc::Global;
 #[derive(Drop)]
 pub struct OctetCopy {
     octets: Option<Vec<u8>>,
-    failed: bool,
 }
 
 impl OctetCopy {
-    /// A copy of nothing yet, or, where nothing is to be kept, none at all.
+    /// Returns an empty copy, or none where nothing is to be kept.
     pub fn new(alloc: Global, keeps: bool) -> OctetCopy {
         OctetCopy {
             octets: if keeps { Some(Vec::new(alloc)) } else { None },
-            failed: false,
         }
     }
 
@@ -30,16 +28,9 @@ impl OctetCopy {
         }
     }
 
-    /// The octets, where they were kept.
+    /// Returns the octets, where they were kept.
     pub fn octets(&self) -> Option<&[u8]> {
         self.octets.as_deref()
-    }
-
-    /// Whether the last read failed.
-    pub fn failed(&self) -> bool
-        ensures { result ≡ self.now.failed }
-    {
-        self.failed
     }
 }
 
@@ -59,12 +50,9 @@ impl<R: Source> KeptSource<R> {
         KeptSource { source, copy }
     }
 
-    /// Returns the copy, and drops the source.
-    pub fn into_copy(self) -> OctetCopy
-        ensures { result ≡ self.copy }
-    {
-        let KeptSource { source: _, copy } = self;
-        copy
+    /// Returns the copy.
+    pub fn copy(&self) -> &OctetCopy {
+        &self.copy
     }
 }
 
@@ -76,16 +64,8 @@ impl<R: Source> Source for KeptSource<R> {
     ghost calls = { λ s. R.calls s.source };
 
     fn read(&mut self, buffer: &mut [u8]) -> Result<usize, Fault> {
-        match self.source.read(buffer) {
-            Ok(n) => {
-                self.copy.failed = false;
-                self.copy.keep(&buffer[..n]);
-                Ok(n)
-            }
-            Err(fault) => {
-                self.copy.failed = true;
-                Err(fault)
-            }
-        }
+        let count = self.source.read(buffer)?;
+        self.copy.keep(&buffer[..count]);
+        Ok(count)
     }
 }

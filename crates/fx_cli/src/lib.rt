@@ -2,28 +2,28 @@
 #![tactic(auto)]
 
 mod advice;
-mod asked;
+mod argument_errors;
 mod bundles;
 mod commands;
 mod drawing;
 mod ending;
+mod explained_answer;
 mod explaining;
+mod file_names;
 mod file_words;
 mod files;
 mod gathering;
+mod head;
 mod kept;
 mod link_files;
 mod notes;
+mod option_flag;
 mod progress;
-mod reading_again;
 mod running;
 mod seeds;
-mod telling;
-mod text_again;
-mod word_flag;
-mod words_ending;
+mod sentences;
 
+pub use argument_errors::{finish_arguments, finish_unread};
 pub use ending::finish;
 pub use fx_command_line::{Call, read_words};
 pub use running::run;
-pub use words_ending::{finish_unread, finish_words};

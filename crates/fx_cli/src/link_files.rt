@@ -19,8 +19,8 @@ fn link_path(alloc: Global, prefix: &str, link: u64) -> Result<String, AllocErro
     Ok(path)
 }
 
-/// Makes, or empties, the file of each link, whose name is a prefix and the link's number, from 1, in decimal. It makes no
-/// file whose very name is that of one that the run reads. Nothing is known of what a file has taken.
+/// Makes, or empties, the file of each link, whose name is a prefix and the link's number, from 1, in decimal. It makes
+/// no file whose very name is that of one that the run reads. Nothing is known of what a file has taken.
 #[derive(Drop)]
 pub struct LinkFiles<'a, R: Files> {
     alloc: Global,
@@ -31,7 +31,8 @@ pub struct LinkFiles<'a, R: Files> {
 }
 
 impl<'a, R: Files> LinkFiles<'a, R> {
-    /// Takes the prefix of the files' names, the names of the files that the run reads, and where a file that fails is noted.
+    /// Takes the prefix of the files' names, the names of the files that the run reads, and where a file that fails is
+    /// noted.
     pub fn new(
         alloc: Global,
         rt: &'a R,
@@ -62,7 +63,7 @@ impl<'a, R: Files> LinkFiles<'a, R> {
         failed_file
     }
 
-    /// Whether the run reads a file by this very name.
+    /// Returns whether the run reads a file by this very name.
     fn is_input(&self, path: &str) -> bool {
         self.inputs.contains(&path)
     }

@@ -1,8 +1,10 @@
 //! What a command is asked to print beside its answer, and what it notes of its files for that.
 ghost use Rattle.std.specs.Prelude.{◌≡◌};
 
+use crate::file_names::FileNames;
 use crate::kept::{KeptSource, OctetCopy};
 use crate::progress::Progress;
+use crate::sentences::{Progressed, Sentences, Wanted};
 use fx_audit::Answer;
 use fx_base::{Fault, Source, refusals};
 use std::alloc::{AllocError, Global};
@@ -14,30 +16,30 @@ use std::rt::Clock;
 pub struct FailedFile {
     alloc: Global,
     keeps: bool,
-    told: Option<String>,
+    description: Option<String>,
 }
 
 impl FailedFile {
-    /// None yet; whether one is to be noted.
+    /// Returns a note of no file yet; whether one is to be noted.
     pub fn new(alloc: Global, keeps: bool) -> FailedFile {
         FailedFile {
             alloc,
             keeps,
-            told: None,
+            description: None,
         }
     }
 
     /// Notes a file that can't be opened or made.
     pub fn unopened(&mut self, path: &str, error: io::Error) {
         if self.keeps {
-            self.told = sentence(self.alloc, path, error).ok();
+            self.description = sentence(self.alloc, path, error).ok();
         }
     }
 
     /// Notes a file that isn't written since the command reads it.
     pub fn read_too(&mut self, path: &str) {
         if self.keeps {
-            self.told = format!(in self.alloc;
+            self.description = format!(in self.alloc;
                 "{path}: the command reads this file, and doesn't write over it"
             ).ok();
         }
@@ -45,15 +47,15 @@ impl FailedFile {
 
     /// Notes a file that can't be written, unless it is one that can't be made.
     pub fn unwritten(&mut self, path: &str) {
-        if self.keeps && self.told.is_none() {
-            self.told = String::from_str(self.alloc, path).ok();
+        if self.keeps && self.description.is_none() {
+            self.description = String::from_str(self.alloc, path).ok();
         }
     }
 
     /// Notes that standard input can't be read.
     fn unread_input(&mut self) {
         if self.keeps {
-            self.told = String::from_str(
+            self.description = String::from_str(
                 self.alloc,
                 "standard input: it is closed, it is a directory, or a read of it failed",
             )
@@ -62,42 +64,34 @@ impl FailedFile {
     }
 
     /// Returns the file's name and, if the system has reported it, the reason.
-    pub fn told(&self) -> Option<&str> {
-        self.told.as_deref()
+    pub fn description(&self) -> Option<&str> {
+        self.description.as_deref()
     }
 }
 
-/// What was noted: nothing, unless sentences after the answer are asked for; what there is no memory for is left out.
-pub struct Notes {
+/// What a command is asked to print beside its answer.
+pub struct Notes<'a> {
     alloc: Global,
-    keeps: bool,
     progress: bool,
     /// The file that couldn't be opened, made or written.
     pub failed_file: FailedFile,
-    /// The octets that were read of the network's document.
-    pub network: OctetCopy,
-    /// The octets that were read of the traffic declaration.
-    pub traffic: OctetCopy,
-    /// The octets of a bundle.
-    pub bundle: OctetCopy,
+    /// The sentences after the answer.
+    pub(crate) sentences: Sentences<'a>,
 }
 
-impl Drop for Notes {
-    /// Drops its parts: proved once, and one call wherever notes are dropped.
+impl Drop for Notes<'_> {
+    /// Drops its parts in one place.
     fn drop(self) {
         let Self {
             alloc: _,
-            keeps: _,
             progress: _,
             failed_file: _,
-            network: _,
-            traffic: _,
-            bundle: _,
+            sentences: _,
         } = self;
     }
 }
 
-/// A file's name, and why it couldn't be opened or made.
+/// Returns a file's name, and why it couldn't be opened or made.
 fn sentence(alloc: Global, path: &str, error: io::Error) -> Result<String, AllocError> {
     let name = if path.is_empty() {
         "(a word without letters)"
@@ -112,54 +106,54 @@ fn sentence(alloc: Global, path: &str, error: io::Error) -> Result<String, Alloc
     format!(in alloc; "{name}: {error}{hint}")
 }
 
-impl Notes {
-    /// Notes of nothing yet, which are kept where words are asked for (`keeps`); whether progress is to be printed.
-    pub fn new(alloc: Global, keeps: bool, progress: bool) -> Notes {
+impl<'a> Notes<'a> {
+    /// Returns notes of nothing yet, for a command over these files; whether progress is to be printed.
+    pub(crate) fn new(
+        alloc: Global,
+        wanted: Wanted,
+        names: FileNames<'a>,
+        progress: bool,
+    ) -> Notes<'a> {
+        let sentences = Sentences::new(alloc, wanted, names);
         Notes {
             alloc,
-            keeps,
             progress,
-            failed_file: FailedFile::new(alloc, keeps),
-            network: OctetCopy::new(alloc, false),
-            traffic: OctetCopy::new(alloc, false),
-            bundle: OctetCopy::new(alloc, false),
+            failed_file: FailedFile::new(alloc, sentences.are_wanted()),
+            sentences,
         }
     }
 
-    /// Where a file that fails is noted, of those that the command itself makes.
+    /// Returns where a file that fails is noted, of those that the command itself makes.
     pub fn failing_files(&self) -> FailedFile {
-        FailedFile::new(self.alloc, self.keeps)
+        FailedFile::new(self.alloc, self.sentences.are_wanted())
     }
 
     /// Returns the progress of what begins now, which is printed if that is asked for.
-    pub fn progress<'a, R: Eprint + Clock>(&self, rt: &'a R) -> Progress<'a, R> {
+    pub fn progress<'b, R: Eprint + Clock>(&self, rt: &'b R) -> Progress<'b, R> {
         Progress::new(rt, self.progress)
     }
 
-    /// A source of which a copy is kept.
-    pub fn source<R: Source>(&self, source: R) -> KeptSource<R>
+    /// Returns a source of which a copy is kept, where sentences are wanted.
+    pub(crate) fn kept<R: Source>(&self, source: R) -> KeptSource<R>
         ensures { result.source ≡ source }
     {
-        KeptSource::new(source, OctetCopy::new(self.alloc, self.keeps))
+        KeptSource::new(
+            source,
+            OctetCopy::new(self.alloc, self.sentences.are_wanted()),
+        )
     }
 
-    /// Keeps the copy of a bundle, and notes where the bundle has no answer since it couldn't be read.
-    pub(crate) fn keep_bundle<R: Source>(
-        &mut self,
-        input: KeptSource<R>,
-        answer: &Result<Answer, Fault>,
-    ) {
-        self.bundle = input.into_copy();
+    /// Notes that the command's files are open.
+    pub(crate) fn opened(&mut self) {
+        self.sentences.progressed = Progressed::Opened;
+    }
+
+    /// Notes where a bundle has no answer since standard input can't be read.
+    pub(crate) fn unread_bundle(&mut self, answer: &Result<Answer, Fault>) {
         if let Err(fault) = answer {
             if fault.number == refusals::FAILED_READ {
                 self.failed_file.unread_input();
             }
         }
-    }
-
-    /// Keeps the copies of the two documents.
-    pub fn keep<N: Source, T: Source>(&mut self, network: KeptSource<N>, traffic: KeptSource<T>) {
-        self.network = network.into_copy();
-        self.traffic = traffic.into_copy();
     }
 }

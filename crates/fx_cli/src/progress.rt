@@ -1,6 +1,7 @@
 //! How far a command has come, printed on standard error.
 ghost use Rattle.std.specs.Prelude.{◌≡◌};
 
+use crate::head::Head;
 use fx_base::{Fault, Source};
 use fx_search::Watch;
 use std::rt::Clock;
@@ -44,27 +45,34 @@ impl<'a, R: Eprint + Clock> Progress<'a, R> {
 
 /// A source, of which is printed how many octets it has given.
 #[derive(Drop)]
-pub struct ToldSource<'a, R, S> {
+pub struct ProgressSource<'a, R, S> {
     source: S,
     path: &'a str,
     octets: u64,
+    head: Head,
     progress: Progress<'a, R>,
 }
 
-impl<'a, R: Eprint + Clock, S: Source> ToldSource<'a, R, S> {
+impl<'a, R: Eprint + Clock, S: Source> ProgressSource<'a, R, S> {
     /// This source, which is the file of this path.
-    pub fn new(source: S, path: &'a str, progress: Progress<'a, R>) -> ToldSource<'a, R, S>
+    pub fn new(source: S, path: &'a str, progress: Progress<'a, R>) -> ProgressSource<'a, R, S>
         ensures { result.source ≡ source }
     {
-        ToldSource {
+        ProgressSource {
             source,
             path,
             octets: 0,
+            head: Head::new(),
             progress,
         }
     }
 
-    /// Tells how many octets were given, where it is time. A line that can't be written is left out.
+    /// Returns the first octets that it has given, at most as many as a capture's file header has.
+    pub fn head(&self) -> &[u8] {
+        self.head.octets()
+    }
+
+    /// Reports how many octets were given, where it is time. A line that can't be written is left out.
     fn tell(&mut self, count: usize)
         ensures { self.new.source ≡ self.old.source }
     {
@@ -72,12 +80,12 @@ impl<'a, R: Eprint + Clock, S: Source> ToldSource<'a, R, S> {
         if self.progress.is_due() {
             let path = self.path;
             let octets = self.octets;
-            let _told = eprintln!(self.progress.rt; "once: {octets} octets of {path} read");
+            let _written = eprintln!(self.progress.rt; "once: {octets} octets of {path} read");
         }
     }
 }
 
-impl<'a, R: Eprint + Clock, S: Source> Source for ToldSource<'a, R, S> {
+impl<'a, R: Eprint + Clock, S: Source> Source for ProgressSource<'a, R, S> {
     ghost left = { λ s. S.left s.source };
 
     ghost failed = { λ s. S.failed s.source };
@@ -86,6 +94,7 @@ impl<'a, R: Eprint + Clock, S: Source> Source for ToldSource<'a, R, S> {
 
     fn read(&mut self, buffer: &mut [u8]) -> Result<usize, Fault> {
         let count = self.source.read(buffer)?;
+        self.head.keep(&buffer[..count]);
         self.tell(count);
         Ok(count)
     }
@@ -93,23 +102,23 @@ impl<'a, R: Eprint + Clock, S: Source> Source for ToldSource<'a, R, S> {
 
 /// An audit's search, of which is printed how many lines of a certificate it has found.
 #[derive(Drop)]
-pub struct ToldSearch<'a, R> {
+pub struct ProgressSearch<'a, R> {
     limit: u64,
     progress: Progress<'a, R>,
 }
 
-impl<'a, R: Eprint + Clock> ToldSearch<'a, R> {
-    /// A search for a certificate of at most `limit` split and leaf lines.
-    pub fn new(limit: u64, progress: Progress<'a, R>) -> ToldSearch<'a, R> {
-        ToldSearch { limit, progress }
+impl<'a, R: Eprint + Clock> ProgressSearch<'a, R> {
+    /// Returns a search for a certificate of at most `limit` split and leaf lines.
+    pub fn new(limit: u64, progress: Progress<'a, R>) -> ProgressSearch<'a, R> {
+        ProgressSearch { limit, progress }
     }
 }
 
-impl<'a, R: Eprint + Clock> Watch for ToldSearch<'a, R> {
+impl<'a, R: Eprint + Clock> Watch for ProgressSearch<'a, R> {
     fn on_lines(&mut self, lines: u64) {
         if lines % LINES_A_LOOK == 0 && self.progress.is_due() {
             let limit = self.limit;
-            let _told = eprintln!(self.progress.rt;
+            let _written = eprintln!(self.progress.rt;
                 "once: {lines} lines of a certificate found, of at most {limit}"
             );
         }

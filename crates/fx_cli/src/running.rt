@@ -1,24 +1,26 @@
-//! A command, from its words to its exit status.
+//! A command, from its arguments to its exit status.
 ghost use Rattle.std.specs.Prelude.{◌≡◌, ◌⊎◌, ◌≤◌, ◌<◌, IfErr, IfOk, length, map, string_bytes, true, false};
 ghost use Rattle.fx_audit.specs.Outputs.{AnswersWith};
 ghost use Rattle.fx_cli.specs.Ending.{EndsWith, IsExitStatus};
 ghost use Rattle.fx_cli.specs.Arguments.{EndsByOptions, EndsByGivenArguments, EndsAfterFlush};
-ghost use Rattle.fx_cli.specs.WordFlag.{AddsHelp, RemovesFlag, wants_help};
-ghost use Rattle.fx_cli.specs.Running.{EndsAs, EndsInWords, HasFailedInWords, HasFailedToWrite, IsBundleRefusal, IsBundleOutput, IsCallRefusal, IsCallText, IsRefusal};
+ghost use Rattle.fx_cli.specs.OptionFlag.{AddsHelp, RemovesFlag, wants_help};
+ghost use Rattle.fx_cli.specs.Running.{EndsAs, EndsExplained, HasFailedExplained, HasFailedToWrite, IsBundleRefusal, IsBundleOutput, IsCallRefusal, IsCallText, IsRefusal};
 ghost use Rattle.fx_command_line.specs.Words.{Names, NamesNoCall};
 ghost use Rattle.fx_command_line.specs.declared.words.Call.{Call};
-ghost use Rattle.fx_cli.specs.WordsEnding.{EndsWithoutCall, unread_status, unread_text};
+ghost use Rattle.fx_cli.specs.ArgumentErrors.{EndsWithoutCall, unread_status, unread_text};
 ghost use Rattle.std.specs.IoError.{error_kind};
 ghost use Rattle.fx_base.specs.Device.{IsWriteFault, KeepsGoing};
 
+use crate::argument_errors::{finish_arguments, finish_unread};
 use crate::commands::answer_call;
 use crate::ending::{WRITE_FAILED, finish, finish_with};
+use crate::explained_answer::explanation_of;
+use crate::file_names::{BUNDLE, names_of};
 use crate::notes::Notes;
+use crate::option_flag::place_of_flag;
 use crate::seeds::seed_at_random;
-use crate::telling::words_of;
-use crate::word_flag::place_of_flag;
-use crate::words_ending::{finish_unread, finish_words};
-use fx_audit::{Answer, bundle_bytes};
+use crate::sentences::{Wanted, wanted_of};
+use fx_audit::{Answer, bundle_explained};
 use fx_base::{Fault, Outside, Sink, refusals};
 use fx_command_line::{Call, read_words};
 use std::alloc::{AllocError, Global};
@@ -30,7 +32,7 @@ use std::{env, mem};
 /// Answers the bundle on standard input.
 fn answer_input<R: AllocGlobal + Input + RandomSource, S: Sink>(
     rt: &R,
-    notes: &mut Notes,
+    notes: &mut Notes<'_>,
     sink: &mut S,
 ) -> Result<Answer, Fault>
     ensures answers { AnswersWith S.taken S.failed IsBundleOutput sink.old sink.new result }
@@ -38,13 +40,13 @@ fn answer_input<R: AllocGlobal + Input + RandomSource, S: Sink>(
         ⊎ IsRefusal IsBundleRefusal e) }
 {
     let seed = seed_at_random(rt)?;
-    let mut input = notes.source(Outside::new(rt.reader()));
-    let answer = bundle_bytes(rt.alloc(), seed, &mut input, sink);
-    notes.keep_bundle(input, &answer);
+    let mut input = Outside::new(rt.reader());
+    let answer = bundle_explained(rt.alloc(), seed, &mut input, &mut notes.sentences, sink);
+    notes.unread_bundle(&answer);
     answer
 }
 
-/// Answers the bundle on standard input. Gives the exit status.
+/// Answers the bundle on standard input. Returns the exit status.
 fn finish_input<R: AllocGlobal + Input + RandomSource, S: Sink>(rt: &R, sink: &mut S) -> u8
     ensures ended { EndsAs IsBundleOutput (IsRefusal IsBundleRefusal) (S.taken sink.old)
         (S.taken sink.new)
@@ -52,12 +54,12 @@ fn finish_input<R: AllocGlobal + Input + RandomSource, S: Sink>(rt: &R, sink: &m
         (HasFailedToWrite S.taken S.failed sink.new) result }
     ensures exit { IsExitStatus result }
 {
-    let mut notes = Notes::new(rt.alloc(), false, false);
+    let mut notes = Notes::new(rt.alloc(), Wanted::Nothing, BUNDLE, false);
     let answer = answer_input(rt, &mut notes, sink);
     finish(&answer, sink)
 }
 
-/// Answers a call. Gives the exit status.
+/// Answers a call. Returns the exit status.
 fn finish_call<R: AllocGlobal + Clock + Eprint + Files + RandomSource, S: Sink>(
     rt: &R,
     call: &Call,
@@ -70,112 +72,113 @@ fn finish_call<R: AllocGlobal + Clock + Eprint + Files + RandomSource, S: Sink>(
         (HasFailedToWrite S.taken S.failed sink.new) result }
     ensures exit { IsExitStatus result }
 {
-    let mut notes = Notes::new(rt.alloc(), false, progress);
+    let mut notes = Notes::new(rt.alloc(), Wanted::Nothing, names_of(call), progress);
     let answer = answer_call(rt, call, &mut notes, sink);
     finish(&answer, sink)
 }
 
-/// Answers words, of which the first is the program's own name: the call that they name, or, where there is no
-/// other, the bundle on standard input. Gives the exit status: with an answer's text that of the answer, with the line
-/// of a refusal that of the refusal, and 5 where a write failed.
-fn answer_words<R: AllocGlobal + Clock + Eprint + Files + Input + RandomSource, S: Sink>(
+/// Answers arguments, of which the first is the program's own name: the call that they name, or, where there is no
+/// other, the bundle on standard input. Returns the exit status: with an answer's text that of the answer, with the
+/// line of a refusal that of the refusal, and 5 where a write failed.
+fn answer_arguments<R: AllocGlobal + Clock + Eprint + Files + Input + RandomSource, S: Sink>(
     rt: &R,
-    words: &[String],
+    arguments: &[String],
     progress: bool,
     sink: &mut S,
 ) -> u8
-    ensures bundle { length words.now < 2
+    ensures bundle { length arguments.now < 2
         → EndsAs IsBundleOutput (IsRefusal IsBundleRefusal) (S.taken sink.old) (S.taken sink.new)
         (KeepsGoing (S.failed sink.old) (S.failed sink.new))
         (HasFailedToWrite S.taken S.failed sink.new) result }
-    ensures call { (call : Call) → Names (map string_bytes words.now) call
+    ensures call { (call : Call) → Names (map string_bytes arguments.now) call
         → EndsAs (IsCallText call) (IsCallRefusal call) (S.taken sink.old) (S.taken sink.new)
         (KeepsGoing (S.failed sink.old) (S.failed sink.new))
         (HasFailedToWrite S.taken S.failed sink.new) result }
-    ensures no_call { 2 ≤ length words.now → NamesNoCall (map string_bytes words.now)
-        → EndsWithoutCall S.taken S.failed (map string_bytes words.now) sink.old sink.new
+    ensures no_call { 2 ≤ length arguments.now → NamesNoCall (map string_bytes arguments.now)
+        → EndsWithoutCall S.taken S.failed (map string_bytes arguments.now) sink.old sink.new
         result }
     ensures exit { IsExitStatus result }
 {
-    if words.len() < 2 {
+    if arguments.len() < 2 {
         return finish_input(rt, sink);
     }
-    match read_words(rt.alloc(), words) {
+    match read_words(rt.alloc(), arguments) {
         Ok(call) => finish_call(rt, &call, progress, sink),
-        Err(error) => finish_words(rt.alloc(), &error, sink),
+        Err(error) => finish_arguments(rt.alloc(), &error, sink),
     }
 }
 
 /// Answers the bundle on standard input, and explains the answer in sentences after it. Returns the exit status.
-fn tell_input<R: AllocGlobal + Files + Input + RandomSource, S: Sink>(rt: &R, sink: &mut S) -> u8
-    ensures ended { EndsInWords IsBundleOutput (IsRefusal IsBundleRefusal) (S.taken sink.old)
+fn explain_input<R: AllocGlobal + Files + Input + RandomSource, S: Sink>(rt: &R, sink: &mut S) -> u8
+    ensures ended { EndsExplained IsBundleOutput (IsRefusal IsBundleRefusal) (S.taken sink.old)
         (S.taken sink.new)
         (KeepsGoing (S.failed sink.old) (S.failed sink.new))
-        (HasFailedInWords S.taken S.failed sink.new) result }
+        (HasFailedExplained S.taken S.failed sink.new) result }
     ensures exit { IsExitStatus result }
 {
-    let mut notes = Notes::new(rt.alloc(), true, false);
+    let mut notes = Notes::new(rt.alloc(), Wanted::Answer, BUNDLE, false);
     let answer = answer_input(rt, &mut notes, sink);
-    let told = words_of(rt, None, &notes, &answer);
-    finish_with(&answer, told.as_slice(), sink)
+    let explanation = explanation_of(rt, None, &mut notes, &answer);
+    finish_with(&answer, explanation.as_slice(), sink)
 }
 
 /// Answers a call, and explains the answer in sentences after it. Returns the exit status.
-fn tell_call<R: AllocGlobal + Clock + Eprint + Files + RandomSource, S: Sink>(
+fn explain_call<R: AllocGlobal + Clock + Eprint + Files + RandomSource, S: Sink>(
     rt: &R,
     call: &Call,
     progress: bool,
     sink: &mut S,
 ) -> u8
-    ensures ended { EndsInWords (IsCallText call.now) (IsCallRefusal call.now) (S.taken sink.old)
+    ensures ended { EndsExplained (IsCallText call.now) (IsCallRefusal call.now) (S.taken sink.old)
         (S.taken sink.new)
         (KeepsGoing (S.failed sink.old) (S.failed sink.new))
-        (HasFailedInWords S.taken S.failed sink.new) result }
+        (HasFailedExplained S.taken S.failed sink.new) result }
     ensures exit { IsExitStatus result }
 {
-    let mut notes = Notes::new(rt.alloc(), true, progress);
+    let mut notes = Notes::new(rt.alloc(), wanted_of(call), names_of(call), progress);
     let answer = answer_call(rt, call, &mut notes, sink);
-    let told = words_of(rt, Some(call), &notes, &answer);
-    finish_with(&answer, told.as_slice(), sink)
+    let explanation = explanation_of(rt, Some(call), &mut notes, &answer);
+    finish_with(&answer, explanation.as_slice(), sink)
 }
 
-/// Answers words as [`answer_words`] does, and explains the answer in sentences after it, unless there is no memory for them.
-fn answer_in_words<R: AllocGlobal + Clock + Eprint + Files + Input + RandomSource, S: Sink>(
+/// Answers arguments as [`answer_arguments`] does, and explains the answer in sentences after it, unless there is no
+/// memory for them.
+fn answer_explained<R: AllocGlobal + Clock + Eprint + Files + Input + RandomSource, S: Sink>(
     rt: &R,
-    words: &[String],
+    arguments: &[String],
     progress: bool,
     sink: &mut S,
 ) -> u8
-    ensures bundle { length words.now < 2
-        → EndsInWords IsBundleOutput (IsRefusal IsBundleRefusal) (S.taken sink.old)
+    ensures bundle { length arguments.now < 2
+        → EndsExplained IsBundleOutput (IsRefusal IsBundleRefusal) (S.taken sink.old)
         (S.taken sink.new)
         (KeepsGoing (S.failed sink.old) (S.failed sink.new))
-        (HasFailedInWords S.taken S.failed sink.new) result }
-    ensures call { (call : Call) → Names (map string_bytes words.now) call
-        → EndsInWords (IsCallText call) (IsCallRefusal call) (S.taken sink.old) (S.taken sink.new)
+        (HasFailedExplained S.taken S.failed sink.new) result }
+    ensures call { (call : Call) → Names (map string_bytes arguments.now) call
+        → EndsExplained (IsCallText call) (IsCallRefusal call) (S.taken sink.old) (S.taken sink.new)
         (KeepsGoing (S.failed sink.old) (S.failed sink.new))
-        (HasFailedInWords S.taken S.failed sink.new) result }
-    ensures no_call { 2 ≤ length words.now → NamesNoCall (map string_bytes words.now)
-        → EndsWithoutCall S.taken S.failed (map string_bytes words.now) sink.old sink.new
+        (HasFailedExplained S.taken S.failed sink.new) result }
+    ensures no_call { 2 ≤ length arguments.now → NamesNoCall (map string_bytes arguments.now)
+        → EndsWithoutCall S.taken S.failed (map string_bytes arguments.now) sink.old sink.new
         result }
     ensures exit { IsExitStatus result }
 {
-    if words.len() < 2 {
-        return tell_input(rt, sink);
+    if arguments.len() < 2 {
+        return explain_input(rt, sink);
     }
-    match read_words(rt.alloc(), words) {
-        Ok(call) => tell_call(rt, &call, progress, sink),
-        Err(error) => finish_words(rt.alloc(), &error, sink),
+    match read_words(rt.alloc(), arguments) {
+        Ok(call) => explain_call(rt, &call, progress, sink),
+        Err(error) => finish_arguments(rt.alloc(), &error, sink),
     }
 }
 
-/// The words of the command line, of which the first is the program's own name.
-fn all_words<R: AllocGlobal + Env>(rt: &R) -> io::Result<Vec<String>> {
-    let mut words: Vec<String> = Vec::new(rt.alloc());
-    for word in env::args(rt)? {
-        words.push(word)?;
+/// Returns the arguments of the command line, of which the first is the program's own name.
+fn all_arguments<R: AllocGlobal + Env>(rt: &R) -> io::Result<Vec<String>> {
+    let mut arguments: Vec<String> = Vec::new(rt.alloc());
+    for argument in env::args(rt)? {
+        arguments.push(argument)?;
     }
-    Ok(words)
+    Ok(arguments)
 }
 
 /// Adds `--help` to the arguments of somebody at a terminal who gave none but the name of the program.
@@ -207,8 +210,8 @@ fn take_flag(arguments: &mut Vec<String>, flag: &str) -> bool
     }
 }
 
-/// Answers arguments with their options: `--words` adds sentences after the answer, and `--progress` reports how far the
-/// command has come.
+/// Answers arguments with their options: `--explain` adds sentences after the answer, and `--progress` reports how far
+/// the command has come.
 fn answer_given<R: AllocGlobal + Clock + Eprint + Files + Input + RandomSource, S: Sink>(
     rt: &R,
     mut arguments: Vec<String>,
@@ -219,10 +222,10 @@ fn answer_given<R: AllocGlobal + Clock + Eprint + Files + Input + RandomSource, 
     ensures exit { IsExitStatus result }
 {
     let progress = take_flag(&mut arguments, "--progress");
-    if take_flag(&mut arguments, "--words") {
-        answer_in_words(rt, arguments.as_slice(), progress, sink)
+    if take_flag(&mut arguments, "--explain") {
+        answer_explained(rt, arguments.as_slice(), progress, sink)
     } else {
-        answer_words(rt, arguments.as_slice(), progress, sink)
+        answer_arguments(rt, arguments.as_slice(), progress, sink)
     }
 }
 
@@ -268,7 +271,7 @@ fn answer<R: AllocGlobal + Clock + Eprint + Files + Input + RandomSource, S: Sin
     flush(sink, code)
 }
 
-/// Hands on what a sink still holds. Gives this exit status, or 5 where that fails.
+/// Flushes a sink. Returns this exit status, or 5 where that fails.
 fn flush<S: Sink>(sink: &mut S, code: u8) -> u8
     ensures { ((result ≡ code) × (S.failed sink.new ≡ false)
         × (S.holds_back sink.new ≡ false) × (S.taken sink.new ≡ S.taken sink.old))
@@ -280,10 +283,10 @@ fn flush<S: Sink>(sink: &mut S, code: u8) -> u8
     }
 }
 
-/// The program: reads its arguments, answers on standard output, and returns its exit status.
+/// Runs the program: reads its arguments, answers on standard output, and returns its exit status.
 ///
-/// Without arguments it answers the bundle on standard input; if that is a terminal it writes its help. 0 is an answer of yes, or help that was asked for, 1 no,
-/// 3 unknown; 2 a refusal, 4 out of memory, 5 a device that failed, 6 arguments that don't parse.
+/// Without arguments it answers the bundle on standard input; if that is a terminal it writes its help. 0 is an answer
+/// of yes, or help that was asked for, 1 no, 3 unknown; 2 a refusal, 4 out of memory, 5 a device that failed, 6 arguments that don't parse.
 pub fn run<R: AllocGlobal + Clock + Env + Eprint + Files + Input + Print + RandomSource>(
     rt: &R,
     on_terminal: bool,
@@ -293,7 +296,7 @@ pub fn run<R: AllocGlobal + Clock + Env + Eprint + Files + Input + Print + Rando
     match BufWriter::new(rt.alloc(), io::writer(rt)) {
         Ok(writer) => {
             let mut sink = Outside::new(writer);
-            let code = answer(rt, all_words(rt), on_terminal, &mut sink);
+            let code = answer(rt, all_arguments(rt), on_terminal, &mut sink);
             // What couldn't be written isn't tried again, as it would be when the writer is dropped: no answer follows
             // a write that failed.
             mem::forget(sink);

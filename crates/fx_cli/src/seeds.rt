@@ -8,7 +8,7 @@ use fx_base::{Fault, refusals};
 use fx_layout::Seed;
 use std::random::RandomSource;
 
-/// A seed that nobody can foresee, of 16 octets that the system gives at random.
+/// Returns a seed that nobody can foresee, of 16 octets that the system gives at random.
 ///
 /// Fails with 901, at no place, where it gives none.
 pub fn seed_at_random<R: RandomSource>(rt: &R) -> Result<Seed, Fault>

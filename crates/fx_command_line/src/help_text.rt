@@ -25,8 +25,8 @@ at its end and followed by a line `%%`:
 
   (echo audit; cat network.json; echo; echo %%; cat traffic.json; echo; echo %%) | once
 
---words, with any command or a bundle: in sentences after the answer, what it means and what to do.
-There are none after a graph, nor after what `explain` prints about a number.
+--explain, with any command or a bundle: prints after the answer, in sentences, what it means and
+what to do. Nothing is printed after a graph, nor after what `explain` prints about a number.
 --progress, with audit, collect and run: how far it has come, on standard error.
 It is printed at most once a second.
 
@@ -40,7 +40,7 @@ Exit status:
   5  a read or a write failed, or a file can't be opened: `device 901`, `device 902`
   6  the words don't parse";
 
-/// Behind the help of `audit`.
+/// After the help of `audit`.
 pub const AUDIT: &str = "\
 Example:
   once audit network.json traffic.json > answer.txt
@@ -57,12 +57,12 @@ which ends in a wrong total. Or `unknown 601` (status 3): neither was found with
 `refused NUMBER PLACE` (status 2), PLACE a JSON Pointer (RFC 6901), in which entries of lists count
 from 0. What the lines of both answers say: `once help check`, `once help confirm`.
 
---words explains the answer in sentences: of a refutation what each of its steps does, by name, and
-what to do about it.
+--explain adds sentences: for a refutation, how the packet is counted, what to change, and what each
+of its steps does, by name; then what is doubtful in the documents.
 --progress prints on standard error, at most once a second, how many lines of a certificate were
 found.";
 
-/// Behind the help of `check`.
+/// After the help of `check`.
 pub const CHECK: &str = "\
 Example:
   once audit network.json traffic.json > certificate.txt
@@ -106,10 +106,9 @@ Prints `yes` (status 0) only where every complete run counts each packet exactly
 text, 406 to 410, 413, 415 about the network. A document that is refused: `refused NUMBER PLACE`
 (status 2).
 
---words explains the line: its class, path and region by name, and what to do. For that the
-certificate is read once more, which a pipe can't be.";
+--explain adds sentences about the line: its class, path and region by name, and what to do.";
 
-/// Behind the help of `confirm`.
+/// After the help of `confirm`.
 pub const CONFIRM: &str = "\
 Example:
   once audit network.json traffic.json > refutation.txt
@@ -136,11 +135,10 @@ Prints `refuted` (status 0), then after the line `run` what the collector counts
 after the line `plain` what it should; or `no NUMBER PLACE` (status 1), 501 to 505. A document that
 is refused: `refused NUMBER PLACE` (status 2).
 
---words explains the run step by step, by name: where the packet is metered, or which observation
-points pass it over and why; and what to do about it. For that the refutation is read once more,
-which a pipe can't be.";
+--explain adds sentences about the run: how the packet is counted and what to change; then step by
+step, by name, where the packet is metered, or which observation points pass it over and why.";
 
-/// Behind the help of `replay`.
+/// After the help of `replay`.
 pub const REPLAY: &str = "\
 Example:
   once replay network.json traffic.json run.txt
@@ -208,10 +206,9 @@ Prints the collector's totals at the run's end (status 0): `keys N`, a line for 
 `unassigned N`, and `complete yes` or `complete no`. A text that is refused: `refused NUMBER PLACE`
 (status 2); 851 to 853 are steps that can't be made, 854 to 856 lines.
 
---words says which step it was, by name, and of a run that isn't complete what it leaves undone.
-For that the run is read once more, which a pipe can't be.";
+--explain says which step it was, by name, and of a run that isn't complete what it leaves undone.";
 
-/// Behind the help of `collect`.
+/// After the help of `collect`.
 pub const COLLECT: &str = "\
 Examples:
   once collect network.json stream.ipfix
@@ -228,12 +225,13 @@ whose sequence number isn't the next one), `skipped N` (records that lack a coun
 is refused: `refused NUMBER octet N` (status 2), 611 to 620, at the first octet of the message,
 counted from 0. Counters must have 8 octets (618).
 
---words says of a refused message which it is and what is there: its set, template, field or
-record; of totals which messages leave a gap, and which templates lack a field of the key or a
-counter. For that the stream is read once more, which a pipe can't be.
+--explain says of a refused message which it is and what is there: its set, template, field or
+record; of totals which messages leave a gap, which templates lack a field of the key or a counter
+and how much they count, which records are of both directions of an observation point or of sampled
+packets, and when the first and the last message were exported.
 --progress prints on standard error, at most once a second, how many octets of the stream were read.";
 
-/// Behind the help of `run`.
+/// After the help of `run`.
 pub const RUN: &str = "\
 Example:
   once run network.json traffic.json capture.pcap schedule.txt --links link
@@ -278,13 +276,12 @@ go to the file PREFIX1, and so on; files of these names are written over, but wh
 given by that very name it ends with `device 902`. A text that is refused: `refused NUMBER PLACE`
 (status 2), 701 to 704 of the capture, 801 to 804 of the schedule.
 
---words says of a refused line what it is about: of 802 what isn't there, of 803 and 804 which
-packet, and which of its fields are outside of which class. For that the capture and the schedule
-are read once more, which a pipe can't be.
+--explain says of a refused line what it is about: of 802 what isn't there, of 803 and 804 which
+packet, and which of its fields are outside of which class.
 --progress prints on standard error, at most once a second, how many octets of the capture were
 read.";
 
-/// Behind the help of `lint`.
+/// After the help of `lint`.
 pub const LINT: &str = "\
 Example:
   once lint network.json traffic.json
@@ -427,12 +424,12 @@ Prints `ok` (status 0) where every command would take the document; else its fir
 `refused NUMBER PLACE` (status 2), PLACE a JSON Pointer (RFC 6901), in which entries of lists count
 from 0.
 
---words explains the fault in sentences, and of an accepted document what was accepted silently: a
+--explain explains the fault in sentences, and of accepted documents what is doubtful in them: a
 member that occurs twice, members that aren't read, a destination without a link, a cache that
-nothing feeds, a class that is exempt, a crossing at an interface that no observation point has, a
-path of which no observation point sees a crossing.";
+nothing feeds, a path of which no observation point sees a crossing, an interface that is nearly
+the name of an observed one. Exempt classes and the number of other unobserved crossings follow.";
 
-/// Behind the help of `draw`.
+/// After the help of `draw`.
 pub const DRAW: &str = "\
 Examples:
   once draw network.json | dot -Tsvg > network.svg
@@ -450,12 +447,11 @@ of each path, and what sees them; with a certificate in green where they are cou
 refutation in orange the steps of its run, and in red what it comes to. A text that is refused:
 `refused NUMBER PLACE` (status 2), also a certificate that `once check` and a refutation that
 `once confirm` refuses. Where dot says `syntax error near 'refused'` or `near 'device'`, run
-`once draw .. --words` without dot.
+`once draw .. --explain` without dot.
 
---words explains what is refused in sentences. For that ANSWER is read once more, which a pipe can't
-be.";
+--explain explains what is refused in sentences.";
 
-/// Behind the help of `sum`.
+/// After the help of `sum`.
 pub const SUM: &str = "\
 Example:
   mkdir totals refused
@@ -498,10 +494,9 @@ where one of the texts has them, `complete`, `skipped other N malformed N`, `gap
 collected together, in any order; and sums can be summed. A text that is refused:
 `refused 861 line N` (status 2).
 
---words explains what is refused in sentences, and what is due at that line. For that the totals are
-read once more, which a pipe can't be: `cat totals/* > all.txt` makes a file of them.";
+--explain explains what is refused in sentences, and what is due at that line.";
 
-/// Behind the help of `explain`.
+/// After the help of `explain`.
 pub const EXPLAIN: &str = "\
 Examples:
   once explain 407

@@ -1,13 +1,13 @@
 //! Members that an object may have, and those that one has which it may not.
 use crate::members::one_required;
-use crate::near::near_of;
-use crate::parts::tell_whole;
+use crate::parts::write_whole;
 use crate::pointers::last_member;
+use crate::similar_names::similar_name;
 use crate::story::{Story, between};
 use serde_json::Value;
 
-/// The members that objects of a network may have, by the member under which such an object stands, but for those that are
-/// refused with a number of their own.
+/// The members that objects of a network may have, by the member under which such an object stands, but for those that
+/// are refused with a number of their own.
 const OF_NETWORK: [(&str, &[&str]); 23] = [
     ("", &["devices", "links", "report"]),
     ("devices", &["name", "config"]),
@@ -160,7 +160,7 @@ const OF_TRAFFIC: [(&str, &[&str]); 4] = [
     ("paths", &["device", "interface", "direction"]),
 ];
 
-/// The members that a table has for the objects under a member.
+/// Returns the members that a table has for the objects under a member.
 pub(crate) fn members_in(
     table: &[(&'static str, &'static [&'static str])],
     member: &str,
@@ -173,8 +173,8 @@ pub(crate) fn members_in(
     &[]
 }
 
-/// The members that may stand in the object at a pointer whose last member is this one, of a network's document or of a
-/// traffic declaration.
+/// Returns the members that may stand in the object at a pointer whose last member is this one, of a network's document
+/// or of a traffic declaration.
 fn members_allowed(member: &str, is_network: bool) -> &'static [&'static str] {
     if is_network {
         members_in(&OF_NETWORK, member)
@@ -183,7 +183,7 @@ fn members_allowed(member: &str, is_network: bool) -> &'static [&'static str] {
     }
 }
 
-/// Whether an object has one of these members.
+/// Returns whether an object has one of these members.
 pub(crate) fn has_one(object: &Value, names: &[&str]) -> bool {
     for name in names {
         if object.get(*name).is_some() {
@@ -193,14 +193,14 @@ pub(crate) fn has_one(object: &Value, names: &[&str]) -> bool {
     false
 }
 
-/// Whether a name is one of these.
+/// Returns whether a name is one of these.
 pub(crate) fn is_one_of(names: &[&str], name: &str) -> bool {
     names.contains(&name)
 }
 
-/// Tells which of these names an object doesn't have yet, which may not have a member of another name. Of those of which
-/// it has one at most none is told where it has one.
-fn tell_free(
+/// Writes which of these names an object doesn't have yet, which may not have a member of another name. Of those of
+/// which it has one at most none is written where it has one.
+fn write_free(
     story: &mut Story,
     object: &Value,
     name: &str,
@@ -210,23 +210,23 @@ fn tell_free(
     let is_made = has_one(object, choice);
     story.text_quoted("no member ", name);
     story.text(" may be there; those that may, and aren't there yet: ");
-    let mut told = false;
+    let mut shown = false;
     for free in names {
         if object.get(*free).is_none() && !(is_made && is_one_of(choice, free)) {
-            story.text(between(told, ", "));
+            story.text(between(shown, ", "));
             story.text(free);
-            told = true;
+            shown = true;
         }
     }
-    if !told {
+    if !shown {
         story.sentence("none");
         story.text("take the member out");
     }
     story.end_line();
 }
 
-/// Tells the name that a misspelled member stands for.
-fn tell_near<'x>(story: &mut Story, object: &Value, name: &'x str, known: &'x str) {
+/// Writes the name that a misspelled member stands for.
+fn write_near<'x>(story: &mut Story, object: &Value, name: &'x str, known: &'x str) {
     let there = object.get(known).is_some();
     story.text_quoted("no member ", name);
     story.text(" may be there; the nearest name is ");
@@ -304,8 +304,9 @@ fn region_example(name: &str) -> Option<&'static str> {
     None
 }
 
-/// Tells how a member is written that has another name in the region of a class, or in a filter or a match of a network.
-fn tell_example<'x>(story: &mut Story, name: &'x str, example: &'x str, is_network: bool) {
+/// Writes how a member is written that has another name in the region of a class, or in a filter or a match of a
+/// network.
+fn write_example<'x>(story: &mut Story, name: &'x str, example: &'x str, is_network: bool) {
     story.text_quoted("no member ", name);
     story.text(if is_network {
         " may be there; the length of a prefix stands in its value: "
@@ -315,8 +316,8 @@ fn tell_example<'x>(story: &mut Story, name: &'x str, example: &'x str, is_netwo
     story.sentence(example);
 }
 
-/// The example for a member of another name, where it stands in a region, or for the length of a prefix in a filter or a
-/// match.
+/// Returns the example for a member of another name, where it stands in a region, or for the length of a prefix in a
+/// filter or a match.
 fn example_at(place: &str, name: &str, is_network: bool) -> Option<&'static str> {
     match (last_member(place), name) {
         ("filterMatch" | "match", "prefixLength") if is_network => {
@@ -327,9 +328,9 @@ fn example_at(place: &str, name: &str, is_network: bool) -> Option<&'static str>
     }
 }
 
-/// Tells a member that an object may not have: the nearest name that is allowed, or the names that are. The pointer
+/// Writes a member that an object may not have: the nearest name that is allowed, or the names that are. The pointer
 /// leads to the member.
-pub(crate) fn tell_unknown_member(
+pub(crate) fn write_unknown_member(
     story: &mut Story,
     document: &Value,
     pointer: &str,
@@ -342,15 +343,15 @@ pub(crate) fn tell_unknown_member(
         return;
     };
     if let Some(example) = example_at(place, name, is_network) {
-        tell_example(story, name, example, is_network);
+        write_example(story, name, example, is_network);
         return;
     }
     let names = members_allowed(last_member(place), is_network);
-    match near_of(story, name, names) {
-        Some(known) => tell_near(story, object, name, known),
-        None => tell_free(story, object, name, names, one_required(last_member(place))),
+    match similar_name(story, name, names) {
+        Some(known) => write_near(story, object, name, known),
+        None => write_free(story, object, name, names, one_required(last_member(place))),
     }
     if let (Some(member), true) = (object.get(name), place.is_empty()) {
-        tell_whole(story, object, member, is_network);
+        write_whole(story, object, member, is_network);
     }
 }

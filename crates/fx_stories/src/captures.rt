@@ -1,60 +1,19 @@
 //! Why a capture can't be read, in words.
 ghost use Rattle.std.specs.Prelude.{◌≡◌, ◌⊎◌, IfErr, OnOk};
 ghost use Rattle.fx_base.specs.Device.{IsWriteFault, KeepsGoing};
-ghost use Rattle.fx_stories.specs.Stories.{IsUntold, WritesStory};
+ghost use Rattle.fx_base.specs.Fault.{IsMemory};
+ghost use Rattle.fx_stories.specs.Stories.{WritesStory};
 
 use crate::formats::{flow_format, is_pcapng, is_text, packed_format};
-use crate::places::{number16, number32, tell_digits};
+use crate::places::{number16, number32, write_digits};
 use crate::story::Story;
-use fx_base::{Fault, PieceReader, Sink, Source, put_text, refusals};
+use fx_base::{Fault, Sink, put_text, refusals};
 use std::alloc::Global;
 
 /// How many octets a capture's file header has.
 const HEADER: usize = 24;
 
-/// The first octets of a file, as many as a capture's header has.
-#[derive(Drop)]
-struct Head {
-    octets: [u8; HEADER],
-    count: usize,
-}
-
-impl Head {
-    /// Takes octets behind those that are there, and answers whether no more are wanted.
-    fn take(&mut self, piece: &[u8]) -> bool {
-        for octet in piece {
-            if self.count < HEADER {
-                self.octets[self.count] = *octet;
-                self.count += 1;
-            }
-        }
-        self.count >= HEADER
-    }
-
-    /// The octets that are there.
-    fn octets(&self) -> &[u8] {
-        &self.octets[..self.count.min(HEADER)]
-    }
-}
-
-/// The first octets of a file.
-fn head_of<F: Source>(file: &mut F) -> Result<Head, Fault>
-    ensures { IfErr result IsUntold }
-{
-    let mut head = Head {
-        octets: [0; HEADER],
-        count: 0,
-    };
-    let mut pieces = PieceReader::new();
-    for _ in 0..u64::MAX {
-        if !pieces.advance(file)? || head.take(pieces.piece()) {
-            break;
-        }
-    }
-    Ok(head)
-}
-
-/// Whether octets begin a capture whose numbers have the lower octet first, or the higher one, or none.
+/// Returns whether octets begin a capture whose numbers have the lower octet first, or the higher one, or none.
 fn is_reversed(octets: &[u8]) -> Option<bool> {
     match number32(octets, 0) {
         0xd4c3_b2a1 | 0x4d3c_b2a1 => Some(true),
@@ -63,7 +22,7 @@ fn is_reversed(octets: &[u8]) -> Option<bool> {
     }
 }
 
-/// What octets are that begin no capture of the form that is read, with what to do about it.
+/// Returns what octets are that begin no capture of the form that is read, with what to do about it.
 fn other_format(octets: &[u8]) -> &'static str {
     if octets.is_empty() {
         "The file is empty."
@@ -80,7 +39,7 @@ fn other_format(octets: &[u8]) -> &'static str {
     }
 }
 
-/// What octets are that begin no capture at all, with what to do about it.
+/// Returns what octets are that begin no capture at all, with what to do about it.
 fn foreign_format(octets: &[u8]) -> &'static str {
     match packed_format(octets).or(flow_format(octets)) {
         Some(words) => words,
@@ -93,7 +52,7 @@ fn foreign_format(octets: &[u8]) -> &'static str {
     }
 }
 
-/// A number of two octets of a capture's header, by their order.
+/// Returns a number of two octets of a capture's header, by their order.
 fn number_at(octets: &[u8], place: usize, reversed: bool) -> u16 {
     let number = number16(octets, place);
     if reversed {
@@ -103,8 +62,8 @@ fn number_at(octets: &[u8], place: usize, reversed: bool) -> u16 {
     }
 }
 
-/// Tells what is wrong with the header of a capture.
-fn tell_header(story: &mut Story, octets: &[u8], reversed: bool) {
+/// Writes what is wrong with the header of a capture.
+fn write_header(story: &mut Story, octets: &[u8], reversed: bool) {
     if octets.len() < HEADER {
         story.text_number(
             "The file ends inside of a capture's header, which has 24 octets; octets there are: ",
@@ -121,13 +80,13 @@ fn tell_header(story: &mut Story, octets: &[u8], reversed: bool) {
     story.sentence("; version 2.4 is read. Convert it: tshark -r OLD -F pcap -w NEW.");
 }
 
-/// Tells what the octets are that begin a file in the place of a capture.
-fn tell_format(story: &mut Story, octets: &[u8]) {
+/// Writes what the octets are that begin a file in the place of a capture.
+fn write_format(story: &mut Story, octets: &[u8]) {
     story.text("the first octets of the capture:");
-    tell_digits(story, octets);
+    write_digits(story, octets);
     story.end_line();
     match is_reversed(octets) {
-        Some(reversed) => tell_header(story, octets, reversed),
+        Some(reversed) => write_header(story, octets, reversed),
         None => story.sentence(other_format(octets)),
     }
 }
@@ -158,7 +117,7 @@ const LINKS: [(u32, &str); 16] = [
     (276, " (LINUX_SLL2: all interfaces of Linux at once)"),
 ];
 
-/// What a link type is called, with what its frames are.
+/// Returns what a link type is called, with what its frames are.
 fn link_words(number: u32) -> &'static str {
     for (known, words) in &LINKS {
         if *known == number {
@@ -168,8 +127,8 @@ fn link_words(number: u32) -> &'static str {
     ""
 }
 
-/// Tells the link type of a capture.
-fn tell_link(story: &mut Story, octets: &[u8]) {
+/// Writes the link type of a capture.
+fn write_link(story: &mut Story, octets: &[u8]) {
     let Some(reversed) = is_reversed(octets) else {
         return;
     };
@@ -184,37 +143,27 @@ fn tell_link(story: &mut Story, octets: &[u8]) {
     story.sentence("; 1 (ETHERNET) and 101 (RAW) are read");
 }
 
-/// What is to be told of a capture.
-fn story_of<F: Source>(alloc: Global, capture: &mut F, fault: &Fault) -> Result<Story, Fault>
-    ensures { IfErr result IsUntold }
-{
-    let mut story = Story::new(alloc);
-    let head = head_of(capture)?;
-    match fault.number {
-        refusals::CAPTURE_FORMAT => tell_format(&mut story, head.octets()),
-        refusals::LINK_TYPE => tell_link(&mut story, head.octets()),
-        _ => {}
-    }
-    Ok(story)
-}
-
-/// Writes in sentences what a refusal of a capture is about: of one whose form isn't read (701) its first 24 octets and
-/// what they begin; of one with another link type (702) that type, by its number and its name. The capture is the one that
-/// was refused, opened anew. What can't be told is left out. The text has no control characters but line feeds.
+/// Explains in sentences why a capture isn't read: of one whose form isn't read (701) its first octets and what they
+/// begin; of one with another link type (702) that type, by its number and its name. The octets are the first 24 of the
+/// file, or all where it has fewer. The text has no control characters but line feeds.
 ///
-/// Fails with 900 for want of memory; with 901 where a read fails, or the reader hasn't ended after 4,294,967,296 calls;
-/// with 902 where a write fails. Nothing is written for a fault other than 902.
-pub fn put_capture_words<F: Source, S: Sink>(
+/// Fails with 900 where memory runs out, and then nothing is written; with 902 where a write fails.
+pub fn put_refused_capture<S: Sink>(
     alloc: Global,
-    capture: &mut F,
+    octets: &[u8],
     fault: &Fault,
     sink: &mut S,
 ) -> Result<(), Fault>
     ensures ok { OnOk result (WritesStory (S.taken sink.old) (S.taken sink.new)) }
     ensures going { OnOk result (KeepsGoing (S.failed sink.old) (S.failed sink.new)) }
-    ensures err { IfErr result (λ e. (IsUntold e × (sink.new ≡ sink.old))
+    ensures err { IfErr result (λ e. (IsMemory e × (sink.new ≡ sink.old))
         ⊎ IsWriteFault (S.failed sink.new) e) }
 {
-    let story = story_of(alloc, capture, fault)?;
+    let mut story = Story::new(alloc);
+    match fault.number {
+        refusals::CAPTURE_FORMAT => write_format(&mut story, octets),
+        refusals::LINK_TYPE => write_link(&mut story, octets),
+        _ => {}
+    }
     put_text(sink, story.octets()?)
 }

@@ -1,7 +1,7 @@
 //! Counters that a cache's layout lacks, and flow keys that a cache can't have.
-use crate::elements::{element_of, tell_element};
-use crate::near::near_of;
+use crate::elements::{element_of, write_element};
 use crate::pointers::{items_member, text_member, text_or_none};
+use crate::similar_names::similar_name;
 use crate::story::Story;
 use fx_elements::{Axis, Element, by_name};
 use serde_json::Value;
@@ -9,7 +9,7 @@ use serde_json::Value;
 /// The counters that have to be among the fields of a cache.
 const COUNTERS: [&str; 2] = ["octetDeltaCount", "packetDeltaCount"];
 
-/// Whether one of these fields names this element.
+/// Returns whether one of these fields names this element.
 fn is_among(fields: &[Value], element: Element) -> bool {
     for field in fields {
         if element_of(field) == element {
@@ -19,11 +19,11 @@ fn is_among(fields: &[Value], element: Element) -> bool {
     false
 }
 
-/// Tells the fields of a layout whose element is misspelled, where it is nearest to this counter.
-fn tell_misspelled(story: &mut Story, fields: &[Value], counter: &'static str) {
+/// Writes the fields of a layout whose element is misspelled, where it is nearest to this counter.
+fn write_misspelled(story: &mut Story, fields: &[Value], counter: &'static str) {
     for field in fields {
         if let Some(name) = text_member(field, "ieName") {
-            let is_near = near_of(story, name, &COUNTERS) == Some(counter);
+            let is_near = similar_name(story, name, &COUNTERS) == Some(counter);
             if is_near && by_name(name) == Element::Other {
                 story.text_quoted("field ", text_or_none(field, "name"));
                 story.text_quoted(" names no element that is read: ", name);
@@ -33,19 +33,19 @@ fn tell_misspelled(story: &mut Story, fields: &[Value], counter: &'static str) {
     }
 }
 
-/// Tells which counters the layout of a cache lacks.
-pub(crate) fn tell_counters(story: &mut Story, layout: &Value) {
+/// Writes which counters the layout of a cache lacks.
+pub(crate) fn write_counters(story: &mut Story, layout: &Value) {
     let fields = items_member(layout, "cacheField");
     for counter in COUNTERS {
         if !is_among(fields, by_name(counter)) {
             story.text("missing among the fields: ");
             story.sentence(counter);
-            tell_misspelled(story, fields, counter);
+            write_misspelled(story, fields, counter);
         }
     }
 }
 
-/// The element of the whole addresses whose prefixes stand on an axis.
+/// Returns the element of the whole addresses whose prefixes stand on an axis.
 fn address_name(axis: Axis) -> &'static str {
     match axis {
         Axis::Source => "sourceIPv4Address",
@@ -55,8 +55,8 @@ fn address_name(axis: Axis) -> &'static str {
     }
 }
 
-/// Tells why a field of a cache can't be a flow key.
-pub(crate) fn tell_flow_key(story: &mut Story, field: &Value) {
+/// Writes why a field of a cache can't be a flow key.
+pub(crate) fn write_flow_key(story: &mut Story, field: &Value) {
     if let Element::Prefix(axis) = element_of(field) {
         story.text("its element is a prefix, and the flow keys of caches are whole: write ");
         story.text(address_name(axis));
@@ -65,5 +65,5 @@ pub(crate) fn tell_flow_key(story: &mut Story, field: &Value) {
         );
         return;
     }
-    let _of_axis = tell_element(story, field, false);
+    let _of_axis = write_element(story, field, false);
 }

@@ -4,8 +4,8 @@ use crate::story::Story;
 use fx_plan::Plan;
 use fx_tables::Crossing;
 
-/// Tells a crossing: its device, its interface and its direction.
-pub(crate) fn tell_crossing<'x>(story: &mut Story, plan: &'x Plan, crossing: &'x Crossing) {
+/// Writes a crossing: its device, its interface and its direction.
+pub(crate) fn write_crossing<'x>(story: &mut Story, plan: &'x Plan, crossing: &'x Crossing) {
     let Some(device) = device_name(plan, crossing.device) else {
         return;
     };
@@ -20,12 +20,12 @@ pub(crate) fn tell_crossing<'x>(story: &mut Story, plan: &'x Plan, crossing: &'x
     story.text(direction);
 }
 
-/// Tells the crossings of a path in order.
-pub(crate) fn tell_crossings(story: &mut Story, plan: &Plan, crossings: &[Crossing]) {
+/// Writes the crossings of a path in order.
+pub(crate) fn write_crossings(story: &mut Story, plan: &Plan, crossings: &[Crossing]) {
     let mut separator = "";
     for crossing in crossings {
         story.text(separator);
-        tell_crossing(story, plan, crossing);
+        write_crossing(story, plan, crossing);
         separator = ", then ";
     }
     if separator.is_empty() {
@@ -33,10 +33,10 @@ pub(crate) fn tell_crossings(story: &mut Story, plan: &Plan, crossings: &[Crossi
     }
 }
 
-/// Tells the number of a crossing, and the crossing.
-pub(crate) fn tell_numbered(story: &mut Story, plan: &Plan, number: u64, crossing: &Crossing) {
+/// Writes the number of a crossing, and the crossing.
+pub(crate) fn write_numbered(story: &mut Story, plan: &Plan, number: u64, crossing: &Crossing) {
     story.text_number("crossing ", number);
     story.text(" (");
-    tell_crossing(story, plan, crossing);
+    write_crossing(story, plan, crossing);
     story.text(")");
 }

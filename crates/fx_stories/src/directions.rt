@@ -1,7 +1,7 @@
 //! Observation points that observe only the other direction than the packets that cross their interfaces.
-use crate::again::Documents;
+use crate::lent::Documents;
 use crate::story::Story;
-use crate::unseen::is_at;
+use crate::unobserved::is_at;
 use fx_config::{Direction, ObservationPoint};
 use fx_plan::Plan;
 use fx_tables::{Crossing, Point};
@@ -83,7 +83,7 @@ fn note_path(sights: &mut Sights, plan: &Plan, crossings: &[Crossing]) {
     }
 }
 
-/// The direction that an observation point observes, and the other one.
+/// Returns the direction that an observation point observes, and the other one.
 fn direction_words(point: &ObservationPoint) -> (&'static str, &'static str) {
     match point.direction {
         Direction::Ingress => ("ingress", "egress"),
@@ -92,8 +92,8 @@ fn direction_words(point: &ObservationPoint) -> (&'static str, &'static str) {
     }
 }
 
-/// Tells that an observation point sees nothing of what crosses its interfaces.
-fn tell_point<'x>(story: &mut Story, device: &'x NetworkDevice, point: &'x ObservationPoint) {
+/// Writes that an observation point sees nothing of what crosses its interfaces.
+fn write_point<'x>(story: &mut Story, device: &'x NetworkDevice, point: &'x ObservationPoint) {
     let (observed, other) = direction_words(point);
     story.text_quoted("observation point ", point.name.as_str());
     story.text(" of ");
@@ -105,12 +105,12 @@ fn tell_point<'x>(story: &mut Story, device: &'x NetworkDevice, point: &'x Obser
     story.sentence(" alone: it sees none of them");
 }
 
-/// Tells the observation points of a device that see nothing of what crosses their interfaces.
-fn tell_device(story: &mut Story, device: &NetworkDevice, sights: &[Sight]) {
+/// Writes the observation points of a device that see nothing of what crosses their interfaces.
+fn write_device(story: &mut Story, device: &NetworkDevice, sights: &[Sight]) {
     let points = device.config.observation_points.as_slice();
     for place in 0..points.len() {
         match sights.get(place) {
-            Some(sight) if sight.crossed && !sight.seen => tell_point(
+            Some(sight) if sight.crossed && !sight.seen => write_point(
                 story,
                 device,
                 &points[place],
@@ -120,25 +120,29 @@ fn tell_device(story: &mut Story, device: &NetworkDevice, sights: &[Sight]) {
     }
 }
 
-/// Tells the observation points of all devices that see nothing of what crosses their interfaces.
-fn tell_devices(story: &mut Story, plan: &Plan, sights: &[Vec<Sight>]) {
+/// Writes the observation points of all devices that see nothing of what crosses their interfaces.
+fn write_devices(story: &mut Story, plan: &Plan, sights: &[Vec<Sight>]) {
     let devices = plan.network().devices.as_slice();
     for place in 0..devices.len() {
         if let Some(sights) = sights.get(place) {
-            tell_device(story, &devices[place], sights.as_slice());
+            write_device(story, &devices[place], sights.as_slice());
         }
     }
 }
 
-/// Tells the observation points that see no crossing of any path, though paths cross their interfaces in the other
+/// Writes the observation points that see no crossing of any path, though paths cross their interfaces in the other
 /// direction.
-pub(crate) fn tell_directions(story: &mut Story, documents: &Documents, targets: &[Target<'_>]) {
-    let none_yet = no_sights(story.alloc, &documents.plan);
+pub(crate) fn write_directions(
+    story: &mut Story,
+    documents: &Documents<'_>,
+    targets: &[Target<'_>],
+) {
+    let none_yet = no_sights(story.alloc, documents.plan);
     let Some(mut sights) = story.unless_short(none_yet) else {
         return;
     };
     for target in targets {
-        note_path(&mut sights, &documents.plan, target.crossings);
+        note_path(&mut sights, documents.plan, target.crossings);
     }
-    tell_devices(story, &documents.plan, sights.as_slice());
+    write_devices(story, documents.plan, sights.as_slice());
 }

@@ -1,69 +1,66 @@
-//! Why a document is refused, in words.
+//! Why a document is refused, in sentences.
 ghost use Rattle.std.specs.Prelude.{◌≡◌, ◌⊎◌, IfErr, OnOk};
 ghost use Rattle.fx_base.specs.Device.{IsWriteFault, KeepsGoing};
 ghost use Rattle.fx_base.specs.Fault.{IsMemory};
 ghost use Rattle.fx_stories.specs.Stories.{WritesStory};
 
-use crate::again::{plan_again, value_again};
-use crate::allowed::tell_unknown_member;
-use crate::circles::tell_circle;
-use crate::counters::{tell_counters, tell_flow_key};
-use crate::elements::tell_value;
+use crate::allowed::write_unknown_member;
+use crate::counters::{write_counters, write_flow_key};
+use crate::cycles::write_cycle_of;
+use crate::elements::write_value;
 use crate::ends::{
-    tell_cycle, tell_link_ends, tell_linked, tell_report_end, tell_unknown_device,
-    tell_unknown_name,
+    write_cycle, write_link_ends, write_linked, write_report_end, write_unknown_device,
+    write_unknown_name,
 };
-use crate::entries::tell_entries;
-use crate::json::tell_json;
-use crate::kinds::tell_kinds;
-use crate::layouts::tell_layouts;
-use crate::members::tell_lacking;
-use crate::parts::tell_list;
+use crate::entries::write_entries;
+use crate::json::write_json;
+use crate::kinds::write_kinds;
+use crate::layouts::write_layouts;
+use crate::lent::value_of_document;
+use crate::members::write_lacking;
+use crate::parts::write_list;
 use crate::pointers::last_member;
 use crate::story::Story;
-use crate::values::{tell_allowed, tell_wrong};
+use crate::values::{write_allowed, write_wrong};
 use fx_base::{Fault, Place, Sink, put_text, refusals};
+use fx_plan::Plan;
 use serde_json::Value;
 use std::alloc::Global;
 
-/// Tells what a refusal at a pointer into a network is about: which names name nothing there.
-fn tell_names(story: &mut Story, network: &Value, value: &Value, pointer: &str, number: u16) {
+/// Writes what a refusal at a pointer into a network is about: which names name nothing there.
+fn write_names(story: &mut Story, network: &Value, value: &Value, pointer: &str, number: u16) {
     match number {
         refusals::UNKNOWN_NAME => {
             if let Some(name) = value.as_str() {
-                tell_unknown_name(story, network, pointer, name);
+                write_unknown_name(story, network, pointer, name);
             }
         }
-        refusals::UNKNOWN_DEVICE => {
-            if let Some(name) = value.as_str() {
-                tell_unknown_device(story, network, name);
-            }
-        }
-        refusals::UNKNOWN_LINK_END => tell_link_ends(story, network, value),
-        refusals::LINKED_TWICE => tell_linked(story, network, value),
-        refusals::UNKNOWN_REPORT_PROCESS => tell_report_end(story, network, value),
+        refusals::UNKNOWN_LINK_END => write_link_ends(story, network, value),
+        refusals::LINKED_TWICE => write_linked(story, network, value),
+        refusals::UNKNOWN_REPORT_PROCESS => write_report_end(story, network, value),
         _ => {},
     }
 }
 
-/// A document that is refused, and the network that it is, or that it is over.
-struct Refused {
-    network: Value,
-    /// The traffic's document, where that is refused.
-    traffic: Option<Value>,
+/// A document that is refused.
+#[derive(Clone, Copy, Drop)]
+enum Refused<'a> {
+    /// That of a network.
+    Network(&'a Value),
+    /// That of the traffic of this network.
+    Traffic(&'a Value, &'a Plan),
 }
 
-impl Drop for Refused {
-    /// Lets its parts go: proved once, and one call wherever one is let go.
-    fn drop(self) {
-        let Self {
-            network: _,
-            traffic: _,
-        } = self;
+impl<'a> Refused<'a> {
+    /// Returns its value.
+    fn document(&self) -> &'a Value {
+        match self {
+            Refused::Network(value) | Refused::Traffic(value, _) => value,
+        }
     }
 }
 
-/// Whether a refusal of this number is about a value that is told.
+/// Returns whether a refusal of this number is about a value that is written.
 fn is_of_value(number: u16) -> bool {
     matches!(
         number,
@@ -88,34 +85,31 @@ struct ValueAt<'a> {
     is_network: bool,
 }
 
-/// Tells of which kind a value is, and which is due there, or as a part of which document it stands in one's place.
-fn tell_wrong_kind(story: &mut Story, at: &ValueAt<'_>) {
-    tell_kinds(story, at.pointer, at.value, at.is_network);
-    tell_allowed(story, last_member(at.pointer), at.is_network);
+/// Writes of which kind a value is, and which is due there, or as a part of which document it stands in one's place.
+fn write_wrong_kind(story: &mut Story, at: &ValueAt<'_>) {
+    write_kinds(story, at.pointer, at.value, at.is_network);
+    write_allowed(story, last_member(at.pointer), at.is_network);
     if let (Value::Array(items), "") = (at.value, at.pointer) {
-        tell_list(story, items.as_slice(), at.is_network);
+        write_list(story, items.as_slice(), at.is_network);
     }
 }
 
-/// Tells a value that is refused with this number, and what is wrong with it.
-fn tell_value_at(story: &mut Story, at: &ValueAt<'_>, number: u16) {
-    tell_value(story, at.value);
+/// Writes a value that is refused with this number, and what is wrong with it.
+fn write_value_at(story: &mut Story, at: &ValueAt<'_>, number: u16) {
+    write_value(story, at.value);
     match number {
         refusals::TOTAL_COUNTER => story.sentence(
             "it counts since the beginning; in its place stands octetDeltaCount or packetDeltaCount",
         ),
-        refusals::KEY_WITHOUT_AXIS => tell_flow_key(story, at.value),
-        refusals::WRONG_KIND => tell_wrong_kind(story, at),
-        _ => tell_wrong(story, at.document, at.pointer, at.value, at.is_network),
+        refusals::KEY_WITHOUT_AXIS => write_flow_key(story, at.value),
+        refusals::WRONG_KIND => write_wrong_kind(story, at),
+        _ => write_wrong(story, at.document, at.pointer, at.value, at.is_network),
     }
 }
 
-/// Tells what a refusal at a pointer is about.
-fn tell_at(story: &mut Story, refused: &Refused, pointer: &str, number: u16) {
-    let document = match &refused.traffic {
-        Some(traffic) => traffic,
-        None => &refused.network,
-    };
+/// Explains a refusal at a pointer.
+fn write_at(story: &mut Story, refused: &Refused<'_>, pointer: &str, number: u16) {
+    let document = refused.document();
     let Some(value) = document.pointer(pointer) else {
         return;
     };
@@ -123,105 +117,70 @@ fn tell_at(story: &mut Story, refused: &Refused, pointer: &str, number: u16) {
         document,
         pointer,
         value,
-        is_network: refused.traffic.is_none(),
+        is_network: matches!(refused, Refused::Network(_)),
     };
     match number {
         refusals::UNKNOWN_MEMBER => {
-            tell_unknown_member(story, document, pointer, at.is_network);
+            write_unknown_member(story, document, pointer, at.is_network);
         }
         refusals::MISSING_MEMBER => {
-            tell_lacking(story, value, last_member(pointer), at.is_network);
+            write_lacking(story, value, last_member(pointer), at.is_network);
         }
-        refusals::MISSING_COUNTER => tell_counters(story, value),
-        refusals::TOO_MANY_LAYOUTS => tell_layouts(story, value),
+        refusals::MISSING_COUNTER => write_counters(story, value),
+        refusals::TOO_MANY_LAYOUTS => write_layouts(story, value),
         refusals::TOO_MANY_ENTRIES | refusals::TOO_MUCH_TRAFFIC => {
-            tell_entries(story, pointer, value, at.is_network);
+            write_entries(story, pointer, value, at.is_network);
         }
-        _ if is_of_value(number) => tell_value_at(story, &at, number),
-        _ => tell_names(story, &refused.network, value, pointer, number),
+        _ if is_of_value(number) => write_value_at(story, &at, number),
+        _ => write_names_at(story, refused, value, pointer, number),
     }
 }
 
-/// Tells what a refusal of a document is about.
-fn tell_refused(story: &mut Story, refused: &Refused, fault: &Fault) {
-    match &fault.place {
-        Place::Text(text) if fault.number == refusals::LINK_CYCLE => {
-            tell_cycle(story, &refused.network, text.as_str());
-            tell_circle(story, &refused.network);
+/// Explains which names at a pointer name nothing.
+fn write_names_at(
+    story: &mut Story,
+    refused: &Refused<'_>,
+    value: &Value,
+    pointer: &str,
+    number: u16,
+) {
+    match refused {
+        Refused::Network(network) => write_names(story, network, value, pointer, number),
+        Refused::Traffic(_, plan) => {
+            if let Some(name) = value.as_str() {
+                write_unknown_device(story, plan.network().devices.as_slice(), name);
+            }
         }
-        Place::Text(text) => tell_at(story, refused, text.as_str(), fault.number),
-        Place::None => tell_at(story, refused, "", fault.number),
+    }
+}
+
+/// Explains a refusal of a document that is JSON.
+fn write_refused(story: &mut Story, refused: &Refused<'_>, fault: &Fault) {
+    match (&fault.place, refused) {
+        (Place::Text(text), Refused::Network(network)) if fault.number == refusals::LINK_CYCLE => {
+            write_cycle(story, network, text.as_str());
+            write_cycle_of(story, network);
+        }
+        (Place::Text(text), _) => write_at(story, refused, text.as_str(), fault.number),
+        (Place::None, _) => write_at(story, refused, "", fault.number),
         _ => {}
     }
 }
 
-/// Tells what the refusal of a network is about.
-fn tell_network(story: &mut Story, network: &[u8], fault: &Fault) {
-    match value_again(story, network) {
-        Some(network) => {
-            let refused = Refused {
-                network,
-                traffic: None,
-            };
-            tell_refused(story, &refused, fault);
-        }
-        None => tell_json(story, network, true),
-    }
-}
-
-/// Tells what the refusal of a traffic declaration is about.
-fn tell_traffic(story: &mut Story, network: &[u8], traffic: &[u8], fault: &Fault) {
-    let Some(declared) = value_again(story, traffic) else {
-        tell_json(story, traffic, false);
-        return;
-    };
-    if let Some(network) = value_again(story, network) {
-        let refused = Refused {
-            network,
-            traffic: Some(declared),
-        };
-        tell_refused(story, &refused, fault);
-    }
-}
-
-/// What is to be told of a document's refusal.
-fn story_of(
-    alloc: Global,
-    name: &str,
-    network: &[u8],
-    traffic: Option<(&str, &[u8])>,
-    fault: &Fault,
-) -> Story {
-    let mut story = Story::new(alloc);
-    if plan_again(&mut story, network).is_none() {
-        story.text("file: ");
-        story.sentence(name);
-        tell_network(&mut story, network, fault);
-    } else if let Some((name, traffic)) = traffic {
-        story.text("file: ");
-        story.sentence(name);
-        tell_traffic(&mut story, network, traffic, fault);
-    }
-    story
-}
-
-/// Writes in sentences what a refusal of a document, 101 to 115, 201 to 207 or 301 to 305, is about: the name of the
-/// file, which is the network's where the network is refused, else the traffic's; where a text is no JSON, the line,
-/// the column and what is wrong there, or which other file it is; of a part of a document in its place where it stands;
-/// how many entries a list has, or how many different keys there are, and how many there may be; which members are missing and which are there; the name for
-/// which a misspelled member stands, or the members that are allowed; a value that isn't allowed, at most 200 octets of
-/// its JSON text, with its kind and the kind that is due, what is wrong in it or with the elements that it names, and
-/// the values that are allowed; which counters a cache lacks; which name names nothing, and the names that there are;
-/// which link leads from the same destination; which collecting processes stand on a circle of links, and the links of
-/// one. The octets are those that were refused. What can't be told is left out. The text has no control characters but
-/// line feeds.
+/// Explains in sentences why a network's document is refused, with 101 to 115 or 201 to 207: where a text is no JSON,
+/// the line, the column and what is wrong there, or which other file it is; of a part of a document in its place where
+/// it is found; how many entries a list has, or how many different keys there are, and how many there may be; which
+/// members are missing and which are there; the name for which a misspelled member stands, or the members that are
+/// allowed; a value that isn't allowed, at most 200 octets of its JSON text, with its kind and the kind that is due,
+/// what is wrong in it or with the elements that it names, and the values that are allowed; which counters a cache
+/// lacks; which name names nothing, and the names that there are; which link leads from the same destination; which
+/// collecting processes stand on a circle of links, and the links of one. The text has no control characters but line
+/// feeds.
 ///
-/// Fails with 900 for want of memory, and then nothing is written; with 902 where a write fails.
-pub fn put_document_words<S: Sink>(
+/// Fails with 900 where memory runs out, and then nothing is written; with 902 where a write fails.
+pub fn put_refused_network<S: Sink>(
     alloc: Global,
-    network_name: &str,
-    network: &[u8],
-    traffic: Option<(&str, &[u8])>,
+    octets: &[u8],
     fault: &Fault,
     sink: &mut S,
 ) -> Result<(), Fault>
@@ -230,6 +189,34 @@ pub fn put_document_words<S: Sink>(
     ensures err { IfErr result (λ e. (IsMemory e × (sink.new ≡ sink.old))
         ⊎ IsWriteFault (S.failed sink.new) e) }
 {
-    let story = story_of(alloc, network_name, network, traffic, fault);
+    let mut story = Story::new(alloc);
+    match value_of_document(&mut story, octets) {
+        Some(value) => write_refused(&mut story, &Refused::Network(&value), fault),
+        None => write_json(&mut story, octets, true),
+    }
+    put_text(sink, story.octets()?)
+}
+
+/// Explains in sentences why the traffic declaration of a network is refused, with 101 to 104 or 301 to 305, as
+/// [`put_refused_network`] does for a network.
+///
+/// Fails with 900 where memory runs out, and then nothing is written; with 902 where a write fails.
+pub fn put_refused_traffic<S: Sink>(
+    alloc: Global,
+    octets: &[u8],
+    plan: &Plan,
+    fault: &Fault,
+    sink: &mut S,
+) -> Result<(), Fault>
+    ensures ok { OnOk result (WritesStory (S.taken sink.old) (S.taken sink.new)) }
+    ensures going { OnOk result (KeepsGoing (S.failed sink.old) (S.failed sink.new)) }
+    ensures err { IfErr result (λ e. (IsMemory e × (sink.new ≡ sink.old))
+        ⊎ IsWriteFault (S.failed sink.new) e) }
+{
+    let mut story = Story::new(alloc);
+    match value_of_document(&mut story, octets) {
+        Some(value) => write_refused(&mut story, &Refused::Traffic(&value, plan), fault),
+        None => write_json(&mut story, octets, false),
+    }
     put_text(sink, story.octets()?)
 }

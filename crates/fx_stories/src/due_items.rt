@@ -1,19 +1,15 @@
 //! What is due at a line of a certificate.
-use crate::again::Documents;
-use crate::lines::next_line;
-use crate::paths::tell_path;
-use crate::regions::{axis_word, tell_values};
+use crate::lent::Documents;
+use crate::paths::write_path;
+use crate::regions::{axis_word, write_values};
 use crate::story::Story;
-use crate::walk::Walk;
-use fx_base::{LineReader, Source, refusals};
+use fx_base::{Line, refusals};
 use fx_boxes::Region;
 use fx_cert::{Item, Version};
+use fx_check::Due;
 use fx_traffic::Target;
 
-/// How many lines behind the last one are counted.
-const COUNTED: u64 = 1_000_000;
-
-/// What may stand for a region of a class that is exempt, or isn't, in words.
+/// Returns what may stand for a region of a class that is exempt, or isn't, in words.
 fn leaf_words(version: Version, exempt: bool) -> &'static str {
     match (version, exempt) {
         (_, false) => {
@@ -31,8 +27,8 @@ the first line has to be once-certificate 2"
     }
 }
 
-/// Tells what is due in the tree of a region, where a line of it is refused with this number.
-pub(crate) fn tell_due(
+/// Writes what is due in the tree of a region, where a line of it is refused with this number.
+pub(crate) fn write_due(
     story: &mut Story,
     target: &Target<'_>,
     region: &Region,
@@ -45,7 +41,7 @@ pub(crate) fn tell_due(
             story.text("by ");
             story.text(axis_word(*axis));
             story.text(" the region has the values ");
-            tell_values(
+            write_values(
                 story,
                 *axis,
                 region.corner().get(*axis),
@@ -66,32 +62,13 @@ pub(crate) fn tell_due(
     }
 }
 
-/// Tells which line is due between the trees, where this stands.
-pub(crate) fn tell_between(
-    story: &mut Story,
-    documents: &Documents,
-    targets: &[Target<'_>],
-    walk: &Walk,
-    item: &Option<Item>,
-) {
-    if walk.is_ended {
-        story.sentence("the line end stands before: nothing may stand behind that");
-        return;
-    }
-    if let Some(Item::Leaf { .. } | Item::Never | Item::Split { .. }) = item {
-        story.sentence(
-            "the tree before it is whole and this leaf or split is one too many, or the line class C path P is missing before it",
-        );
-    }
-    let Some(target) = targets.get(walk.begun) else {
-        story.sentence("all paths have their trees; due at this line: end");
-        return;
-    };
+/// Writes that the line of a path of a class is due.
+fn write_due_class(story: &mut Story, documents: &Documents<'_>, target: &Target<'_>) {
     story.text_number("due at this line: class ", target.class);
     story.text_number(" path ", target.path);
     story.end_line();
     story.text("what comes next is ");
-    tell_path(
+    write_path(
         story,
         documents,
         target.class,
@@ -100,42 +77,35 @@ pub(crate) fn tell_between(
     );
 }
 
-/// How much stands behind the end of a certificate.
-#[derive(Clone, Copy)]
-struct Rest {
-    lines: u64,
-    octets: u64,
-}
-
-/// How much is left of lines, from the one on at which they are, as far as it can be read.
-fn rest_of<C: Source>(lines: &mut LineReader<C>) -> Rest {
-    let mut rest = Rest {
-        lines: 0,
-        octets: 0,
-    };
-    for _ in 0..COUNTED {
-        let line = lines.line();
-        let octets = (line.bytes.len() as u64).saturating_add(u64::from(line.ended));
-        rest.lines = rest.lines.saturating_add(1);
-        rest.octets = rest.octets.saturating_add(octets);
-        let Ok(true) = next_line(lines) else {
-            return rest;
-        };
+/// Writes which line is due between trees.
+pub(crate) fn write_between(
+    story: &mut Story,
+    documents: &Documents<'_>,
+    due: &Due<'_>,
+    item: &Option<Item>,
+) {
+    if let Due::Nothing = due {
+        story.sentence("the line end stands before: nothing may follow that");
+        return;
     }
-    rest
+    if let Some(Item::Leaf { .. } | Item::Never | Item::Split { .. }) = item {
+        story.sentence(
+            "the tree before it is whole and this leaf or split is one too many, or the line class C path P is missing before it",
+        );
+    }
+    match due {
+        Due::Target(target) => write_due_class(story, documents, target),
+        _ => story.sentence("all paths have their trees; due at this line: end"),
+    }
 }
 
-/// Tells what stands behind the end of a certificate, from the line on at which the lines are.
-pub(crate) fn tell_behind_end<C: Source>(story: &mut Story, lines: &mut LineReader<C>) {
-    story.sentence(if lines.line().bytes.is_empty() {
-        "an empty line stands behind the line end"
-    } else if lines.line().bytes.starts_with(b"once-certificate ") {
-        "another certificate begins behind the line end: each is checked by a call of its own"
+/// Writes what kind of line follows the line `end`.
+pub(crate) fn write_after_end(story: &mut Story, line: &Line<'_>) {
+    story.sentence(if line.bytes.is_empty() {
+        "an empty line follows the line end: take it out"
+    } else if line.bytes.starts_with(b"once-certificate ") {
+        "another certificate begins after the line end: each is checked by a call of its own"
     } else {
-        "the certificate is whole before that line"
+        "the certificate is whole before that line: take out that line and all that follow it"
     });
-    let rest = rest_of(lines);
-    story.text_number("lines behind the line end: ", rest.lines);
-    story.text_number(", octets: ", rest.octets);
-    story.sentence("; take them out");
 }

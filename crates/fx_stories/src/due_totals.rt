@@ -15,23 +15,23 @@ pub(crate) enum Due {
     First,
     Key,
     Unassigned,
-    /// A note, or another text, behind the last line of totals.
+    /// A note, or another text, after the last line of totals.
     BehindTotals,
     BehindComplete,
     BehindFrames,
-    BehindGaps,
+    AfterGaps,
     BehindSkipped,
 }
 
 impl Due {
-    /// What may stand behind a line that is neither a key's nor the first of a text.
-    fn behind(line: &[u8]) -> Due {
+    /// Returns what may follow a line that is neither a key's nor the first of a text.
+    fn after(line: &[u8]) -> Due {
         if line.starts_with(b"complete ") {
             Due::BehindComplete
         } else if line.starts_with(b"skipped other ") {
             Due::BehindFrames
         } else if line.starts_with(b"gaps ") {
-            Due::BehindGaps
+            Due::AfterGaps
         } else if line.starts_with(b"skipped ") {
             Due::BehindSkipped
         } else {
@@ -39,7 +39,7 @@ impl Due {
         }
     }
 
-    /// The forms of lines that may stand there, but that of a key's.
+    /// Returns the forms of lines that may stand there, but that of a key's.
     pub(crate) fn forms(self) -> &'static [&'static str] {
         match self {
             Due::First => &["keys COUNT"],
@@ -58,17 +58,17 @@ impl Due {
                 "keys COUNT",
             ],
             Due::BehindFrames => &["gaps GAPS", "keys COUNT"],
-            Due::BehindGaps => &["skipped SKIPPED"],
+            Due::AfterGaps => &["skipped SKIPPED"],
             Due::BehindSkipped => &["keys COUNT"],
         }
     }
 
-    /// What may stand there, in words.
+    /// Returns what may stand there, in words.
     fn words(self) -> &'static str {
         match self {
             Due::First => "keys and a number, as keys 2: the first line of a text",
             Due::Key => "a key's line: KEY packets P octets O",
-            Due::Unassigned => "unassigned and a number, behind the last key line",
+            Due::Unassigned => "unassigned and a number, after the last key line",
             Due::BehindTotals => {
                 "complete yes or complete no, skipped other A malformed B, gaps G, the line keys N of another text, or the \
 end of the octets"
@@ -81,7 +81,7 @@ once each, and in the order complete, skipped other, gaps, skipped"
                 "gaps G, the line keys N of another text, or the end of the octets; notes stand once each, and in the order \
 complete, skipped other, gaps, skipped"
             }
-            Due::BehindGaps => "skipped and a number, which stand behind gaps",
+            Due::AfterGaps => "skipped and a number, which come after gaps",
             Due::BehindSkipped => {
                 "the line keys N of another text, or the end of the octets; notes stand once each, and in the order complete, \
 skipped other, gaps, skipped"
@@ -99,10 +99,10 @@ pub(crate) struct Stand {
     begun: u64,
     /// How many keys that says.
     keys: u64,
-    /// How many lines stand behind its first.
+    /// How many lines follow its first.
     passed: u64,
-    /// What may stand behind its last line, where all its keys have theirs.
-    behind: Due,
+    /// What may follow its last line, where all its keys have theirs.
+    after: Due,
     /// The first octets of the last line.
     pub(crate) last: Vec<u8>,
 }
@@ -115,12 +115,12 @@ impl Stand {
             begun: 0,
             keys: 0,
             passed: 0,
-            behind: Due::First,
+            after: Due::First,
             last: Vec::new(alloc),
         }
     }
 
-    /// What is due at the next line.
+    /// Returns what is due at the next line.
     pub(crate) fn due(&self) -> Due {
         if self.texts == 0 {
             Due::First
@@ -129,7 +129,7 @@ impl Stand {
         } else if self.passed == self.keys {
             Due::Unassigned
         } else {
-            self.behind
+            self.after
         }
     }
 
@@ -148,14 +148,14 @@ impl Stand {
         } else {
             self.passed = self.passed.saturating_add(1);
         }
-        self.behind = Due::behind(line.bytes);
+        self.after = Due::after(line.bytes);
         let end = line.bytes.len().min(KEPT);
         self.last = Vec::from_slice(alloc, &line.bytes[..end])?;
         Ok(())
     }
 
-    /// Tells what is due at the next line, and why.
-    pub(crate) fn tell_due(&self, story: &mut Story) {
+    /// Writes what is due at the next line, and why.
+    pub(crate) fn write_due(&self, story: &mut Story) {
         let due = self.due();
         if self.texts > 1 {
             story.text_number("text ", self.texts);
@@ -179,19 +179,19 @@ impl Stand {
     }
 }
 
-/// What a line is that may not stand there, where it can be told.
+/// Returns what a line is that may not stand there, where it can be written.
 pub(crate) fn misplaced_words(due: Due, octets: &[u8]) -> Option<&'static str> {
     let is_inside = due == Due::Key || due == Due::Unassigned;
     if octets.is_empty() {
         Some("the line is empty: take it out")
     } else if octets.starts_with(b"keys: ") {
-        Some("it is a sentence of --words: write totals without that")
+        Some("it is a sentence of --explain: write totals without that")
     } else if octets.starts_with(b"once-") || octets.starts_with(b"{") {
         Some("it begins another text than totals")
     } else if is_inside && octets.starts_with(b"keys ") {
         Some("the next text begins there: the one before it is cut off")
     } else if due == Due::Key && octets.starts_with(b"unassigned ") {
-        Some("key lines are missing before it, or the number behind keys is too great")
+        Some("key lines are missing before it, or the number after keys is too great")
     } else {
         answer_words(octets)
     }

@@ -1,34 +1,35 @@
 //! Names that name nothing.
 use crate::pointers::{
-    configuration, entry_of, items_member, last_member, text_member, text_or_none, value_behind,
+    configuration, entry_of, items_member, last_member, text_member, text_or_none, value_after,
 };
 use crate::story::{Story, between};
+use fx_topology::NetworkDevice;
 use serde_json::Value;
 
 /// How many segments of a pointer lead to the configuration of a device.
 const CONFIGURATION: usize = 4;
 
-/// Tells that nothing of a kind has this name, and the names that there are.
-fn tell_unknown<'x>(story: &mut Story, kind: &'x str, name: &'x str, entries: &[Value]) {
+/// Writes that nothing of a kind has this name, and the names that there are.
+fn write_unknown<'x>(story: &mut Story, kind: &'x str, name: &'x str, entries: &[Value]) {
     story.text("no ");
     story.text(kind);
     story.text_quoted(" is named ", name);
     story.text("; there are: ");
-    let mut told = false;
+    let mut shown = false;
     for entry in entries {
         if let Some(known) = text_member(entry, "name") {
-            story.text_quoted(between(told, ", "), known);
-            told = true;
+            story.text_quoted(between(shown, ", "), known);
+            shown = true;
         }
     }
-    if !told {
+    if !shown {
         story.text("none");
     }
     story.end_line();
 }
 
-/// The entry of this name in a list of an object, or, where it isn't there, none, and that is told.
-fn entry_or_told<'a, 'x>(
+/// Returns the entry of this name in a list of an object, or, where it isn't there, none, and that is written.
+fn entry_or_report<'a, 'x>(
     story: &mut Story,
     value: &'a Value,
     list: &str,
@@ -37,23 +38,23 @@ fn entry_or_told<'a, 'x>(
 ) -> Option<&'a Value> {
     let found = entry_of(value, list, name);
     if found.is_none() {
-        tell_unknown(story, kind, name, items_member(value, list));
+        write_unknown(story, kind, name, items_member(value, list));
     }
     found
 }
 
-/// Tells that a device isn't there, or has no collecting process of this name.
-fn tell_process(story: &mut Story, network: &Value, device: &str, process: &str) {
-    let Some(device) = entry_or_told(story, network, "devices", "device", device) else {
+/// Writes that a device isn't there, or has no collecting process of this name.
+fn write_process(story: &mut Story, network: &Value, device: &str, process: &str) {
+    let Some(device) = entry_or_report(story, network, "devices", "device", device) else {
         return;
     };
     if let Some(container) = configuration(device) {
         let list = "collectingProcess";
-        let _found = entry_or_told(story, container, list, "collecting process", process);
+        let _found = entry_or_report(story, container, list, "collecting process", process);
     }
 }
 
-/// Whether two links lead from one destination.
+/// Returns whether two links lead from one destination.
 fn have_one_start(one: &Value, other: &Value) -> bool {
     for member in ["device", "exportingProcess", "destination"] {
         if text_member(one, member) != text_member(other, member) {
@@ -63,8 +64,8 @@ fn have_one_start(one: &Value, other: &Value) -> bool {
     true
 }
 
-/// Tells the earlier link that leads from the same destination as the one at a pointer.
-pub(crate) fn tell_linked(story: &mut Story, network: &Value, link: &Value) {
+/// Writes the earlier link that leads from the same destination as the one at a pointer.
+pub(crate) fn write_linked(story: &mut Story, network: &Value, link: &Value) {
     let links = items_member(network, "links");
     for place in 0..links.len() {
         let other = &links[place];
@@ -91,38 +92,38 @@ pub(crate) fn tell_linked(story: &mut Story, network: &Value, link: &Value) {
     }
 }
 
-/// Tells that a device isn't there, or has no exporting process of this name, or that no destination.
-fn tell_start(story: &mut Story, network: &Value, device: &str, process: &str, destination: &str) {
-    let Some(device) = entry_or_told(story, network, "devices", "device", device) else {
+/// Writes that a device isn't there, or has no exporting process of this name, or that no destination.
+fn write_start(story: &mut Story, network: &Value, device: &str, process: &str, destination: &str) {
+    let Some(device) = entry_or_report(story, network, "devices", "device", device) else {
         return;
     };
     let Some(container) = configuration(device) else {
         return;
     };
     let list = "exportingProcess";
-    if let Some(process) = entry_or_told(story, container, list, "exporting process", process) {
-        let _found = entry_or_told(story, process, "destination", "destination", destination);
+    if let Some(process) = entry_or_report(story, container, list, "exporting process", process) {
+        let _found = entry_or_report(story, process, "destination", "destination", destination);
     }
 }
 
-/// Tells which ends of a link aren't there.
-pub(crate) fn tell_link_ends(story: &mut Story, network: &Value, link: &Value) {
+/// Writes which ends of a link aren't there.
+pub(crate) fn write_link_ends(story: &mut Story, network: &Value, link: &Value) {
     let device = text_or_none(link, "device");
     let process = text_or_none(link, "exportingProcess");
     let destination = text_or_none(link, "destination");
-    tell_start(story, network, device, process, destination);
+    write_start(story, network, device, process, destination);
     let device = text_or_none(link, "toDevice");
-    tell_process(story, network, device, text_or_none(link, "toProcess"));
+    write_process(story, network, device, text_or_none(link, "toProcess"));
 }
 
-/// Tells what isn't there of the device and the collecting process of a report.
-pub(crate) fn tell_report_end(story: &mut Story, network: &Value, report: &Value) {
+/// Writes what isn't there of the device and the collecting process of a report.
+pub(crate) fn write_report_end(story: &mut Story, network: &Value, report: &Value) {
     let device = text_or_none(report, "device");
     let process = text_or_none(report, "collectingProcess");
-    tell_process(story, network, device, process);
+    write_process(story, network, device, process);
 }
 
-/// What the entries of a list of a device are.
+/// Returns what the entries of a list of a device are.
 fn kind_of(list: &str) -> &'static str {
     match list {
         "selectionProcess" => "selection process",
@@ -132,21 +133,29 @@ fn kind_of(list: &str) -> &'static str {
     }
 }
 
-/// Tells the name at a pointer into a network, which names nothing of its device, and the names that there are.
-pub(crate) fn tell_unknown_name(story: &mut Story, network: &Value, pointer: &str, name: &str) {
+/// Writes the name at a pointer into a network, which names nothing of its device, and the names that there are.
+pub(crate) fn write_unknown_name(story: &mut Story, network: &Value, pointer: &str, name: &str) {
     let list = last_member(pointer);
-    if let Some(container) = value_behind(network, pointer, CONFIGURATION) {
-        tell_unknown(story, kind_of(list), name, items_member(container, list));
+    if let Some(container) = value_after(network, pointer, CONFIGURATION) {
+        write_unknown(story, kind_of(list), name, items_member(container, list));
     }
 }
 
-/// Tells that no device of a network has this name, and the names that there are.
-pub(crate) fn tell_unknown_device(story: &mut Story, network: &Value, name: &str) {
-    tell_unknown(story, "device", name, items_member(network, "devices"));
+/// Reports that no device of a network has this name, and the names that there are.
+pub(crate) fn write_unknown_device(story: &mut Story, devices: &[NetworkDevice], name: &str) {
+    story.text_quoted("no device is named ", name);
+    story.text("; there are: ");
+    for place in 0..devices.len() {
+        story.text_quoted(between(place > 0, ", "), devices[place].name.as_str());
+    }
+    if devices.is_empty() {
+        story.text("none");
+    }
+    story.end_line();
 }
 
-/// Tells a collecting process by the numbers of its device and its own, as `3.1`.
-fn tell_numbers<'x>(story: &mut Story, network: &'x Value, numbers: &'x str) {
+/// Writes a collecting process by the numbers of its device and its own, as `3.1`.
+fn write_numbers<'x>(story: &mut Story, network: &'x Value, numbers: &'x str) {
     let Some((device, process)) = numbers.split_once('.') else {
         return;
     };
@@ -169,9 +178,9 @@ fn tell_numbers<'x>(story: &mut Story, network: &'x Value, numbers: &'x str) {
     story.sentence(text_or_none(device, "name"));
 }
 
-/// Tells the collecting processes that stand on a circle of links, or behind one, by their numbers.
-pub(crate) fn tell_cycle(story: &mut Story, network: &Value, place: &str) {
+/// Writes the collecting processes that stand on a circle of links, or after one, by their numbers.
+pub(crate) fn write_cycle(story: &mut Story, network: &Value, place: &str) {
     for numbers in place.split(' ') {
-        tell_numbers(story, network, numbers);
+        write_numbers(story, network, numbers);
     }
 }

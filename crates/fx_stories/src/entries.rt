@@ -9,7 +9,7 @@ const DEVICES: u64 = 64;
 /// How many collecting processes the devices of a network may have.
 const PROCESSES: u64 = 256;
 
-/// How many entries a list may have, of a network's document or of a traffic declaration.
+/// Returns how many entries a list may have, of a network's document or of a traffic declaration.
 fn most_entries(location: &Location<'_>, is_network: bool) -> u64 {
     match (location.member, location.depth) {
         ("paths", 0) => 16,
@@ -22,7 +22,7 @@ fn most_entries(location: &Location<'_>, is_network: bool) -> u64 {
     }
 }
 
-/// What the entries of a list are, of a network's document or of a traffic declaration.
+/// Returns what the entries of a list are, of a network's document or of a traffic declaration.
 fn entries_words(location: &Location<'_>) -> &'static str {
     match (location.member, location.depth) {
         ("paths", 1) => "crossings of the path: ",
@@ -30,7 +30,7 @@ fn entries_words(location: &Location<'_>) -> &'static str {
     }
 }
 
-/// How many collecting processes the devices of a network have.
+/// Returns how many collecting processes the devices of a network have.
 fn count_processes(devices: &[Value]) -> u64 {
     let mut count: u64 = 0;
     for device in devices {
@@ -42,15 +42,15 @@ fn count_processes(devices: &[Value]) -> u64 {
     count
 }
 
-/// Tells how many there are of something, and how many are allowed.
-fn tell_count<'x>(story: &mut Story, words: &'x str, count: u64, most: u64) {
+/// Writes how many there are of something, and how many are allowed.
+fn write_count<'x>(story: &mut Story, words: &'x str, count: u64, most: u64) {
     story.text_number(words, count);
     story.text_number("; at most ", most);
     story.sentence(" are allowed");
 }
 
-/// Tells how many entries a list at a pointer has, and how many it may have.
-pub(crate) fn tell_entries(story: &mut Story, pointer: &str, list: &Value, is_network: bool) {
+/// Writes how many entries a list at a pointer has, and how many it may have.
+pub(crate) fn write_entries(story: &mut Story, pointer: &str, list: &Value, is_network: bool) {
     let Some(items) = list.as_array() else {
         return;
     };
@@ -59,7 +59,7 @@ pub(crate) fn tell_entries(story: &mut Story, pointer: &str, list: &Value, is_ne
     let count = items.len() as u64;
     if location.member == "devices" && count <= most {
         let count = count_processes(items.as_slice());
-        tell_count(
+        write_count(
             story,
             "collecting processes of all devices: ",
             count,
@@ -67,5 +67,5 @@ pub(crate) fn tell_entries(story: &mut Story, pointer: &str, list: &Value, is_ne
         );
         return;
     }
-    tell_count(story, entries_words(&location), count, most);
+    write_count(story, entries_words(&location), count, most);
 }

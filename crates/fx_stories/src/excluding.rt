@@ -1,11 +1,11 @@
 //! Selection processes that select nothing, since two of their filters exclude one another.
-use crate::regions::{axis_word, tell_values};
+use crate::regions::{axis_word, write_values};
 use crate::story::Story;
 use fx_config::{Method, PropertyMatch, SelectionProcess, Selector};
 use fx_plan::Plan;
 use fx_topology::NetworkDevice;
 
-/// Whether no packet passes both of two selectors.
+/// Returns whether no packet passes both of two selectors.
 fn exclude(one: &Selector, other: &Selector) -> bool {
     match (&one.method, &other.method) {
         (Method::FilterMatch(one), Method::FilterMatch(other)) => one.axis == other.axis
@@ -14,7 +14,7 @@ fn exclude(one: &Selector, other: &Selector) -> bool {
     }
 }
 
-/// The first of these selectors that excludes another.
+/// Returns the first of these selectors that excludes another.
 fn excluding<'a>(selectors: &'a [Selector], other: &Selector) -> Option<&'a Selector> {
     for selector in selectors {
         if exclude(selector, other) {
@@ -24,26 +24,26 @@ fn excluding<'a>(selectors: &'a [Selector], other: &Selector) -> Option<&'a Sele
     None
 }
 
-/// Tells the values that pass a filter.
-fn tell_passing(story: &mut Story, filter: PropertyMatch) {
+/// Writes the values that pass a filter.
+fn write_passing(story: &mut Story, filter: PropertyMatch) {
     story.text(" (");
     story.text(axis_word(filter.axis));
     story.text(" ");
-    tell_values(story, filter.axis, filter.range.low, filter.range.high);
+    write_values(story, filter.axis, filter.range.low, filter.range.high);
     story.text(")");
 }
 
-/// Tells a selector, and the values that pass it.
-fn tell_selector(story: &mut Story, selector: &Selector) {
+/// Writes a selector, and the values that pass it.
+fn write_selector(story: &mut Story, selector: &Selector) {
     story.quoted(selector.name.as_str());
     match selector.method {
-        Method::FilterMatch(filter) => tell_passing(story, filter),
+        Method::FilterMatch(filter) => write_passing(story, filter),
         Method::SelectAll => {},
     }
 }
 
-/// Tells that two selectors of a selection process exclude one another.
-fn tell_both<'x>(
+/// Writes that two selectors of a selection process exclude one another.
+fn write_both<'x>(
     story: &mut Story,
     device: &'x NetworkDevice,
     process: &'x SelectionProcess,
@@ -54,34 +54,34 @@ fn tell_both<'x>(
     story.text(" of ");
     story.text(device.name.as_str());
     story.text(" selects nothing: no packet passes both filters ");
-    tell_selector(story, one);
+    write_selector(story, one);
     story.text(" and ");
-    tell_selector(story, other);
+    write_selector(story, other);
     story.end_line();
 }
 
-/// Tells the first two selectors of a selection process that exclude one another.
-fn tell_process(story: &mut Story, device: &NetworkDevice, process: &SelectionProcess) {
+/// Writes the first two selectors of a selection process that exclude one another.
+fn write_process(story: &mut Story, device: &NetworkDevice, process: &SelectionProcess) {
     let selectors = process.selectors.as_slice();
     for place in 0..selectors.len() {
         let selector = &selectors[place];
         if let Some(other) = excluding(&selectors[..place], selector) {
-            tell_both(story, device, process, other, selector);
+            write_both(story, device, process, other, selector);
             return;
         }
     }
 }
 
-/// Tells the selection processes of a device that select nothing.
-fn tell_device(story: &mut Story, device: &NetworkDevice) {
+/// Writes the selection processes of a device that select nothing.
+fn write_device(story: &mut Story, device: &NetworkDevice) {
     for process in device.config.selection_processes.as_slice() {
-        tell_process(story, device, process);
+        write_process(story, device, process);
     }
 }
 
-/// Tells the selection processes of a network that select nothing, since two of their filters exclude one another.
-pub(crate) fn tell_excluding(story: &mut Story, plan: &Plan) {
+/// Writes the selection processes of a network that select nothing, since two of their filters exclude one another.
+pub(crate) fn write_excluding(story: &mut Story, plan: &Plan) {
     for device in plan.network().devices.as_slice() {
-        tell_device(story, device);
+        write_device(story, device);
     }
 }

@@ -3,11 +3,11 @@ use crate::story::{Story, between};
 use fx_elements::{Element, by_id, width};
 use fx_wire::{FieldSpecifier, VARIABLE};
 
-/// How many fields of a template are told.
+/// How many fields of a template are written.
 const FIELDS: usize = 20;
 
 /// The elements of the IANA registry (RFC 7012) that exporters send, by their numbers.
-const ELEMENTS: [(u16, &str); 60] = [
+const ELEMENTS: [(u16, &str); 64] = [
     (1, "octetDeltaCount"),
     (2, "packetDeltaCount"),
     (3, "deltaFlowCount"),
@@ -35,8 +35,10 @@ const ELEMENTS: [(u16, &str); 60] = [
     (30, "destinationIPv6PrefixLength"),
     (31, "flowLabelIPv6"),
     (32, "icmpTypeCodeIPv4"),
+    (34, "samplingInterval"),
     (44, "sourceIPv4Prefix"),
     (45, "destinationIPv4Prefix"),
+    (50, "samplerRandomInterval"),
     (56, "sourceMacAddress"),
     (58, "vlanId"),
     (60, "ipVersion"),
@@ -68,9 +70,11 @@ const ELEMENTS: [(u16, &str); 60] = [
     (169, "destinationIPv6Prefix"),
     (170, "sourceIPv6Prefix"),
     (210, "paddingOctets"),
+    (306, "samplingPacketSpace"),
+    (311, "samplingProbability"),
 ];
 
-/// The name of an element of the IANA registry that exporters send, or an empty text.
+/// Returns the name of an element of the IANA registry that exporters send, or an empty text.
 pub(crate) fn element_name(number: u16) -> &'static str {
     for (known, name) in &ELEMENTS {
         if *known == number {
@@ -80,8 +84,8 @@ pub(crate) fn element_name(number: u16) -> &'static str {
     ""
 }
 
-/// Tells a field's element: its name, where it is known, and its number and enterprise.
-pub(crate) fn tell_element(story: &mut Story, field: &FieldSpecifier) {
+/// Writes a field's element: its name, where it is known, and its number and enterprise.
+pub(crate) fn write_element(story: &mut Story, field: &FieldSpecifier) {
     let number = u64::from(field.element);
     if let Some(enterprise) = field.enterprise {
         story.text_number("element ", number);
@@ -98,9 +102,9 @@ pub(crate) fn tell_element(story: &mut Story, field: &FieldSpecifier) {
     }
 }
 
-/// Tells a field: its element and its length.
-pub(crate) fn tell_field(story: &mut Story, field: &FieldSpecifier) {
-    tell_element(story, field);
+/// Writes a field: its element and its length.
+pub(crate) fn write_field(story: &mut Story, field: &FieldSpecifier) {
+    write_element(story, field);
     if field.field_length == VARIABLE {
         story.text(" of variable length");
         return;
@@ -108,20 +112,20 @@ pub(crate) fn tell_field(story: &mut Story, field: &FieldSpecifier) {
     story.text_number(" of length ", u64::from(field.field_length));
 }
 
-/// Tells the fields of a template.
-pub(crate) fn tell_fields_of(story: &mut Story, fields: &[FieldSpecifier]) {
-    let told = fields.len().min(FIELDS);
-    for place in 0..told {
+/// Writes the fields of a template.
+pub(crate) fn write_fields_of(story: &mut Story, fields: &[FieldSpecifier]) {
+    let shown = fields.len().min(FIELDS);
+    for place in 0..shown {
         story.text(between(place > 0, ", "));
-        tell_field(story, &fields[place]);
+        write_field(story, &fields[place]);
     }
-    if told < fields.len() {
+    if shown < fields.len() {
         story.text(", ..");
     }
 }
 
-/// Tells how many octets the values of a field's element must have.
-pub(crate) fn tell_allowed_length(story: &mut Story, field: &FieldSpecifier) {
+/// Writes how many octets the values of a field's element must have.
+pub(crate) fn write_allowed_length(story: &mut Story, field: &FieldSpecifier) {
     let wide = match by_id(field.element, field.enterprise.unwrap_or(0)) {
         Element::OnAxis(axis) | Element::Prefix(axis) => width(axis) / 8,
         Element::PrefixLength(_) => 1,

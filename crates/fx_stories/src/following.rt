@@ -1,8 +1,8 @@
-//! What becomes of records behind the devices at which a path's packets are metered.
+//! What becomes of records after the devices at which a path's packets are metered.
 use crate::holders::leads_to_report;
-use crate::lacking::Arriving;
-use crate::matches::{Taken, tell_untaken};
-use crate::sending::{tell_end, tell_sending};
+use crate::matches::{Taken, write_untaken};
+use crate::missing_fields::Arriving;
+use crate::sending::{write_end, write_sending};
 use crate::story::Story;
 use fx_base::{Name, entry_at, entry_numbered};
 use fx_boxes::Region;
@@ -13,26 +13,26 @@ use fx_tables::{Crossing, HolderName, Point};
 use fx_topology::{NamedLink, NetworkDevice};
 use fx_walk::place_of;
 
-/// How many ways to collecting processes are told.
-const TOLD: usize = 64;
+/// How many ways to collecting processes are written.
+const SHOWN: usize = 64;
 
-/// Ways by which records come to different collecting processes, or with different keys, as many as are told.
+/// Ways by which records come to different collecting processes, or with different keys, as many as are written.
 #[derive(Drop)]
 struct Found<'a> {
     plan: &'a Plan,
     /// The places of their links.
-    places: [usize; TOLD],
+    places: [usize; SHOWN],
     /// The cache or the aggregation that the records of each left last.
-    holders: [HolderName; TOLD],
+    holders: [HolderName; SHOWN],
     count: usize,
 }
 
-/// Whether two links lead to the same collecting process.
+/// Returns whether two links lead to the same collecting process.
 fn is_same_end(one: &NamedLink, other: &NamedLink) -> bool {
     one.to_device == other.to_device && one.to_process == other.to_process
 }
 
-/// Whether the records of two caches or aggregations have the same key.
+/// Returns whether the records of two caches or aggregations have the same key.
 fn is_same_key(plan: &Plan, one: HolderName, other: HolderName) -> bool {
     let net = plan.net();
     match (net.holder_place(one), net.holder_place(other)) {
@@ -42,7 +42,7 @@ fn is_same_key(plan: &Plan, one: HolderName, other: HolderName) -> bool {
 }
 
 impl Found<'_> {
-    /// Whether the way at a place leads to the collecting process of a link.
+    /// Returns whether the way at a place leads to the collecting process of a link.
     fn ends_at(&self, place: usize, link: &NamedLink) -> bool {
         let links = self.plan.network().links.as_slice();
         match entry_at(links, place) {
@@ -51,7 +51,7 @@ impl Found<'_> {
         }
     }
 
-    /// Whether one of the first so many ways leads to the collecting process of a link.
+    /// Returns whether one of the first so many ways leads to the collecting process of a link.
     fn has_end(&self, link: &NamedLink, before: usize) -> bool {
         for place in self.places.iter().take(before) {
             if self.ends_at(*place, link) {
@@ -61,9 +61,9 @@ impl Found<'_> {
         false
     }
 
-    /// Whether records with the same key come to the collecting process of a link already.
+    /// Returns whether records with the same key come to the collecting process of a link already.
     fn has(&self, link: &NamedLink, holder: HolderName) -> bool {
-        for known in 0..TOLD {
+        for known in 0..SHOWN {
             if known < self.count
                 && self.ends_at(self.places[known], link)
                 && is_same_key(self.plan, self.holders[known], holder)
@@ -76,7 +76,7 @@ impl Found<'_> {
 
     /// Adds the link at a place, by which records of a cache or an aggregation come.
     fn add(&mut self, place: usize, link: &NamedLink, holder: HolderName) {
-        if self.count < TOLD && !self.has(link, holder) {
+        if self.count < SHOWN && !self.has(link, holder) {
             self.places[self.count] = place;
             self.holders[self.count] = holder;
             self.count += 1;
@@ -100,7 +100,7 @@ fn add_links(
     }
 }
 
-/// Whether a point hands packets of a region to the cache at a place of the network's table.
+/// Returns whether a point hands packets of a region to the cache at a place of the network's table.
 fn is_selected(point: &Point, region: &Region, holder: Option<usize>) -> bool {
     for selection in point.selections() {
         if selection.holder == holder
@@ -115,7 +115,7 @@ fn is_selected(point: &Point, region: &Region, holder: Option<usize>) -> bool {
     false
 }
 
-/// Whether a cache meters packets of a region that make a crossing.
+/// Returns whether a cache meters packets of a region that make a crossing.
 fn is_metered(plan: &Plan, region: &Region, crossing: &Crossing, cache: HolderName) -> bool {
     let holder = plan.net().holder_place(cache);
     for point in plan.net().points_of(crossing.device) {
@@ -146,8 +146,8 @@ fn add_first(found: &mut Found<'_>, region: &Region, crossing: &Crossing) {
     }
 }
 
-/// Adds the links by which a collecting process sends records on, those of aggregations too. The places of its device and
-/// of itself count from 0.
+/// Adds the links by which a collecting process sends records on, those of aggregations too. The places of its device
+/// and of itself count from 0.
 fn add_onward(
     found: &mut Found<'_>,
     device: &NetworkDevice,
@@ -173,8 +173,8 @@ fn add_onward(
     }
 }
 
-/// Tells where an aggregation's records go.
-fn tell_aggregation(
+/// Writes where an aggregation's records go.
+fn write_aggregation(
     story: &mut Story,
     plan: &Plan,
     device: &NetworkDevice,
@@ -187,11 +187,11 @@ fn tell_aggregation(
     } else {
         ": "
     });
-    let _choices = tell_sending(story, plan, device, exporters, &[]);
+    let _choices = write_sending(story, plan, device, exporters, &[]);
 }
 
-/// Tells the collecting process to which a link leads, and where it sends records on.
-fn tell_process(
+/// Writes the collecting process to which a link leads, and where it sends records on.
+fn write_process(
     story: &mut Story,
     plan: &Plan,
     link: &NamedLink,
@@ -199,23 +199,23 @@ fn tell_process(
     process: &CollectingProcess,
 ) {
     let exporters = process.exporting_processes.as_slice();
-    tell_end(story, link);
+    write_end(story, link);
     if leads_to_report(&plan.network().report, link) {
         story.text(" is the report's");
     }
     if !exporters.is_empty() {
         story.text("; it forwards: ");
-        let _choices = tell_sending(story, plan, device, exporters, &[]);
+        let _choices = write_sending(story, plan, device, exporters, &[]);
     }
     for aggregation in process.aggregations.as_slice() {
-        tell_aggregation(story, plan, device, aggregation);
+        write_aggregation(story, plan, device, aggregation);
     }
     story.end_line();
 }
 
-/// Tells why the records of a cache or an aggregation stay unassigned that come by the link at a place, or aren't taken in
-/// by aggregations of a collecting process.
-fn tell_lacking<'x>(
+/// Writes why the records of a cache or an aggregation stay unassigned that come by the link at a place, or aren't
+/// taken in by aggregations of a collecting process.
+fn write_lacking<'x>(
     story: &mut Story,
     plan: &'x Plan,
     region: &'x Region,
@@ -235,7 +235,7 @@ fn tell_lacking<'x>(
         fields: &fields,
     };
     if end == net.report() {
-        arriving.tell_unassigned_of(story, holder);
+        arriving.write_unassigned_of(story, holder);
     }
     if let Some(handled) = entry_at(net.processes(), end) {
         let taken = Taken {
@@ -245,13 +245,13 @@ fn tell_lacking<'x>(
             device,
             process,
         };
-        tell_untaken(story, &taken, handled.aggregations());
+        write_untaken(story, &taken, handled.aggregations());
     }
 }
 
-/// Tells what becomes of records at the end of the way of this number from 0, which is told where no way before leads there,
-/// and adds those by which they are sent on.
-fn tell_way(
+/// Writes what becomes of records at the end of the way of this number from 0, which is written where no way before
+/// leads there, and adds those by which they are sent on.
+fn write_way(
     story: &mut Story,
     found: &mut Found<'_>,
     region: &Region,
@@ -276,17 +276,17 @@ fn tell_way(
     };
     if let Some(process) = entry_at(processes, of) {
         if !found.has_end(link, next) {
-            tell_process(story, plan, link, device, process);
+            write_process(story, plan, link, device, process);
         }
-        tell_lacking(story, plan, region, place, holder, device, process);
+        write_lacking(story, plan, region, place, holder, device, process);
         add_onward(found, device, process, (at, of), holder);
     }
 }
 
-/// Tells the collecting processes to which the records of a region's packets may come that take a path, each once and 64
-/// at most, where each sends them, what their key lacks for the report, and which aggregations don't take all of them in,
-/// and why.
-pub(crate) fn tell_following(
+/// Writes the collecting processes to which the records of a region's packets may come that take a path, each once and
+/// 64 at most, where each sends them, what their key lacks for the report, and which aggregations don't take all of
+/// them in, and why.
+pub(crate) fn write_following(
     story: &mut Story,
     plan: &Plan,
     region: &Region,
@@ -298,17 +298,17 @@ pub(crate) fn tell_following(
     };
     let mut found = Found {
         plan,
-        places: [0; TOLD],
-        holders: [nothing; TOLD],
+        places: [0; SHOWN],
+        holders: [nothing; SHOWN],
         count: 0,
     };
     for crossing in crossings {
         add_first(&mut found, region, crossing);
     }
-    for next in 0..TOLD {
+    for next in 0..SHOWN {
         if next < found.count {
             let (place, holder) = (found.places[next], found.holders[next]);
-            tell_way(story, &mut found, region, place, next, holder);
+            write_way(story, &mut found, region, place, next, holder);
         }
     }
 }

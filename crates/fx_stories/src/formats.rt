@@ -1,6 +1,6 @@
 //! What stands in the place of an IPFIX message, by its first octets.
 
-/// What octets are that are no IPFIX message, in words, with what to do about it.
+/// Returns what octets are that are no IPFIX message, in words, with what to do about it.
 pub(crate) fn format_of(octets: &[u8]) -> Option<&'static str> {
     capture_format(octets)
         .or(flow_format(octets))
@@ -8,7 +8,7 @@ pub(crate) fn format_of(octets: &[u8]) -> Option<&'static str> {
         .or(text_format(octets))
 }
 
-/// Whether octets begin a capture in pcap.
+/// Returns whether octets begin a capture in pcap.
 pub(crate) fn is_pcap(octets: &[u8]) -> bool {
     matches!(
         octets,
@@ -19,7 +19,7 @@ pub(crate) fn is_pcap(octets: &[u8]) -> bool {
     )
 }
 
-/// Whether octets begin a capture in pcapng.
+/// Returns whether octets begin a capture in pcapng.
 pub(crate) fn is_pcapng(octets: &[u8]) -> bool {
     octets.starts_with(b"\x0a\x0d\x0d\x0a")
 }
@@ -57,7 +57,7 @@ const FLOWS: &[Format] = &[
 
 /// What to say of a file of nfdump, whichever octet its numbers have first.
 const NFDUMP: &str =
-    "These octets begin a file of nfdump, which nfcapd wrote, and not what the exporter sent. Capture that: docs/GUIDE.md tells how to take the messages out.";
+    "These octets begin a file of nfdump, which nfcapd wrote, and not what the exporter sent. Capture that: docs/GUIDE.md says how to take the messages out.";
 
 /// Compressed files.
 const PACKED: &[Format] = &[
@@ -79,7 +79,7 @@ const PACKED: &[Format] = &[
     },
 ];
 
-/// What to say of octets that begin as the first of these formats that they begin as.
+/// Returns what to say of octets that begin as the first of these formats that they begin as.
 fn words_of(formats: &[Format], octets: &[u8]) -> Option<&'static str> {
     for format in formats {
         if octets.starts_with(format.begins) {
@@ -89,32 +89,32 @@ fn words_of(formats: &[Format], octets: &[u8]) -> Option<&'static str> {
     None
 }
 
-/// What octets are that begin a capture.
+/// Returns what octets are that begin a capture.
 fn capture_format(octets: &[u8]) -> Option<&'static str> {
     if is_pcap(octets) {
         Some(
-            "These octets begin a capture (pcap). The messages stand inside of its packets: docs/GUIDE.md tells how to take them out.",
+            "These octets begin a capture (pcap). The messages stand inside of its packets: docs/GUIDE.md says how to take them out.",
         )
     } else if is_pcapng(octets) {
         Some(
-            "These octets begin a capture (pcapng). The messages stand inside of its packets: docs/GUIDE.md tells how to take them out.",
+            "These octets begin a capture (pcapng). The messages stand inside of its packets: docs/GUIDE.md says how to take them out.",
         )
     } else {
         None
     }
 }
 
-/// What octets are that begin a message of another protocol of flows.
+/// Returns what octets are that begin a message of another protocol of flows.
 pub(crate) fn flow_format(octets: &[u8]) -> Option<&'static str> {
     words_of(FLOWS, octets)
 }
 
-/// What octets are that begin a compressed file.
+/// Returns what octets are that begin a compressed file.
 pub(crate) fn packed_format(octets: &[u8]) -> Option<&'static str> {
     words_of(PACKED, octets)
 }
 
-/// Whether octets begin a text.
+/// Returns whether octets begin a text.
 pub(crate) fn is_text(octets: &[u8]) -> bool {
     let Some(first) = octets.get(..4) else {
         return false;
@@ -127,7 +127,7 @@ pub(crate) fn is_text(octets: &[u8]) -> bool {
     true
 }
 
-/// Whether octets begin the hexadecimal digits of an IPFIX message.
+/// Returns whether octets begin the hexadecimal digits of an IPFIX message.
 fn is_digits_of_message(octets: &[u8]) -> bool {
     matches!(
         octets,
@@ -135,7 +135,7 @@ fn is_digits_of_message(octets: &[u8]) -> bool {
     )
 }
 
-/// What octets are that begin a text.
+/// Returns what octets are that begin a text.
 fn text_format(octets: &[u8]) -> Option<&'static str> {
     if is_digits_of_message(octets) {
         return Some(

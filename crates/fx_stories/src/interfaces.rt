@@ -1,16 +1,16 @@
 //! The interfaces at which the observation points of a device are.
-use crate::near::near_of;
+use crate::similar_names::similar_name;
 use crate::story::{Story, between};
 use fx_config::ObservationPoint;
 use std::alloc::{AllocError, Global};
 
-/// How many interfaces are told.
-const TOLD: u64 = 8;
+/// How many interfaces are written.
+const SHOWN: u64 = 8;
 
 /// How many interfaces are looked at.
 const LOOKED_AT: usize = 64;
 
-/// Whether a name is among these.
+/// Returns whether a name is among these.
 fn has_name(names: &[&str], name: &str) -> bool {
     for known in names {
         if *known == name {
@@ -34,7 +34,7 @@ fn add_interfaces<'a>(
     Ok(())
 }
 
-/// The first interfaces at which these observation points are, each of them once.
+/// Returns the first interfaces at which these observation points are, each of them once.
 fn interfaces_of<'a>(
     alloc: Global,
     points: &'a [ObservationPoint],
@@ -46,29 +46,70 @@ fn interfaces_of<'a>(
     Ok(names)
 }
 
-/// Tells names, at most eight of them, the nearest of them first.
-fn tell_names(story: &mut Story, names: &[&str], nearest: Option<&str>) {
-    let mut told: u64 = 0;
+/// Writes names, at most eight of them, the nearest of them first.
+fn write_names(story: &mut Story, names: &[&str], nearest: Option<&str>) {
+    let mut shown: u64 = 0;
     if let Some(name) = nearest {
         story.quoted(name);
-        told = 1;
+        shown = 1;
     }
     for name in names {
-        if told < TOLD && nearest != Some(*name) {
-            story.text_quoted(between(told > 0, ", "), name);
-            told += 1;
+        if shown < SHOWN && nearest != Some(*name) {
+            story.text_quoted(between(shown > 0, ", "), name);
+            shown += 1;
         }
     }
     if names.len() >= LOOKED_AT {
         story.text(" and others");
-    } else if names.len() as u64 > told {
-        story.text_number(" and ", names.len() as u64 - told);
+    } else if names.len() as u64 > shown {
+        story.text_number(" and ", names.len() as u64 - shown);
         story.text(" more");
     }
 }
 
-/// Tells at which interfaces the observation points of a device are, behind one at which none is.
-pub(crate) fn tell_watched_interfaces(
+/// Returns a name without all that isn't a digit.
+fn digits_of(alloc: Global, name: &str) -> Result<String, AllocError> {
+    let mut digits = String::new(alloc);
+    for character in name.chars() {
+        if character.is_ascii_digit() {
+            digits.push(character)?;
+        }
+    }
+    Ok(digits)
+}
+
+/// Returns those of these names that have the same digits as a name, in their order: others are of another interface.
+fn with_digits_of<'a>(
+    alloc: Global,
+    name: &str,
+    names: &[&'a str],
+) -> Result<Vec<&'a str>, AllocError> {
+    let digits = digits_of(alloc, name)?;
+    let mut same = Vec::new(alloc);
+    for one in names {
+        if digits_of(alloc, one)?.as_str() == digits.as_str() {
+            same.push(*one)?;
+        }
+    }
+    Ok(same)
+}
+
+/// Returns the interface of these observation points whose name an interface may have been meant to have: nearly the
+/// same one, with the same digits.
+pub(crate) fn nearest_watched<'a>(
+    story: &mut Story,
+    points: &'a [ObservationPoint],
+    interface: &str,
+) -> Option<&'a str> {
+    let names = interfaces_of(story.alloc, points);
+    let names = story.unless_short(names)?;
+    let same = with_digits_of(story.alloc, interface, names.as_slice());
+    let same = story.unless_short(same)?;
+    similar_name(story, interface, same.as_slice())
+}
+
+/// Writes at which interfaces the observation points of a device are, after one at which none is.
+pub(crate) fn write_watched_interfaces(
     story: &mut Story,
     points: &[ObservationPoint],
     interface: &str,
@@ -81,8 +122,8 @@ pub(crate) fn tell_watched_interfaces(
         story.sentence("; the device has none");
         return;
     }
-    let nearest = near_of(story, interface, names.as_slice());
+    let nearest = similar_name(story, interface, names.as_slice());
     story.text("; those of the device are at ");
-    tell_names(story, names.as_slice(), nearest);
+    write_names(story, names.as_slice(), nearest);
     story.end_line();
 }

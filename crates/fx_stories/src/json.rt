@@ -1,14 +1,14 @@
 //! Why octets are no JSON text.
-use crate::json_faults::tell_fault;
-use crate::other_files::tell_other_file;
+use crate::json_faults::write_fault;
+use crate::other_files::write_other_file;
 use crate::places::{number16, number32, octet_at};
 use crate::story::Story;
 use serde_json::{Error, Value};
 
-/// How many octets before a place are told.
-const TOLD: usize = 60;
+/// How many octets before a place are written.
+const SHOWN: usize = 60;
 
-/// What is wrong with a text from its first octets on, or where it has none.
+/// Returns what is wrong with a text from its first octets on, or where it has none.
 fn beginning_words(octets: &[u8]) -> Option<&'static str> {
     if octets.is_empty() {
         return Some("the file is empty");
@@ -19,7 +19,7 @@ fn beginning_words(octets: &[u8]) -> Option<&'static str> {
     wide_words(octets)
 }
 
-/// Whether a text begins with a byte order mark of UTF-32, or with a document's bracket in four octets.
+/// Returns whether a text begins with a byte order mark of UTF-32, or with a document's bracket in four octets.
 fn is_utf_32(octets: &[u8]) -> bool {
     octets.len() >= 4
         && matches!(
@@ -28,27 +28,27 @@ fn is_utf_32(octets: &[u8]) -> bool {
         )
 }
 
-/// Whether two octets are a character of ASCII in UTF-16, the higher octet first: one that a text may have.
+/// Returns whether two octets are a character of ASCII in UTF-16, the higher octet first: one that a text may have.
 fn is_ascii_pair(high: u8, low: u8) -> bool {
     high == 0 && (b'\t'..=b'~').contains(&low)
 }
 
-/// Whether a text begins with two characters of ASCII in UTF-16, the lower octet first.
+/// Returns whether a text begins with two characters of ASCII in UTF-16, the lower octet first.
 fn begins_low_first(octets: &[u8]) -> bool {
     octets.len() >= 4
         && is_ascii_pair(octet_at(octets, 1), octet_at(octets, 0))
         && is_ascii_pair(octet_at(octets, 3), octet_at(octets, 2))
 }
 
-/// Whether a text begins with three characters of ASCII in UTF-16, the higher octet first, or has just two. A stream of
-/// IPFIX begins with 0 and 10, as a line feed does.
+/// Returns whether a text begins with three characters of ASCII in UTF-16, the higher octet first, or has just two. A
+/// stream of IPFIX begins with 0 and 10, as a line feed does.
 fn begins_high_first(octets: &[u8]) -> bool {
     is_ascii_pair(octet_at(octets, 0), octet_at(octets, 1))
         && is_ascii_pair(octet_at(octets, 2), octet_at(octets, 3))
         && (octets.len() == 4 || is_ascii_pair(octet_at(octets, 4), octet_at(octets, 5)))
 }
 
-/// In which encoding a text is whose characters take several octets each, in words, with what to do about it.
+/// Returns in which encoding a text is whose characters take several octets each, in words, with what to do about it.
 fn wide_words(octets: &[u8]) -> Option<&'static str> {
     if is_utf_32(octets) {
         Some("the text is in UTF-32: write it in UTF-8 (iconv -f UTF-32 -t UTF-8 OLD > NEW)")
@@ -63,7 +63,7 @@ fn wide_words(octets: &[u8]) -> Option<&'static str> {
     }
 }
 
-/// Where a line of a text begins, by its number, from 1.
+/// Returns where a line of a text begins, by its number, from 1.
 fn start_of_line(octets: &[u8], line: usize) -> usize {
     let mut number: usize = 1;
     let mut start: usize = 0;
@@ -76,11 +76,11 @@ fn start_of_line(octets: &[u8], line: usize) -> usize {
     start
 }
 
-/// Tells the octets of a line before a column, at most 60.
-fn tell_before(story: &mut Story, octets: &[u8], line: usize, column: usize) {
+/// Writes the octets of a line before a column, at most 60.
+fn write_before(story: &mut Story, octets: &[u8], line: usize, column: usize) {
     let start = start_of_line(octets, line);
     let end = start.saturating_add(column).min(octets.len());
-    let first = start.max(end.saturating_sub(TOLD));
+    let first = start.max(end.saturating_sub(SHOWN));
     let before = octets.get(first..end).unwrap_or(&[]);
     if !before.is_empty() {
         story.text("what stands there, up to that place: ");
@@ -89,7 +89,7 @@ fn tell_before(story: &mut Story, octets: &[u8], line: usize, column: usize) {
     }
 }
 
-/// The place of the octet at which a text can't be read on, by its line and its column, and by the reason.
+/// Returns the place of the octet at which a text can't be read on, by its line and its column, and by the reason.
 fn place_of(octets: &[u8], line: usize, column: usize, reason: &str) -> usize {
     if reason.starts_with("EOF") {
         return octets.len();
@@ -97,7 +97,7 @@ fn place_of(octets: &[u8], line: usize, column: usize, reason: &str) -> usize {
     start_of_line(octets, line).saturating_add(column.saturating_sub(1))
 }
 
-/// How JSON that is too deep, or a number that is too large, is told.
+/// How JSON that is too deep, or a number that is too large, is written.
 fn limit_words(reason: &str) -> &'static str {
     match reason {
         "recursion limit exceeded" => " (values may stand in at most 127 others)",
@@ -107,7 +107,7 @@ fn limit_words(reason: &str) -> &'static str {
     }
 }
 
-/// The reason in an error's text, which its place follows.
+/// Returns the reason in an error's text, which its place follows.
 fn reason_in(text: &str) -> &str {
     match text.split_once(" at line ") {
         Some((reason, _)) => reason,
@@ -115,8 +115,8 @@ fn reason_in(text: &str) -> &str {
     }
 }
 
-/// Tells a reason, and the line and the column where it stands.
-fn tell_reason(story: &mut Story, line: usize, column: usize, reason: &str) {
+/// Writes a reason, and the line and the column where it stands.
+fn write_reason(story: &mut Story, line: usize, column: usize, reason: &str) {
     story.text_number("line ", line as u64);
     story.text_number(", column ", column as u64);
     story.text(": ");
@@ -124,38 +124,38 @@ fn tell_reason(story: &mut Story, line: usize, column: usize, reason: &str) {
     story.sentence(limit_words(reason));
 }
 
-/// Tells what is wrong with a text from its first octets on, where a network or a traffic declaration is due. Answers
-/// whether that is told.
-fn tell_beginning(story: &mut Story, octets: &[u8], is_network: bool) -> bool {
+/// Writes what is wrong with a text from its first octets on, where a network or a traffic declaration is due. Answers
+/// whether that is written.
+fn write_beginning(story: &mut Story, octets: &[u8], is_network: bool) -> bool {
     match beginning_words(octets) {
         Some(words) => {
             story.sentence(words);
             true
         }
-        None => tell_other_file(story, octets, is_network),
+        None => write_other_file(story, octets, is_network),
     }
 }
 
-/// Tells where an error stands, its reason, and what stands there.
-fn tell_error(story: &mut Story, octets: &[u8], error: &Error, is_network: bool) {
+/// Writes where an error stands, its reason, and what stands there.
+fn write_error(story: &mut Story, octets: &[u8], error: &Error, is_network: bool) {
     let text = format!(in story.alloc; "{error}");
     let Some(text) = story.unless_short(text) else {
         return;
     };
     let reason = reason_in(text.as_str());
-    tell_reason(story, error.line(), error.column(), reason);
-    if !tell_beginning(story, octets, is_network) {
-        tell_before(story, octets, error.line(), error.column());
+    write_reason(story, error.line(), error.column(), reason);
+    if !write_beginning(story, octets, is_network) {
+        write_before(story, octets, error.line(), error.column());
         let place = place_of(octets, error.line(), error.column(), reason);
-        tell_fault(story, octets, place);
+        write_fault(story, octets, place);
     }
 }
 
-/// Tells why octets are no JSON text, if they aren't, where a network or a traffic declaration is due.
-pub(crate) fn tell_json(story: &mut Story, octets: &[u8], is_network: bool) {
+/// Writes why octets are no JSON text, if they aren't, where a network or a traffic declaration is due.
+pub(crate) fn write_json(story: &mut Story, octets: &[u8], is_network: bool) {
     match Value::from_slice(story.alloc, octets) {
         Ok(_) => {}
         Err(error) if error.is_memory() => story.fall_short(),
-        Err(error) => tell_error(story, octets, &error, is_network),
+        Err(error) => write_error(story, octets, &error, is_network),
     }
 }

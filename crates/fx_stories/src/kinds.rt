@@ -13,7 +13,7 @@ enum Due {
     Object,
     Text,
     Number,
-    /// An empty type, whose values are told as those that are allowed.
+    /// An empty type, whose values are written as those that are allowed.
     Empty,
     /// A list of objects.
     Objects,
@@ -23,7 +23,7 @@ enum Due {
     Paths,
 }
 
-/// What a value is, in words.
+/// Returns what a value is, in words.
 fn kind_words(value: &Value) -> &'static str {
     match value {
         Value::Null => "null",
@@ -60,8 +60,8 @@ const LISTS: [&str; 7] = [
     "once-audit:aggregation",
 ];
 
-/// Members of a network that are lists of objects where they stand in a device's module or, `destination`, in an exporting
-/// process of it.
+/// Members of a network that are lists of objects where they stand in a device's module or, `destination`, in an
+/// exporting process of it.
 const DEVICE_LISTS: [&str; 6] = [
     "observationPoint",
     "selectionProcess",
@@ -99,7 +99,7 @@ const NUMBERS: [&str; 9] = [
 /// Members of a traffic declaration that are texts wherever they stand.
 const TRAFFIC_TEXTS: [&str; 4] = ["name", "device", "interface", "direction"];
 
-/// What stands under a member of a network that names something in one object and is a list of such in another.
+/// Returns what stands under a member of a network that names something in one object and is a list of such in another.
 fn due_of_names(location: &Location<'_>) -> Due {
     let is_list = location.above == MODULE || location.member == "destination";
     match location.above {
@@ -109,7 +109,7 @@ fn due_of_names(location: &Location<'_>) -> Due {
     }
 }
 
-/// What stands under a member of a network.
+/// Returns what stands under a member of a network.
 fn due_in_network(location: &Location<'_>) -> Option<Due> {
     let member = location.member;
     if is_one_of(&DEVICE_LISTS, member) {
@@ -127,7 +127,7 @@ fn due_in_network(location: &Location<'_>) -> Option<Due> {
     }
 }
 
-/// What stands under one of the other members of a network.
+/// Returns what stands under one of the other members of a network.
 fn other_due(member: &str) -> Option<Due> {
     match member {
         "ifName" => Some(Due::Names),
@@ -136,7 +136,7 @@ fn other_due(member: &str) -> Option<Due> {
     }
 }
 
-/// What stands under a member of a traffic declaration.
+/// Returns what stands under a member of a traffic declaration.
 fn due_in_traffic(location: &Location<'_>) -> Option<Due> {
     if location.above == "region" || is_one_of(&TRAFFIC_TEXTS, location.member) {
         return Some(Due::Text);
@@ -149,7 +149,7 @@ fn due_in_traffic(location: &Location<'_>) -> Option<Due> {
     }
 }
 
-/// What stands at a place, so many lists below its member.
+/// Returns what stands at a place, so many lists below its member.
 fn due_below(due: Due, depth: usize) -> &'static str {
     match (due, depth) {
         (Due::Object, 0) | (Due::Objects, 1) | (Due::Paths, 2) => "an object, in { }",
@@ -163,7 +163,8 @@ fn due_below(due: Due, depth: usize) -> &'static str {
     }
 }
 
-/// What has to stand at a place of a network, or of a traffic declaration, in words, or none where that isn't known.
+/// Returns what has to stand at a place of a network, or of a traffic declaration, in words, or none where that isn't
+/// known.
 fn due_words(location: &Location<'_>, is_network: bool) -> &'static str {
     let due = if is_network {
         due_in_network(location)
@@ -176,8 +177,8 @@ fn due_words(location: &Location<'_>, is_network: bool) -> &'static str {
     }
 }
 
-/// Tells which kind of value stands at a pointer, and which is due there.
-pub(crate) fn tell_kinds(story: &mut Story, pointer: &str, value: &Value, is_network: bool) {
+/// Writes which kind of value stands at a pointer, and which is due there.
+pub(crate) fn write_kinds(story: &mut Story, pointer: &str, value: &Value, is_network: bool) {
     let due = due_words(&location_of(pointer), is_network);
     story.text("it is ");
     story.text(kind_words(value));

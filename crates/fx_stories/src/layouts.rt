@@ -1,12 +1,12 @@
 //! How many different keys a network has.
-use crate::again::unless_refused;
+use crate::lent::unless_refused;
 use crate::story::Story;
 use fx_layout::Layout;
 use fx_topology::{NetworkDevice, NetworkDocument, read_network};
 use serde_json::Value;
 use std::alloc::AllocError;
 
-/// Whether a key is one of these.
+/// Returns whether a key is one of these.
 fn is_among(known: &[Layout], key: &Layout) -> bool {
     for other in known {
         if other.same(key) {
@@ -48,8 +48,8 @@ fn add_network(known: &mut Vec<Layout>, network: &NetworkDocument) -> Result<(),
     }
 }
 
-/// Tells how many different keys a network has.
-fn tell_keys(story: &mut Story, network: &NetworkDocument) {
+/// Writes how many different keys a network has.
+fn write_keys(story: &mut Story, network: &NetworkDocument) {
     let mut known = Vec::new(story.alloc);
     let _added = story.unless_short(add_network(&mut known, network));
     story.text_number(
@@ -59,10 +59,11 @@ fn tell_keys(story: &mut Story, network: &NetworkDocument) {
     story.sentence("; at most 64 are allowed");
 }
 
-/// Tells how many different keys the caches, the aggregations and the report of a network have, and how many they may have.
-pub(crate) fn tell_layouts(story: &mut Story, network: &Value) {
+/// Writes how many different keys the caches, the aggregations and the report of a network have, and how many they may
+/// have.
+pub(crate) fn write_layouts(story: &mut Story, network: &Value) {
     let read = read_network(story.alloc, network);
     if let Some(network) = unless_refused(story, read) {
-        tell_keys(story, &network);
+        write_keys(story, &network);
     }
 }

@@ -19,7 +19,7 @@ const PACKET_ONE: &str = "packet CLASS PATH SOURCE DESTINATION PROTOCOL SPORT DP
 const PACKET_TWO: &str =
     "packet CLASS PATH SOURCE DESTINATION PROTOCOL SPORT DPORT TOS VERSION SOURCE6 DESTINATION6 OCTETS";
 
-/// The forms of the lines behind the first.
+/// Returns the forms of the lines after the first.
 pub(crate) fn forms_of(kind: Kind) -> [&'static str; 6] {
     match kind {
         Kind::Certificate => [
@@ -52,7 +52,7 @@ pub(crate) fn forms_of(kind: Kind) -> [&'static str; 6] {
     }
 }
 
-/// Whether a line is a packet's of another version than its text's.
+/// Returns whether a line is a packet's of another version than its text's.
 pub(crate) fn is_of_other_version(kind: Kind, line: &[u8]) -> bool {
     match kind {
         Kind::Run(TextVersion::One) => fit_of(PACKET_TWO, line).is_whole(),
@@ -74,7 +74,7 @@ const AXIS_WORDS: [&str; 9] = [
     "DESTINATION6",
 ];
 
-/// The axis whose values stand in a packet's line for a word of its form.
+/// Returns the axis whose values stand in a packet's line for a word of its form.
 pub(crate) fn axis_of(form: &str, word: &str) -> Option<Axis> {
     if !form.starts_with("packet ") {
         return None;
@@ -87,7 +87,7 @@ pub(crate) fn axis_of(form: &str, word: &str) -> Option<Axis> {
     None
 }
 
-/// Whether a word of a form stands for itself.
+/// Returns whether a word of a form stands for itself.
 pub(crate) fn is_literal(word: &str) -> bool {
     for octet in word.as_bytes() {
         if octet.is_ascii_lowercase() {
@@ -97,7 +97,7 @@ pub(crate) fn is_literal(word: &str) -> bool {
     word.len() == 1
 }
 
-/// The axis of this word.
+/// Returns the axis of this word.
 pub(crate) fn axis_named(word: &[u8]) -> Option<Axis> {
     for axis in EVERY_AXIS {
         if is_word(word, axis_word(axis).as_bytes()) {
@@ -107,7 +107,7 @@ pub(crate) fn axis_named(word: &[u8]) -> Option<Axis> {
     None
 }
 
-/// The greatest number that may stand for a word of a form, behind another word of a line.
+/// Returns the greatest number that may stand for a word of a form, after another word of a line.
 fn greatest(form: &str, due: &str, before: &[u8]) -> u128 {
     match due {
         "AT" => match axis_named(before) {
@@ -119,7 +119,7 @@ fn greatest(form: &str, due: &str, before: &[u8]) -> u128 {
     }
 }
 
-/// Whether a word of a line is as a word of its form wants it, behind another one.
+/// Returns whether a word of a line is as a word of its form wants it, after another one.
 fn is_fitting(form: &str, due: &str, word: &[u8], before: &[u8]) -> bool {
     if is_literal(due) {
         return is_word(word, due.as_bytes());
@@ -133,7 +133,7 @@ fn is_fitting(form: &str, due: &str, word: &[u8], before: &[u8]) -> bool {
     }
 }
 
-/// Whether a word of a line is a number as its form wants it, behind another one.
+/// Returns whether a word of a line is a number as its form wants it, after another one.
 fn is_number(form: &str, due: &str, word: &[u8], before: &[u8]) -> bool {
     let is_counted = form.starts_with("carry ") && due == "OCTETS";
     match read_number(word, greatest(form, due, before)) {
@@ -147,20 +147,20 @@ fn is_number(form: &str, due: &str, word: &[u8], before: &[u8]) -> bool {
 pub(crate) struct Fit<'a> {
     /// The number of words that are as they should be.
     pub(crate) words: u64,
-    /// The word of the form behind these, or none where it ends.
+    /// The word of the form after these, or none where it ends.
     pub(crate) due: Option<&'a str>,
     /// The word of the line there, or none where it ends.
     pub(crate) word: Option<&'a [u8]>,
 }
 
 impl Fit<'_> {
-    /// Whether the line is as the form wants it.
+    /// Returns whether the line is as the form wants it.
     pub(crate) fn is_whole(&self) -> bool {
         self.due.is_none() && self.word.is_none()
     }
 }
 
-/// How far the words that are left of a line are choices, behind so many words.
+/// How far the words that are left of a line are choices, after so many words.
 fn fit_choices<'a>(words: Words<'a>, before: u64) -> Fit<'a> {
     let mut left = words;
     let mut passed = before;

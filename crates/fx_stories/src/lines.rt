@@ -1,4 +1,4 @@
-//! Lines of a text that was read before, read again.
+//! Lines of a text that was kept.
 ghost use Rattle.std.specs.Prelude.{◌≡◌, ◌<◌, true, Ok, IfErr};
 ghost use Rattle.fx_base.specs.Lines.{line_budget};
 ghost use Rattle.fx_stories.specs.Stories.{IsLineFault, IsUntold};
@@ -7,10 +7,10 @@ use crate::other_files::foreign_words;
 use crate::story::Story;
 use fx_base::{Fault, Line, LineReader, Place, Source, refusals};
 
-/// How many octets of a line are told.
-const TOLD: usize = 200;
+/// How many octets of a line are written.
+const SHOWN: usize = 200;
 
-/// The fault of lines that can't be read again: 903 at a line that is too long, else 901.
+/// Returns the fault of lines that can't be read: 903 at a line that is too long, else 901.
 fn line_fault(fault: Fault) -> Fault
     ensures { IsLineFault result }
 {
@@ -31,9 +31,9 @@ pub(crate) fn next_line<C: Source>(lines: &mut LineReader<C>) -> Result<bool, Fa
     }
 }
 
-/// Tells a line: its number and its first octets, or which file of another kind they begin.
-pub(crate) fn tell_line(story: &mut Story, line: &Line<'_>) {
-    let end = line.bytes.len().min(TOLD);
+/// Writes a line: its number and its first octets, or which file of another kind they begin.
+pub(crate) fn write_line(story: &mut Story, line: &Line<'_>) {
+    let end = line.bytes.len().min(SHOWN);
     story.text_number("line ", line.number);
     story.text(": ");
     match foreign_words(line.bytes) {
@@ -41,37 +41,4 @@ pub(crate) fn tell_line(story: &mut Story, line: &Line<'_>) {
         None => story.octets_of(&line.bytes[..end]),
     }
     story.end_line();
-}
-
-/// What was read of lines, or none where it is refused for what they say.
-///
-/// Fails with 901 and 903 where lines can't be read again, and with 900 for want of memory.
-pub(crate) fn unless_wrong<T: Drop>(outcome: Result<T, Fault>) -> Result<Option<T>, Fault>
-    ensures { IfErr result IsUntold }
-{
-    match outcome {
-        Ok(value) => Ok(Some(value)),
-        Err(fault) => match fault.number {
-            refusals::WANT_OF_MEMORY => Err(Fault::bare(refusals::WANT_OF_MEMORY)),
-            refusals::FAILED_READ | refusals::LONG_LINE => Err(line_fault(fault)),
-            _ => Ok(None),
-        },
-    }
-}
-
-/// Tells the line of this number, if it is there.
-pub(crate) fn tell_line_numbered<C: Source>(
-    story: &mut Story,
-    lines: &mut LineReader<C>,
-    number: u64,
-) -> Result<(), Fault>
-    ensures { IfErr result IsUntold }
-{
-    'lines: while next_line(lines)? {
-        if lines.number() == number {
-            tell_line(story, &lines.line());
-            return Ok(());
-        }
-    }
-    Ok(())
 }

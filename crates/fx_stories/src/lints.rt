@@ -1,44 +1,27 @@
-//! What is read in silence in documents that are accepted, in words.
+//! What is read in silence in documents that are accepted, in sentences.
 ghost use Rattle.std.specs.Prelude.{◌≡◌, ◌⊎◌, IfErr, OnOk};
 ghost use Rattle.fx_base.specs.Device.{IsWriteFault, KeepsGoing};
 ghost use Rattle.fx_base.specs.Fault.{IsMemory};
 ghost use Rattle.fx_stories.specs.Stories.{WritesStory};
 
-use crate::again::{Documents, class_name, documents_again, plan_again, value_again};
-use crate::directions::tell_directions;
-use crate::excluding::tell_excluding;
-use crate::overlapping::tell_overlapping;
-use crate::prefixes::{tell_prefixes, tell_prefixes_of_classes};
-use crate::scanning::tell_twice;
+use crate::directions::write_directions;
+use crate::excluding::write_excluding;
+use crate::lent::{Documents, class_name, unless_refused, value_of_document};
+use crate::overlapping::write_overlapping;
+use crate::prefixes::{write_prefixes, write_prefixes_of_classes};
+use crate::scanning::write_twice;
 use crate::story::Story;
-use crate::unread::{tell_unread_fields, tell_unread_members};
-use crate::unseen::tell_unseen;
-use crate::unused::tell_unused;
+use crate::unobserved::write_unseen;
+use crate::unread::{write_unread_fields, write_unread_members};
+use crate::unused::write_unused;
 use fx_base::{Fault, Sink, put_text};
+use fx_plan::Plan;
 use fx_traffic::Target;
 use std::alloc::Global;
 
-/// Tells what is read in silence in a network's document.
-fn tell_network(story: &mut Story, network: &[u8]) {
-    let Some(value) = value_again(story, network) else {
-        return;
-    };
-    tell_twice(story, "network", network);
-    tell_unread_members(story, &value);
-    tell_unread_fields(story, &value);
-    tell_prefixes(story, &value);
-    if let Some(plan) = plan_again(story, network) {
-        tell_unused(story, &plan);
-        tell_excluding(story, &plan);
-    }
-}
-
-/// Tells which classes are exempt, or that there is no class.
-fn tell_classes(story: &mut Story, documents: &Documents) {
+/// Writes which classes are exempt.
+fn write_exempt(story: &mut Story, documents: &Documents<'_>) {
     let classes = documents.traffic.classes().as_slice();
-    if classes.is_empty() {
-        story.sentence("traffic: it declares no class, so an answer is about no packet");
-    }
     for place in 0..classes.len() {
         if classes[place].exempt() {
             let number = place as u64 + 1;
@@ -49,61 +32,56 @@ fn tell_classes(story: &mut Story, documents: &Documents) {
     }
 }
 
-/// Tells which crossings of paths no observation point sees, or none in their direction.
-fn tell_targets(story: &mut Story, documents: &Documents, targets: &[Target<'_>]) {
-    tell_unseen(story, documents, targets);
-    tell_directions(story, documents, targets);
-}
-
-/// Tells what a traffic declaration says in silence, and its classes.
-fn tell_declared(story: &mut Story, traffic: &[u8], documents: &Documents) -> Result<(), Fault>
-    ensures { IfErr result IsMemory }
-{
-    tell_twice(story, "traffic", traffic);
-    tell_classes(story, documents);
-    tell_prefixes_of_classes(story, &documents.classes);
-    tell_overlapping(story, documents);
-    let targets = documents.traffic.targets(story.alloc)?;
-    tell_targets(story, documents, targets.as_slice());
-    Ok(())
-}
-
-/// Tells what is read in silence in a traffic declaration.
-fn tell_traffic(story: &mut Story, network: &[u8], traffic: &[u8]) -> Result<(), Fault>
-    ensures { IfErr result IsMemory }
-{
-    match documents_again(story, network, traffic) {
-        Some(documents) => tell_declared(story, traffic, &documents),
-        None => Ok(()),
+/// Writes how many crossings are at interfaces of no observation point, beside those that were written.
+fn write_left_out(story: &mut Story, left_out: u64) {
+    if left_out > 0 {
+        story.text_number(
+            "traffic: other crossings at interfaces of no observation point, on paths that are metered elsewhere or are exempt: ",
+            left_out,
+        );
+        story.end_line();
     }
 }
 
-/// What is to be told of accepted documents.
-fn story_of(alloc: Global, network: &[u8], traffic: Option<&[u8]>) -> Result<Story, Fault>
-    ensures { IfErr result IsMemory }
-{
-    let mut story = Story::new(alloc);
-    tell_network(&mut story, network);
-    if let Some(traffic) = traffic {
-        tell_traffic(&mut story, network, traffic)?;
-    }
-    Ok(story)
+/// Writes which crossings of paths no observation point sees, or none in their direction. Returns how many aren't
+/// written.
+fn write_targets(story: &mut Story, documents: &Documents<'_>, targets: &[Target<'_>]) -> u64 {
+    let left_out = write_unseen(story, documents, targets);
+    write_directions(story, documents, targets);
+    left_out
 }
 
-/// Writes in sentences what is read in silence in a network's document that is accepted, and in a traffic declaration:
-/// members that stand twice in an object, of which the last one counts; members that nothing reads; fields of caches whose elements are misspelled; prefixes whose
-/// address has bits behind its length; observation points, selection processes, caches, destinations and aggregations
-/// that lead nowhere; caches without a flow key; caches and collecting processes that nothing feeds; selection processes whose filters exclude one
-/// another; classes that are exempt, or that there are none, and classes that overlap; crossings whose interface is at
-/// no observation point, with the interfaces that are at one, paths of which no observation point sees a crossing, and
-/// observation points that observe the other direction alone. Where there is nothing of the kind, nothing is written.
-/// The text has no control characters but line feeds.
+/// Writes what a traffic declaration says in silence: what is doubtful, and then what is only worth knowing.
+fn write_declared(story: &mut Story, octets: &[u8], documents: &Documents<'_>) {
+    write_twice(story, "traffic", octets);
+    if documents.traffic.classes().as_slice().is_empty() {
+        story.sentence("traffic: it declares no class, so an answer is about no packet");
+    }
+    if let Some(value) = value_of_document(story, octets) {
+        write_prefixes_of_classes(story, &value);
+    }
+    write_overlapping(story, documents);
+    let mut left_out = 0;
+    let targets = documents.traffic.targets(story.alloc);
+    if let Some(targets) = unless_refused(story, targets) {
+        left_out = write_targets(story, documents, targets.as_slice());
+    }
+    write_exempt(story, documents);
+    write_left_out(story, left_out);
+}
+
+/// Explains in sentences what is read in silence in the document of a network that is accepted: members that stand
+/// twice in an object, of which the last one counts; members that nothing reads; fields of caches whose elements are
+/// misspelled; prefixes whose address has bits after its length; observation points, selection processes, caches,
+/// destinations and aggregations that lead nowhere; caches without a flow key; caches and collecting processes that
+/// nothing feeds; selection processes whose filters exclude one another. Where there is nothing of the kind, nothing is
+/// written. The text has no control characters but line feeds.
 ///
-/// Fails with 900 for want of memory, and then nothing is written; with 902 where a write fails.
-pub fn put_lint_words<S: Sink>(
+/// Fails with 900 where memory runs out, and then nothing is written; with 902 where a write fails.
+pub fn put_network_notes<S: Sink>(
     alloc: Global,
-    network: &[u8],
-    traffic: Option<&[u8]>,
+    octets: &[u8],
+    plan: &Plan,
     sink: &mut S,
 ) -> Result<(), Fault>
     ensures ok { OnOk result (WritesStory (S.taken sink.old) (S.taken sink.new)) }
@@ -111,6 +89,39 @@ pub fn put_lint_words<S: Sink>(
     ensures err { IfErr result (λ e. (IsMemory e × (sink.new ≡ sink.old))
         ⊎ IsWriteFault (S.failed sink.new) e) }
 {
-    let story = story_of(alloc, network, traffic)?;
+    let mut story = Story::new(alloc);
+    write_twice(&mut story, "network", octets);
+    if let Some(value) = value_of_document(&mut story, octets) {
+        write_unread_members(&mut story, &value);
+        write_unread_fields(&mut story, &value);
+        write_prefixes(&mut story, &value);
+    }
+    write_unused(&mut story, plan);
+    write_excluding(&mut story, plan);
+    put_text(sink, story.octets()?)
+}
+
+/// Explains in sentences what is read in silence in a traffic declaration that is accepted. What is doubtful comes
+/// first: members that stand twice in an object; that it has no class; prefixes whose address has bits after its
+/// length; classes that overlap; paths that are to be counted and of which no observation point sees a crossing, with
+/// the interfaces that are at one; crossings at interfaces with nearly the name of one that is; observation points that
+/// observe the other direction alone. Then come the classes that are exempt, and how many other crossings are at
+/// interfaces of no observation point. Where there is nothing of the kind, nothing is written. The text has no control
+/// characters but line feeds.
+///
+/// Fails with 900 where memory runs out, and then nothing is written; with 902 where a write fails.
+pub fn put_traffic_notes<S: Sink>(
+    alloc: Global,
+    octets: &[u8],
+    documents: &Documents<'_>,
+    sink: &mut S,
+) -> Result<(), Fault>
+    ensures ok { OnOk result (WritesStory (S.taken sink.old) (S.taken sink.new)) }
+    ensures going { OnOk result (KeepsGoing (S.failed sink.old) (S.failed sink.new)) }
+    ensures err { IfErr result (λ e. (IsMemory e × (sink.new ≡ sink.old))
+        ⊎ IsWriteFault (S.failed sink.new) e) }
+{
+    let mut story = Story::new(alloc);
+    write_declared(&mut story, octets, documents);
     put_text(sink, story.octets()?)
 }

@@ -1,7 +1,7 @@
 //! Aggregations that don't take in all records of a region's packets.
-use crate::holders::tell_holder;
-use crate::lacking::Arriving;
-use crate::regions::{axis_word, tell_values};
+use crate::holders::write_holder;
+use crate::missing_fields::Arriving;
+use crate::regions::{axis_word, write_values};
 use crate::story::Story;
 use fx_boxes::Region;
 use fx_config::{Aggregation, CollectingProcess, PropertyMatch};
@@ -33,27 +33,27 @@ fn hold_words(region: &Region, property: &PropertyMatch) -> Option<&'static str>
 }
 
 impl Taken<'_> {
-    /// Tells an aggregation of the collecting process.
-    fn tell_name(&self, story: &mut Story, aggregation: &Aggregation) {
+    /// Writes an aggregation of the collecting process.
+    fn write_name(&self, story: &mut Story, aggregation: &Aggregation) {
         story.text_quoted("aggregation ", aggregation.name.as_str());
         story.text_quoted(" of collecting process ", self.process.name.as_str());
         story.text(" of ");
         story.text(self.device.name.as_str());
     }
 
-    /// Tells for how many of a region's packets a match of an aggregation holds.
-    fn tell_match(
+    /// Writes for how many of a region's packets a match of an aggregation holds.
+    fn write_match(
         &self,
         story: &mut Story,
         aggregation: &Aggregation,
         property: &PropertyMatch,
         words: &'static str,
     ) {
-        self.tell_name(story, aggregation);
+        self.write_name(story, aggregation);
         story.text(": its match on ");
         story.text(axis_word(property.axis));
         story.text(" ");
-        tell_values(
+        write_values(
             story,
             property.axis,
             property.range.low,
@@ -62,36 +62,36 @@ impl Taken<'_> {
         story.sentence(words);
     }
 
-    /// Tells why an aggregation takes in no records with this key, or which of its matches don't hold for all packets.
-    fn tell_aggregation(
+    /// Writes why an aggregation takes in no records with this key, or which of its matches don't hold for all packets.
+    fn write_aggregation(
         &self,
         story: &mut Story,
         aggregation: &Aggregation,
         entry: &AggregationEntry,
     ) {
         if !self.arriving.reads_all(aggregation, entry) {
-            self.tell_name(story, aggregation);
+            self.write_name(story, aggregation);
             story.text(" doesn't take in the records of ");
-            tell_holder(story, self.arriving.plan, self.holder);
+            write_holder(story, self.arriving.plan, self.holder);
             story.text(": ");
-            self.arriving.tell_unread(story, aggregation, entry);
+            self.arriving.write_unread(story, aggregation, entry);
             story.end_line();
             return;
         }
         for property in aggregation.matches.as_slice() {
             if let Some(words) = hold_words(self.region, property) {
-                self.tell_match(story, aggregation, property, words);
+                self.write_match(story, aggregation, property, words);
             }
         }
     }
 }
 
-/// Tells which aggregations of a collecting process don't take in all records that come there, and why.
-pub(crate) fn tell_untaken(story: &mut Story, taken: &Taken<'_>, entries: &[AggregationEntry]) {
+/// Writes which aggregations of a collecting process don't take in all records that come there, and why.
+pub(crate) fn write_untaken(story: &mut Story, taken: &Taken<'_>, entries: &[AggregationEntry]) {
     let aggregations = taken.process.aggregations.as_slice();
     for place in 0..aggregations.len() {
         if place < entries.len() {
-            taken.tell_aggregation(story, &aggregations[place], &entries[place]);
+            taken.write_aggregation(story, &aggregations[place], &entries[place]);
         }
     }
 }

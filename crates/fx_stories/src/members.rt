@@ -66,7 +66,7 @@ const REQUIRED: [(&str, &[&str]); 22] = [
     ("once-audit:aggregation", &["name"]),
 ];
 
-/// The members that the whole of a network's or a traffic's document has to have.
+/// Returns the members that the whole of a network's or a traffic's document has to have.
 fn members_of_document(is_network: bool) -> &'static [&'static str] {
     if is_network {
         &["devices", "links", "report"]
@@ -75,8 +75,8 @@ fn members_of_document(is_network: bool) -> &'static [&'static str] {
     }
 }
 
-/// What has to be there in the object at a pointer whose last member is this one, or in the whole of a network's or a
-/// traffic's document.
+/// Returns what has to be there in the object at a pointer whose last member is this one, or in the whole of a
+/// network's or a traffic's document.
 fn members_required(member: &str, is_network: bool) -> Required {
     Required {
         all: if member.is_empty() {
@@ -88,8 +88,8 @@ fn members_required(member: &str, is_network: bool) -> Required {
     }
 }
 
-/// Tells those of these members that an object lacks.
-fn tell_missing(story: &mut Story, object: &Value, names: &'static [&'static str]) {
+/// Writes those of these members that an object lacks.
+fn write_missing(story: &mut Story, object: &Value, names: &'static [&'static str]) {
     for name in names {
         if object.get(*name).is_none() {
             story.text("missing: ");
@@ -98,8 +98,8 @@ fn tell_missing(story: &mut Story, object: &Value, names: &'static [&'static str
     }
 }
 
-/// Tells names, with a separator between two.
-fn tell_choice(story: &mut Story, names: &'static [&'static str]) {
+/// Writes names, with a separator between two.
+fn write_choice(story: &mut Story, names: &'static [&'static str]) {
     let mut separator = "missing: one of ";
     for name in names {
         story.text(separator);
@@ -109,8 +109,8 @@ fn tell_choice(story: &mut Story, names: &'static [&'static str]) {
     story.end_line();
 }
 
-/// Tells the members that an object has.
-fn tell_members(story: &mut Story, object: &Value) {
+/// Writes the members that an object has.
+fn write_members(story: &mut Story, object: &Value) {
     let Some(members) = object.as_object() else {
         return;
     };
@@ -123,19 +123,19 @@ fn tell_members(story: &mut Story, object: &Value) {
     }
 }
 
-/// Tells what an object lacks, at a pointer whose last member is this one, and what it has.
-pub(crate) fn tell_lacking(story: &mut Story, object: &Value, member: &str, is_network: bool) {
+/// Writes what an object lacks, at a pointer whose last member is this one, and what it has.
+pub(crate) fn write_lacking(story: &mut Story, object: &Value, member: &str, is_network: bool) {
     if !object.is_object() {
         story.sentence("the list is empty; it has to have an entry at least");
         return;
     }
     let required = members_required(member, is_network);
-    tell_missing(story, object, required.all);
+    write_missing(story, object, required.all);
     if !has_one(object, required.one) && !required.one.is_empty() {
-        tell_choice(story, required.one);
+        write_choice(story, required.one);
     }
     if matches!(element_of(object), Element::Prefix(_)) && member == "key" {
-        tell_missing(story, object, &["prefixLength"]);
+        write_missing(story, object, &["prefixLength"]);
     }
-    tell_members(story, object);
+    write_members(story, object);
 }

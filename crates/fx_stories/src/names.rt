@@ -5,19 +5,19 @@ use fx_plan::Plan;
 use fx_topology::NamedLink;
 use fx_walk::{Named, place_of};
 
-/// The entry of this name.
+/// Returns the entry of this name.
 pub(crate) fn entry_named<'a, T: Named>(entries: &'a [T], name: &Name) -> Option<&'a T> {
     let place = place_of(entries, name)?;
     entries.get(place)
 }
 
-/// The name of the device of this number, from 1.
+/// Returns the name of the device of this number, from 1.
 pub(crate) fn device_name(plan: &Plan, number: u64) -> Option<&str> {
     let device = entry_numbered(plan.network().devices.as_slice(), number)?;
     Some(device.name.as_str())
 }
 
-/// The link that leads from this destination of an exporting process of a device.
+/// Returns the link that leads from this destination of an exporting process of a device.
 pub(crate) fn link_from<'a>(
     links: &'a [NamedLink],
     device: &Name,
@@ -35,7 +35,7 @@ pub(crate) fn link_from<'a>(
     None
 }
 
-/// The selection process of this number at an observation point, from 1.
+/// Returns the selection process of this number at an observation point, from 1.
 pub(crate) fn selection_process<'a>(
     device: &'a Device,
     point: &ObservationPoint,

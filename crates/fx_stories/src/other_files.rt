@@ -269,7 +269,7 @@ const XML: OtherFile = OtherFile {
     next: "a document is JSON: turn a configuration to that by the rules of RFC 7951, as yanglint -f json does",
 };
 
-/// Whether a word begins a page in HTML.
+/// Returns whether a word begins a page in HTML.
 fn is_page(word: &str) -> bool {
     word.starts_with("<!DOCTYPE")
         || word.starts_with("<!doctype")
@@ -278,7 +278,7 @@ fn is_page(word: &str) -> bool {
         || word.starts_with("<head")
 }
 
-/// Which text a word begins.
+/// Returns which text a word begins.
 fn text_of(word: &str) -> Option<OtherFile> {
     for text in TEXTS {
         if text.mark == word.as_bytes() {
@@ -296,7 +296,7 @@ fn text_of(word: &str) -> Option<OtherFile> {
     }
 }
 
-/// Whether a text is a table of a network, by one of its lines.
+/// Returns whether a text is a table of a network, by one of its lines.
 fn is_table(octets: &[u8]) -> bool {
     match str::from_utf8(octets) {
         Ok(text) => text.contains("\nobservation-point "),
@@ -304,7 +304,7 @@ fn is_table(octets: &[u8]) -> bool {
     }
 }
 
-/// The first word of a text.
+/// Returns the first word of a text.
 fn first_word(octets: &[u8]) -> &str {
     match str::from_utf8(octets) {
         Ok(text) => text.split_whitespace().next().unwrap_or(""),
@@ -312,7 +312,7 @@ fn first_word(octets: &[u8]) -> &str {
     }
 }
 
-/// Which file these octets begin that is known by them alone.
+/// Returns which file these octets begin that is known by them alone.
 fn file_of(octets: &[u8]) -> Option<OtherFile> {
     for file in FILES {
         if octets.starts_with(file.mark) {
@@ -328,7 +328,7 @@ fn file_of(octets: &[u8]) -> Option<OtherFile> {
     }
 }
 
-/// What a line is that begins a file of another kind, in words, by its octets.
+/// Returns what a line is that begins a file of another kind, in words, by its octets.
 fn words_of_file(line: &[u8]) -> Option<&'static str> {
     if line.starts_with(b"\xff\xfe") || line.starts_with(b"\xfe\xff") {
         Some(
@@ -345,7 +345,7 @@ fn words_of_file(line: &[u8]) -> Option<&'static str> {
     }
 }
 
-/// What a line is that begins a file of another kind, in words; none of a line that may be one of a text.
+/// Returns what a line is that begins a file of another kind, in words; none of a line that may be one of a text.
 pub(crate) fn foreign_words(line: &[u8]) -> Option<&'static str> {
     words_of_file(line).or(if line.contains(&0) {
         Some("octets of zero stand in it: it is no text in UTF-8")
@@ -354,7 +354,7 @@ pub(crate) fn foreign_words(line: &[u8]) -> Option<&'static str> {
     })
 }
 
-/// What stands behind the kind of a file in the place of a network or of a traffic declaration.
+/// Returns what follows the kind of a file in the place of a network or of a traffic declaration.
 fn due_words(is_network: bool) -> &'static str {
     if is_network {
         "; a network document is due there"
@@ -363,8 +363,8 @@ fn due_words(is_network: bool) -> &'static str {
     }
 }
 
-/// Tells which file of another kind these octets begin, and where that belongs. Answers whether they begin one.
-pub(crate) fn tell_other_file(story: &mut Story, octets: &[u8], is_network: bool) -> bool {
+/// Writes which file of another kind these octets begin, and where that belongs. Answers whether they begin one.
+pub(crate) fn write_other_file(story: &mut Story, octets: &[u8], is_network: bool) -> bool {
     if let Some(words) = packed_format(octets) {
         story.sentence(words);
         return true;

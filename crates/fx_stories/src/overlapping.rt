@@ -1,31 +1,37 @@
 //! Classes that hold the same packets.
 ghost use Rattle.std.specs.Prelude.{◌<◌, length};
 
-use crate::again::{Documents, class_name};
-use crate::regions::tell_region;
+use crate::lent::{Documents, class_name};
+use crate::regions::write_region;
 use crate::story::Story;
 use fx_boxes::Region;
 use fx_tables::Class;
 
-/// How many pairs of classes are told.
-const TOLD: u64 = 16;
+/// How many pairs of classes are written.
+const SHOWN: u64 = 16;
 
-/// Tells which packets two classes hold, by their numbers.
-fn tell_both(story: &mut Story, documents: &Documents, first: u64, second: u64, both: &Region) {
+/// Writes which packets two classes hold, by their numbers.
+fn write_both(
+    story: &mut Story,
+    documents: &Documents<'_>,
+    first: u64,
+    second: u64,
+    both: &Region,
+) {
     story.text_number("traffic: class ", first);
     story.text_quoted(" ", class_name(documents, first));
     story.text_number(" and class ", second);
     story.text_quoted(" ", class_name(documents, second));
     story.text(" overlap: both hold ");
-    tell_region(story, both);
+    write_region(story, both);
     story.sentence("; once run takes a packet to be of the first class that holds it");
 }
 
-/// Tells with which classes behind it the class at a place overlaps, as long as few were told, and answers how many
+/// Writes with which classes after it the class at a place overlaps, as long as few were written, and answers how many
 /// pairs there are with those before.
-fn tell_behind(
+fn write_later(
     story: &mut Story,
-    documents: &Documents,
+    documents: &Documents<'_>,
     classes: &[Class],
     place: usize,
     before: u64,
@@ -36,8 +42,8 @@ fn tell_behind(
     let mut count = before;
     for other in place + 1..classes.len() {
         if let Some(both) = region.meet(&classes[other].region()) {
-            if count < TOLD {
-                tell_both(story, documents, place as u64 + 1, other as u64 + 1, &both);
+            if count < SHOWN {
+                write_both(story, documents, place as u64 + 1, other as u64 + 1, &both);
             }
             count = count.saturating_add(1);
         }
@@ -45,17 +51,18 @@ fn tell_behind(
     count
 }
 
-/// Tells which classes of a traffic declaration hold the same packets: the first 16 pairs, and how many there are more.
-pub(crate) fn tell_overlapping(story: &mut Story, documents: &Documents) {
+/// Writes which classes of a traffic declaration hold the same packets: the first 16 pairs, and how many there are
+/// more.
+pub(crate) fn write_overlapping(story: &mut Story, documents: &Documents<'_>) {
     let classes = documents.traffic.classes().as_slice();
     let mut count = 0;
     for place in 0..classes.len() {
-        count = tell_behind(story, documents, classes, place, count);
+        count = write_later(story, documents, classes, place, count);
     }
-    if count > TOLD {
+    if count > SHOWN {
         story.text_number(
             "traffic: pairs of classes that overlap, besides these: ",
-            count - TOLD,
+            count - SHOWN,
         );
         story.end_line();
     }

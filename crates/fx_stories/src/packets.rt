@@ -1,24 +1,24 @@
 //! Packets by their fields, and why a packet isn't in a class.
-use crate::again::{Documents, class_name};
-use crate::regions::{axis_word, tell_values};
+use crate::lent::{Documents, class_name};
+use crate::regions::{axis_word, write_values};
 use crate::story::{Story, between};
 use fx_base::entry_numbered;
 use fx_boxes::{Fields, Region};
 use fx_elements::{Axis, EVERY_AXIS};
 use fx_tables::Class;
 
-/// How many classes are told.
+/// How many classes are written.
 const CLASSES: usize = 20;
 
-/// Tells fields that aren't 0 behind what was told, each with a separator before it, and then the octets.
-pub(crate) fn tell_fields(
+/// Writes fields that aren't 0 after what was written, each with a separator before it, and then the octets.
+pub(crate) fn write_fields(
     story: &mut Story,
     separator: &'static str,
     fields: &Fields,
     octets: u64,
 ) {
     let mut before = separator;
-    let mut told = false;
+    let mut shown = false;
     for axis in EVERY_AXIS {
         let value = fields.get(axis);
         if value != 0 {
@@ -27,12 +27,12 @@ pub(crate) fn tell_fields(
             story.text(" ");
             story.value(axis, value);
             before = ", ";
-            told = true;
+            shown = true;
         }
     }
     story.text(before);
     story.text_number(
-        if told {
+        if shown {
             "0 in all other fields, octets "
         } else {
             "0 in all fields, octets "
@@ -42,7 +42,7 @@ pub(crate) fn tell_fields(
     story.end_line();
 }
 
-/// What is to be said of the value of a field that packets of the other version have.
+/// Returns what is to be said of the value of a field that packets of the other version have.
 fn absence(axis: Axis, fields: &Fields) -> &'static str {
     match (axis, fields.get(Axis::Version)) {
         (Axis::Source | Axis::Destination, 6) => " (a packet of IPv6 has none)",
@@ -51,16 +51,16 @@ fn absence(axis: Axis, fields: &Fields) -> &'static str {
     }
 }
 
-/// Tells the fields that lie outside a region, each with the region's values there.
-pub(crate) fn tell_outside(story: &mut Story, region: &Region, fields: &Fields) {
+/// Writes the fields that lie outside a region, each with the region's values there.
+pub(crate) fn write_outside(story: &mut Story, region: &Region, fields: &Fields) {
     let least = region.corner();
     let greatest = region.far_corner();
-    let mut told = false;
+    let mut shown = false;
     for axis in EVERY_AXIS {
         let value = fields.get(axis);
         let (low, high) = (least.get(axis), greatest.get(axis));
         if value < low || high < value {
-            story.text(between(told, "; "));
+            story.text(between(shown, "; "));
             story.text(axis_word(axis));
             story.text(" ");
             story.value(axis, value);
@@ -70,16 +70,16 @@ pub(crate) fn tell_outside(story: &mut Story, region: &Region, fields: &Fields) 
             } else {
                 " lies outside "
             });
-            tell_values(story, axis, low, high);
-            told = true;
+            write_values(story, axis, low, high);
+            shown = true;
         }
     }
 }
 
-/// Tells which fields keep a packet out of a class, in a line.
-fn tell_class_outside(
+/// Writes which fields keep a packet out of a class, in a line.
+fn write_class_outside(
     story: &mut Story,
-    documents: &Documents,
+    documents: &Documents<'_>,
     number: u64,
     class: &Class,
     fields: &Fields,
@@ -87,28 +87,28 @@ fn tell_class_outside(
     story.text_number("class ", number);
     story.text_quoted(" ", class_name(documents, number));
     story.text(": ");
-    tell_outside(story, &class.region(), fields);
+    write_outside(story, &class.region(), fields);
     story.end_line();
 }
 
-/// Tells, for each of the classes, which fields keep a packet out of it.
-pub(crate) fn tell_no_class(story: &mut Story, documents: &Documents, fields: &Fields) {
+/// Writes, for each of the classes, which fields keep a packet out of it.
+pub(crate) fn write_no_class(story: &mut Story, documents: &Documents<'_>, fields: &Fields) {
     let classes = documents.traffic.classes().as_slice();
-    let told = classes.len().min(CLASSES);
-    for place in 0..told {
-        tell_class_outside(story, documents, place as u64 + 1, &classes[place], fields);
+    let shown = classes.len().min(CLASSES);
+    for place in 0..shown {
+        write_class_outside(story, documents, place as u64 + 1, &classes[place], fields);
     }
-    if told < classes.len() {
+    if shown < classes.len() {
         story.text_number(
             "and it is in none of the other classes, of which there are ",
-            (classes.len() - told) as u64,
+            (classes.len() - shown) as u64,
         );
         story.end_line();
     }
 }
 
-/// Tells that a number counts too far: how many there are of what is counted.
-pub(crate) fn tell_missing(story: &mut Story, words: &'static str, number: u64, there: usize) {
+/// Writes that a number counts too far: how many there are of what is counted.
+pub(crate) fn write_missing(story: &mut Story, words: &'static str, number: u64, there: usize) {
     story.text_number(words, number);
     story.text_number(
         if there == 1 {
@@ -121,21 +121,21 @@ pub(crate) fn tell_missing(story: &mut Story, words: &'static str, number: u64, 
     story.sentence(", counted from 1");
 }
 
-/// Tells why a packet isn't in the class of this number with the path of that one.
-pub(crate) fn tell_named_class(
+/// Writes why a packet isn't in the class of this number with the path of that one.
+pub(crate) fn write_named_class(
     story: &mut Story,
-    documents: &Documents,
+    documents: &Documents<'_>,
     class: u64,
     path: u64,
     fields: &Fields,
 ) {
     let classes = documents.traffic.classes().as_slice();
     let Some(named) = entry_numbered(classes, class) else {
-        tell_missing(story, "the traffic has no class ", class, classes.len());
+        write_missing(story, "the traffic has no class ", class, classes.len());
         return;
     };
     if !named.holds(fields) {
-        tell_class_outside(story, documents, class, named, fields);
+        write_class_outside(story, documents, class, named, fields);
         return;
     }
     if entry_numbered(named.paths(), path).is_some() {
@@ -143,5 +143,5 @@ pub(crate) fn tell_named_class(
     }
     story.text_number("class ", class);
     story.text_quoted(" ", class_name(documents, class));
-    tell_missing(story, " has no path ", path, named.paths().len());
+    write_missing(story, " has no path ", path, named.paths().len());
 }

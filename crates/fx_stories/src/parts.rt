@@ -2,7 +2,7 @@
 use crate::story::Story;
 use serde_json::Value;
 
-/// Members that tell what an object is that has one of them; of several the first.
+/// Members that write what an object is that has one of them; of several the first.
 const MARKS: &[&str] = &[
     "devices",
     "links",
@@ -21,7 +21,7 @@ const MARKS: &[&str] = &[
     "collectingProcess",
 ];
 
-/// The member that tells what an object is, or an empty text.
+/// Returns the member that writes what an object is, or an empty text.
 fn mark_of(object: &Value) -> &'static str {
     for mark in MARKS {
         if object.get(*mark).is_some() {
@@ -98,7 +98,7 @@ const CROSSINGS: &str =
 const PART: &str =
     "what a device is configured to do stands in a network so: {\"devices\": [{\"name\": .., \"config\": {\"ietf-ipfix-psamp:ipfix\": {\"observationPoint\": [..], ..}}}, ..], \"links\": [..], \"report\": {..}}";
 
-/// What a table has for an object with this member, or for a list of such objects; else this text.
+/// Returns what a table has for an object with this member, or for a list of such objects; else this text.
 fn said_of(
     table: &[(&'static str, &'static str, &'static str)],
     mark: &str,
@@ -113,28 +113,28 @@ fn said_of(
     other
 }
 
-/// What an object is that has this member, or a list of such objects.
+/// Returns what an object is that has this member, or a list of such objects.
 fn name_of(mark: &str, is_list: bool) -> &'static str {
     said_of(&NAMES, mark, is_list, "a part of a device's configuration")
 }
 
-/// Where an object stands that has this member, or a list of such objects.
+/// Returns where an object stands that has this member, or a list of such objects.
 fn place_of(mark: &str, is_list: bool) -> &'static str {
     said_of(&PLACES, mark, is_list, PART)
 }
 
-/// Whether such objects stand in a network.
+/// Returns whether such objects stand in a network.
 fn is_of_network(mark: &str) -> bool {
     !matches!(mark, "classes" | "paths" | "interface")
 }
 
-/// Whether an object that has this member is a document.
+/// Returns whether an object that has this member is a document.
 fn is_document(mark: &str) -> bool {
     matches!(mark, "devices" | "links" | "report" | "classes")
 }
 
-/// Tells what an object is, or a list of objects, in the place of a network or of a traffic declaration.
-fn tell_mark(story: &mut Story, mark: &str, is_list: bool, is_network: bool) {
+/// Writes what an object is, or a list of objects, in the place of a network or of a traffic declaration.
+fn write_mark(story: &mut Story, mark: &str, is_list: bool, is_network: bool) {
     story.text("this looks like ");
     story.text(name_of(mark, is_list));
     story.sentence(if is_network {
@@ -150,8 +150,8 @@ fn tell_mark(story: &mut Story, mark: &str, is_list: bool, is_network: bool) {
     }
 }
 
-/// Tells what a list is, in the place of a network or of a traffic declaration.
-pub(crate) fn tell_list(story: &mut Story, items: &[Value], is_network: bool) {
+/// Writes what a list is, in the place of a network or of a traffic declaration.
+pub(crate) fn write_list(story: &mut Story, items: &[Value], is_network: bool) {
     let first = match items.first() {
         Some(Value::Array(inner)) => inner.as_slice().first(),
         first => first,
@@ -161,13 +161,13 @@ pub(crate) fn tell_list(story: &mut Story, items: &[Value], is_network: bool) {
         None => "",
     };
     if !mark.is_empty() {
-        tell_mark(story, mark, true, is_network);
+        write_mark(story, mark, true, is_network);
     }
 }
 
-/// Tells what an object is in the place of a network or of a traffic declaration, which has a member that such a document
-/// hasn't.
-pub(crate) fn tell_whole(story: &mut Story, object: &Value, member: &Value, is_network: bool) {
+/// Writes what an object is in the place of a network or of a traffic declaration, which has a member that such a
+/// document hasn't.
+pub(crate) fn write_whole(story: &mut Story, object: &Value, member: &Value, is_network: bool) {
     let mark = mark_of(object);
     let inner = mark_of(member);
     if is_document(mark) && object.get("classes").is_some() && is_of_network(mark) {
@@ -179,6 +179,6 @@ pub(crate) fn tell_whole(story: &mut Story, object: &Value, member: &Value, is_n
         story.sentence(name_of(inner, false));
         story.sentence(place_of(inner, false));
     } else if !mark.is_empty() && (!is_document(mark) || is_of_network(mark) != is_network) {
-        tell_mark(story, mark, false, is_network);
+        write_mark(story, mark, false, is_network);
     }
 }

@@ -1,6 +1,6 @@
 //! Why a packet isn't metered at a crossing: what each observation point there does with it.
 use crate::names::selection_process;
-use crate::packets::tell_outside;
+use crate::packets::write_outside;
 use crate::story::{Story, between};
 use fx_base::{Name, entry_at, entry_numbered};
 use fx_boxes::Fields;
@@ -17,13 +17,13 @@ struct Passing<'a> {
     fields: &'a Fields,
 }
 
-/// Whether a name is among these.
+/// Returns whether a name is among these.
 fn is_among(names: &[Name], name: &Name) -> bool {
     names.contains(name)
 }
 
-/// Tells why a selection process of a point doesn't meter a packet that the point sees.
-fn tell_selection(
+/// Writes why a selection process of a point doesn't meter a packet that the point sees.
+fn write_selection(
     story: &mut Story,
     passing: &Passing<'_>,
     process: &SelectionProcess,
@@ -37,13 +37,13 @@ fn tell_selection(
         }
         Some(region) => {
             story.text(" doesn't select it: ");
-            tell_outside(story, region, passing.fields);
+            write_outside(story, region, passing.fields);
         }
     }
 }
 
-/// Tells why no selection process of a point meters a packet that the point sees.
-fn tell_selections(
+/// Writes why no selection process of a point meters a packet that the point sees.
+fn write_selections(
     story: &mut Story,
     passing: &Passing<'_>,
     named: &ObservationPoint,
@@ -57,16 +57,16 @@ fn tell_selections(
     for place in 0..selections.len() {
         story.text(between(place > 0, "; "));
         if let Some(process) = selection_process(&passing.device.config, named, place as u64 + 1) {
-            tell_selection(story, passing, process, &selections[place]);
+            write_selection(story, passing, process, &selections[place]);
         }
     }
 }
 
-/// Tells why a point at the crossing's interface doesn't meter a packet.
-fn tell_point(story: &mut Story, passing: &Passing<'_>, named: &ObservationPoint, point: &Point) {
+/// Writes why a point at the crossing's interface doesn't meter a packet.
+fn write_point(story: &mut Story, passing: &Passing<'_>, named: &ObservationPoint, point: &Point) {
     story.text_quoted("observation point ", named.name.as_str());
     if point.watches(passing.crossing) {
-        tell_selections(story, passing, named, point.selections());
+        write_selections(story, passing, named, point.selections());
         return;
     }
     story.text(if passing.crossing.inwards {
@@ -76,20 +76,20 @@ fn tell_point(story: &mut Story, passing: &Passing<'_>, named: &ObservationPoint
     });
 }
 
-/// Tells why the points of a device don't meter a packet.
-fn tell_points(story: &mut Story, passing: &Passing<'_>, points: &[Point]) {
-    let mut told = false;
+/// Writes why the points of a device don't meter a packet.
+fn write_points(story: &mut Story, passing: &Passing<'_>, points: &[Point]) {
+    let mut shown = false;
     let named = passing.device.config.observation_points.as_slice();
     for place in 0..points.len() {
         if let Some(one) = entry_at(named, place) {
             if is_among(one.interfaces.as_slice(), &passing.crossing.interface) {
-                story.text(between(told, "; "));
-                tell_point(story, passing, one, &points[place]);
-                told = true;
+                story.text(between(shown, "; "));
+                write_point(story, passing, one, &points[place]);
+                shown = true;
             }
         }
     }
-    if told {
+    if shown {
         return;
     }
     story.text("no observation point of ");
@@ -97,8 +97,13 @@ fn tell_points(story: &mut Story, passing: &Passing<'_>, points: &[Point]) {
     story.text(" is at that interface");
 }
 
-/// Tells why a packet with these fields isn't metered at a crossing.
-pub(crate) fn tell_unmetered(story: &mut Story, plan: &Plan, crossing: &Crossing, fields: &Fields) {
+/// Writes why a packet with these fields isn't metered at a crossing.
+pub(crate) fn write_unmetered(
+    story: &mut Story,
+    plan: &Plan,
+    crossing: &Crossing,
+    fields: &Fields,
+) {
     let number = crossing.device;
     story.text(": it isn't metered there: ");
     if let Some(device) = entry_numbered(plan.network().devices.as_slice(), number) {
@@ -107,6 +112,6 @@ pub(crate) fn tell_unmetered(story: &mut Story, plan: &Plan, crossing: &Crossing
             crossing,
             fields,
         };
-        tell_points(story, &passing, plan.net().points_of(number));
+        write_points(story, &passing, plan.net().points_of(number));
     }
 }

@@ -2,7 +2,7 @@
 use crate::places::are_digits;
 use serde_json::Value;
 
-/// Whether a segment of a pointer is the place of an item in a list.
+/// Returns whether a segment of a pointer is the place of an item in a list.
 fn is_place(segment: &str) -> bool {
     !segment.is_empty() && are_digits(segment.as_bytes())
 }
@@ -18,7 +18,7 @@ pub(crate) struct Location<'a> {
     pub(crate) depth: usize,
 }
 
-/// Where a pointer leads.
+/// Returns where a pointer leads.
 pub(crate) fn location_of(pointer: &str) -> Location<'_> {
     let mut location = Location {
         member: "",
@@ -39,7 +39,7 @@ pub(crate) fn location_of(pointer: &str) -> Location<'_> {
     location
 }
 
-/// The last member that a pointer names, or an empty text.
+/// Returns the last member that a pointer names, or an empty text.
 pub(crate) fn last_member(pointer: &str) -> &str {
     let mut last = "";
     for segment in pointer.split('/') {
@@ -50,7 +50,7 @@ pub(crate) fn last_member(pointer: &str) -> &str {
     last
 }
 
-/// The value below another that a segment of a pointer leads to.
+/// Returns the value below another that a segment of a pointer leads to.
 fn child<'a>(value: &'a Value, segment: &str) -> Option<&'a Value> {
     match segment.parse::<usize>() {
         Ok(place) => value.as_array()?.get(place),
@@ -58,8 +58,8 @@ fn child<'a>(value: &'a Value, segment: &str) -> Option<&'a Value> {
     }
 }
 
-/// The value to which the first segments of a pointer lead, so many of them.
-pub(crate) fn value_behind<'a>(
+/// Returns the value to which the first segments of a pointer lead, so many of them.
+pub(crate) fn value_after<'a>(
     value: &'a Value,
     pointer: &str,
     segments: usize,
@@ -71,12 +71,12 @@ pub(crate) fn value_behind<'a>(
     Some(value)
 }
 
-/// The text of a member of an object.
+/// Returns the text of a member of an object.
 pub(crate) fn text_member<'a>(value: &'a Value, name: &str) -> Option<&'a str> {
     value.get(name)?.as_str()
 }
 
-/// The text of a member, or an empty one.
+/// Returns the text of a member, or an empty one.
 pub(crate) fn text_or_none<'a>(value: &'a Value, name: &str) -> &'a str {
     match text_member(value, name) {
         Some(text) => text,
@@ -84,7 +84,7 @@ pub(crate) fn text_or_none<'a>(value: &'a Value, name: &str) -> &'a str {
     }
 }
 
-/// The items of a member that is a list; none where it isn't there.
+/// Returns the items of a member that is a list; none where it isn't there.
 pub(crate) fn items_member<'a>(value: &'a Value, name: &str) -> &'a [Value] {
     match value.get(name) {
         Some(Value::Array(items)) => items.as_slice(),
@@ -92,7 +92,7 @@ pub(crate) fn items_member<'a>(value: &'a Value, name: &str) -> &'a [Value] {
     }
 }
 
-/// The entry of a list of an object that has this name.
+/// Returns the entry of a list of an object that has this name.
 pub(crate) fn entry_of<'a>(value: &'a Value, list: &str, name: &str) -> Option<&'a Value> {
     for entry in items_member(value, list) {
         if text_member(entry, "name") == Some(name) {
@@ -102,7 +102,7 @@ pub(crate) fn entry_of<'a>(value: &'a Value, list: &str, name: &str) -> Option<&
     None
 }
 
-/// What a device of a network is configured to do.
+/// Returns what a device of a network is configured to do.
 pub(crate) fn configuration(device: &Value) -> Option<&Value> {
     device.get("config")?.get("ietf-ipfix-psamp:ipfix")
 }

@@ -1,11 +1,11 @@
-//! Prefixes whose addresses have bits behind their length.
+//! Prefixes whose addresses have bits after their length.
 use crate::elements::element_of;
 use crate::pointers::{configuration, items_member, text_member, text_or_none};
 use crate::story::Story;
 use fx_elements::{Axis, Element, Range, by_name, read_on, read_value};
 use serde_json::Value;
 
-/// The addresses for which the text of a prefix on an axis stands, where its address has bits behind its length.
+/// Returns the addresses for which the text of a prefix on an axis stands, where its address has bits after its length.
 fn addresses_meant(axis: Axis, text: &str) -> Option<Range> {
     let (address, _) = text.split_once('/')?;
     let address = read_on(axis, address.as_bytes())?;
@@ -16,10 +16,10 @@ fn addresses_meant(axis: Axis, text: &str) -> Option<Range> {
     Some(range)
 }
 
-/// Tells which addresses a prefix means.
-fn tell_meant(story: &mut Story, text: &str, axis: Axis, range: Range) {
+/// Writes which addresses a prefix means.
+fn write_meant(story: &mut Story, text: &str, axis: Axis, range: Range) {
     story.text(text);
-    story.text(" has bits behind its length; it means ");
+    story.text(" has bits after its length; it means ");
     story.value(axis, range.low);
     story.text(" to ");
     story.value(axis, range.high);
@@ -35,8 +35,8 @@ struct Title<'a> {
     name: &'a str,
 }
 
-/// Tells which addresses the prefix means that an object names, where that isn't plain.
-fn tell_match<'x>(
+/// Writes which addresses the prefix means that an object names, where that isn't plain.
+fn write_match<'x>(
     story: &mut Story,
     title: Title<'x>,
     kind: &'static str,
@@ -55,11 +55,11 @@ fn tell_match<'x>(
     story.text(" of ");
     story.text(title.device);
     story.text(": ");
-    tell_meant(story, text, axis, range);
+    write_meant(story, text, axis, range);
 }
 
-/// Tells the prefixes of the filters of a selection process.
-fn tell_filters(story: &mut Story, device: &str, process: &Value) {
+/// Writes the prefixes of the filters of a selection process.
+fn write_filters(story: &mut Story, device: &str, process: &Value) {
     let title = Title {
         device,
         above: " of selection process ",
@@ -67,7 +67,7 @@ fn tell_filters(story: &mut Story, device: &str, process: &Value) {
     };
     for selector in items_member(process, "selector") {
         if let Some(filter) = selector.get("filterMatch") {
-            tell_match(
+            write_match(
                 story,
                 title,
                 "filter ",
@@ -78,52 +78,52 @@ fn tell_filters(story: &mut Story, device: &str, process: &Value) {
     }
 }
 
-/// Tells the prefixes of the matches of an aggregation.
-fn tell_matches<'x>(story: &mut Story, title: Title<'x>, aggregation: &'x Value) {
+/// Writes the prefixes of the matches of an aggregation.
+fn write_matches<'x>(story: &mut Story, title: Title<'x>, aggregation: &'x Value) {
     let name = text_or_none(aggregation, "name");
     for object in items_member(aggregation, "match") {
-        tell_match(story, title, "match of aggregation ", name, object);
+        write_match(story, title, "match of aggregation ", name, object);
     }
 }
 
-/// Tells the prefixes of the aggregations of a collecting process.
-fn tell_aggregations(story: &mut Story, device: &str, process: &Value) {
+/// Writes the prefixes of the aggregations of a collecting process.
+fn write_aggregations(story: &mut Story, device: &str, process: &Value) {
     let title = Title {
         device,
         above: " of collecting process ",
         name: text_or_none(process, "name"),
     };
     for aggregation in items_member(process, "once-audit:aggregation") {
-        tell_matches(story, title, aggregation);
+        write_matches(story, title, aggregation);
     }
 }
 
-/// Tells the prefixes of the filters of a device.
-fn tell_selecting(story: &mut Story, device: &str, container: &Value) {
+/// Writes the prefixes of the filters of a device.
+fn write_selecting(story: &mut Story, device: &str, container: &Value) {
     for process in items_member(container, "selectionProcess") {
-        tell_filters(story, device, process);
+        write_filters(story, device, process);
     }
 }
 
-/// Tells the prefixes of the aggregations of a device.
-fn tell_collecting(story: &mut Story, device: &str, container: &Value) {
+/// Writes the prefixes of the aggregations of a device.
+fn write_collecting(story: &mut Story, device: &str, container: &Value) {
     for process in items_member(container, "collectingProcess") {
-        tell_aggregations(story, device, process);
+        write_aggregations(story, device, process);
     }
 }
 
-/// Tells the prefixes of a network's document whose addresses have bits behind their length, and what they mean.
-pub(crate) fn tell_prefixes(story: &mut Story, network: &Value) {
+/// Writes the prefixes of a network's document whose addresses have bits after their length, and what they mean.
+pub(crate) fn write_prefixes(story: &mut Story, network: &Value) {
     for device in items_member(network, "devices") {
         if let Some(container) = configuration(device) {
-            tell_selecting(story, text_or_none(device, "name"), container);
-            tell_collecting(story, text_or_none(device, "name"), container);
+            write_selecting(story, text_or_none(device, "name"), container);
+            write_collecting(story, text_or_none(device, "name"), container);
         }
     }
 }
 
-/// Tells which addresses a member of a region means, where that isn't plain.
-fn tell_member<'x>(story: &mut Story, class: &'x str, name: &'x str, region: &'x Value) {
+/// Writes which addresses a member of a region means, where that isn't plain.
+fn write_member<'x>(story: &mut Story, class: &'x str, name: &'x str, region: &'x Value) {
     let Element::OnAxis(axis) = by_name(name) else {
         return;
     };
@@ -137,11 +137,11 @@ fn tell_member<'x>(story: &mut Story, class: &'x str, name: &'x str, region: &'x
     story.text(", ");
     story.text(name);
     story.text(": ");
-    tell_meant(story, text, axis, range);
+    write_meant(story, text, axis, range);
 }
 
-/// Tells the prefixes of the region of a class.
-fn tell_region(story: &mut Story, class: &Value) {
+/// Writes the prefixes of the region of a class.
+fn write_region(story: &mut Story, class: &Value) {
     let Some(region) = class.get("region") else {
         return;
     };
@@ -149,13 +149,13 @@ fn tell_region(story: &mut Story, class: &Value) {
         return;
     };
     for (name, _) in members.iter() {
-        tell_member(story, text_or_none(class, "name"), name.as_str(), region);
+        write_member(story, text_or_none(class, "name"), name.as_str(), region);
     }
 }
 
-/// Tells the prefixes of a traffic declaration whose addresses have bits behind their length, and what they mean.
-pub(crate) fn tell_prefixes_of_classes(story: &mut Story, traffic: &Value) {
+/// Writes the prefixes of a traffic declaration whose addresses have bits after their length, and what they mean.
+pub(crate) fn write_prefixes_of_classes(story: &mut Story, traffic: &Value) {
     for class in items_member(traffic, "classes") {
-        tell_region(story, class);
+        write_region(story, class);
     }
 }

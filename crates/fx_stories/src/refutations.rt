@@ -1,33 +1,33 @@
-//! What a refutation tells, in words.
+//! What a refutation writes, in words.
 ghost use Rattle.std.specs.Prelude.{◌≡◌, ◌⊎◌, IfErr, OnOk};
 ghost use Rattle.fx_base.specs.Device.{IsWriteFault, KeepsGoing};
 ghost use Rattle.fx_base.specs.Fault.{IsMemory};
 ghost use Rattle.fx_collect.specs.Report.{KeysAscend};
-ghost use Rattle.fx_stories.specs.Stories.{IsUntold, WritesStory};
+ghost use Rattle.fx_stories.specs.Stories.{WritesStory};
 
-use crate::again::{Documents, documents_again};
 use crate::holders::leads_to_report;
-use crate::lacking::Arriving;
-use crate::left::tell_undone;
-use crate::lines::unless_wrong;
-use crate::mending::tell_mending;
-use crate::origins::Origins;
-use crate::steps::{tell_packet, tell_step};
+use crate::left_over::write_undone;
+use crate::lent::{Documents, unless_refused};
+use crate::lineage::Lineage;
+use crate::mending::write_mending;
+use crate::missing_fields::Arriving;
+use crate::steps::{write_packet, write_step};
 use crate::story::Story;
-use fx_base::{Fault, LineReader, Room, Sink, Source, entry_numbered, put_text, refusals};
+use fx_base::{Fault, Room, Sink, entry_numbered, put_text, refusals};
 use fx_collect::Totals;
-use fx_refute::{Refutation, confirm, read_refutation};
+use fx_machine::State;
+use fx_refute::{Refutation, confirm};
 use fx_run_text::Step;
 use fx_tables::{HolderName, Packet};
-use std::alloc::{AllocError, Global};
+use std::alloc::Global;
 
-/// A record of a packet that comes from this cache or aggregation, where it arrives.
+/// Returns a record of a packet that comes from this cache or aggregation, where it arrives.
 pub(crate) fn arriving<'a>(
-    documents: &'a Documents,
+    documents: &'a Documents<'a>,
     packet: &'a Packet,
     holder: HolderName,
 ) -> Arriving<'a> {
-    let plan = &documents.plan;
+    let plan = documents.plan;
     Arriving {
         plan,
         origin: plan.net().holder_place(holder).unwrap_or(usize::MAX),
@@ -35,49 +35,41 @@ pub(crate) fn arriving<'a>(
     }
 }
 
-/// Before the first step of a run of a packet alone.
-pub(crate) fn origins_of<'a>(
-    alloc: Global,
-    documents: &'a Documents,
-    packet: &'a Packet,
-) -> Result<Origins<'a>, AllocError> {
-    let path = documents.traffic.classes().path_of(packet);
-    Origins::new(alloc, documents.plan.net(), packet, path)
-}
-
-/// Tells why the record that arrives at a step isn't tallied or taken in, where it isn't.
-fn tell_lacking(
+/// Writes why the record that arrives at a step isn't tallied or taken in, where it isn't.
+fn write_lacking(
     story: &mut Story,
-    documents: &Documents,
+    documents: &Documents<'_>,
     packet: &Packet,
-    origins: &Origins<'_>,
+    lineage: &Lineage<'_>,
     step: &Step,
 ) {
     if let Step::Arrive { link, position, .. } = step {
-        if let Some(sent) = origins.origin(*link, *position) {
-            arriving(documents, packet, sent.holder).tell(story, *link);
+        if let Some(sent) = lineage.sent(*link, *position) {
+            arriving(documents, packet, sent.holder).write(story, *link);
         }
     }
 }
 
-/// Tells the steps of a packet's run, each in a sentence with its number.
-fn tell_steps(story: &mut Story, documents: &Documents, packet: &Packet, steps: &[Step]) {
-    let begun = origins_of(story.alloc, documents, packet);
-    let Some(mut origins) = story.unless_short(begun) else {
-        return;
-    };
+/// Writes the steps of a packet's run, each in a sentence with its number, and makes them.
+fn write_steps(
+    story: &mut Story,
+    documents: &Documents<'_>,
+    packet: &Packet,
+    steps: &[Step],
+    lineage: &mut Lineage<'_>,
+) {
     for place in 0..steps.len() {
         let step = &steps[place];
         story.number(place as u64 + 1);
         story.text(". ");
-        tell_step(story, documents, &[*packet], step);
-        tell_lacking(story, documents, packet, &origins, step);
-        let _taken = story.unless_short(origins.take(step));
+        write_step(story, documents, &[*packet], step);
+        write_lacking(story, documents, packet, lineage, step);
+        lineage.take(story, step);
     }
 }
 
-/// Whether at a step a record reaches the collecting process of the report.
-fn is_reported(documents: &Documents, step: &Step) -> bool {
+/// Returns whether at a step a record reaches the collecting process of the report.
+fn is_reported(documents: &Documents<'_>, step: &Step) -> bool {
     let Step::Arrive { link, .. } = step else {
         return false;
     };
@@ -88,28 +80,28 @@ fn is_reported(documents: &Documents, step: &Step) -> bool {
     }
 }
 
-/// Tells at which steps a record reaches the report.
-fn tell_reported(story: &mut Story, documents: &Documents, steps: &[Step]) {
-    let mut told = false;
+/// Writes at which steps a record reaches the report.
+fn write_reported(story: &mut Story, documents: &Documents<'_>, steps: &[Step]) {
+    let mut shown = false;
     for place in 0..steps.len() {
         if is_reported(documents, &steps[place]) {
-            let before = if told {
+            let before = if shown {
                 ", and at step "
             } else {
                 "a record reaches the report at step "
             };
             story.text_number(before, place as u64 + 1);
-            told = true;
+            shown = true;
         }
     }
-    if !told {
+    if !shown {
         story.text("no record reaches the report");
     }
     story.end_line();
 }
 
-/// Tells totals as reports have them.
-fn tell_totals(story: &mut Story, totals: &Totals)
+/// Writes totals as reports have them.
+fn write_totals(story: &mut Story, totals: &Totals)
     requires { KeysAscend totals.now.entries }
 {
     let mut octets = [0; 4096];
@@ -119,162 +111,131 @@ fn tell_totals(story: &mut Story, totals: &Totals)
     story.lines_of(room.octets());
 }
 
-/// Tells the totals of a refutation's run, the plain sums, and what to do about their difference.
-fn tell_compared(
+/// Writes how the packet of a refutation is counted and what to do about it, then its run, which is written already,
+/// the totals of that, and the plain sums.
+fn write_compared(
     story: &mut Story,
-    documents: &Documents,
+    documents: &Documents<'_>,
     refutation: &Refutation,
-    ran: &mut Totals,
-    plain: &mut Totals,
-) -> Result<(), Fault>
-    ensures { IfErr result IsMemory }
-{
-    ran.sort()?;
-    plain.sort()?;
+    lineage: &Lineage<'_>,
+    run: &Story,
+    totals: (&mut Totals, &mut Totals),
+) {
+    let (ran, plain) = totals;
+    if let Err(_) = ran.sort() {
+        story.fall_short();
+        return;
+    }
+    if let Err(_) = plain.sort() {
+        story.fall_short();
+        return;
+    }
+    write_mending(story, documents, refutation, lineage, ran);
+    story.all_of(run);
     story.sentence("in the end the collector holds");
-    tell_totals(story, ran);
+    write_totals(story, ran);
     story.sentence("and it should hold");
-    tell_totals(story, plain);
-    tell_mending(story, documents, refutation, ran);
-    Ok(())
+    write_totals(story, plain);
 }
 
-/// Tells what a refutation's run comes to, what it should come to, and what to do about it.
-fn tell_sums(story: &mut Story, documents: &Documents, refutation: &Refutation) -> Result<(), Fault>
-    ensures { IfErr result IsMemory }
-{
-    match confirm(story.alloc, &documents.plan, &documents.traffic, refutation) {
-        Ok((mut ran, mut plain)) => {
-            tell_compared(story, documents, refutation, &mut ran, &mut plain)
-        }
-        Err(fault) => {
-            if fault.number == refusals::WANT_OF_MEMORY {
-                return Err(Fault::bare(refusals::WANT_OF_MEMORY));
-            }
-            Ok(())
-        }
-    }
-}
-
-/// Tells the packet of a refutation, its steps, and at which of them a record reaches the report.
-fn tell_run(story: &mut Story, documents: &Documents, refutation: &Refutation) {
+/// Writes the packet of a refutation, its steps, and at which of them a record reaches the report.
+fn write_run(
+    story: &mut Story,
+    documents: &Documents<'_>,
+    refutation: &Refutation,
+    lineage: &mut Lineage<'_>,
+) {
     let packet = refutation.packet();
-    tell_packet(story, documents, packet);
-    tell_steps(story, documents, packet, refutation.steps());
-    tell_reported(story, documents, refutation.steps());
+    write_packet(story, documents, packet);
+    write_steps(story, documents, packet, refutation.steps(), lineage);
+    write_reported(story, documents, refutation.steps());
 }
 
-/// Tells the run of a refutation, and what it leaves undone where it isn't complete.
-fn tell_run_left(
+/// Writes the run of a refutation.
+fn write_run_alone(story: &mut Story, documents: &Documents<'_>, refutation: &Refutation) {
+    if let Some(mut lineage) = Lineage::new(story, documents, refutation.packet()) {
+        write_run(story, documents, refutation, &mut lineage);
+    }
+}
+
+/// Writes the run of a refutation that isn't confirmed though each of its steps can be made, and what it leaves undone
+/// where it isn't complete (504).
+pub(crate) fn write_unconfirmed(
     story: &mut Story,
-    documents: &Documents,
+    documents: &Documents<'_>,
     refutation: &Refutation,
-    fault: u16,
-) -> Result<(), Fault>
-    ensures { IfErr result IsUntold }
-{
-    tell_run(story, documents, refutation);
-    if fault == refusals::RUN_NOT_COMPLETE {
-        let packets = [*refutation.packet()];
-        tell_undone(story, documents, &packets, refutation.steps())?;
-    }
-    Ok(())
-}
-
-/// Tells the run of a refutation that isn't confirmed over the documents, though each of its steps can be made: one that
-/// isn't complete (504), or whose totals are the plain sums (505).
-///
-/// Fails with 901 and 903 where the lines can't be read again, and with 900 for want of memory.
-pub(crate) fn tell_unconfirmed<C: Source>(
-    story: &mut Story,
-    documents: &Documents,
-    lines: &mut LineReader<C>,
-    fault: u16,
-) -> Result<(), Fault>
-    ensures { IfErr result IsUntold }
-{
-    match unless_wrong(read_refutation(story.alloc, lines))? {
-        Some(refutation) => tell_run_left(story, documents, &refutation, fault),
-        None => Ok(()),
+    number: u16,
+    last: &State<'_>,
+) {
+    write_run_alone(story, documents, refutation);
+    if number == refusals::RUN_NOT_COMPLETE {
+        write_undone(story, documents, last);
     }
 }
 
-/// Tells a refutation over the documents.
-fn tell_refutation(
+/// Writes a refutation over the documents.
+pub(crate) fn write_refutation(
     story: &mut Story,
-    documents: &Documents,
+    documents: &Documents<'_>,
     refutation: &Refutation,
-) -> Result<(), Fault>
-    ensures { IfErr result IsMemory }
-{
-    tell_run(story, documents, refutation);
-    tell_sums(story, documents, refutation)
-}
-
-/// Tells the refutation that lines say over the documents.
-fn tell_read<C: Source>(
-    story: &mut Story,
-    documents: &Documents,
-    lines: &mut LineReader<C>,
-) -> Result<(), Fault>
-    ensures { IfErr result IsUntold }
-{
-    match unless_wrong(read_refutation(story.alloc, lines))? {
-        Some(refutation) => tell_refutation(story, documents, &refutation),
-        None => Ok(()),
+) {
+    let Some(mut lineage) = Lineage::new(story, documents, refutation.packet()) else {
+        return;
+    };
+    let mut run = Story::new(story.alloc);
+    write_run(&mut run, documents, refutation, &mut lineage);
+    let confirmed = confirm(story.alloc, documents.plan, documents.traffic, refutation);
+    match unless_refused(story, confirmed) {
+        Some((mut ran, mut plain)) => {
+            let totals = (&mut ran, &mut plain);
+            write_compared(story, documents, refutation, &lineage, &run, totals);
+        }
+        None => story.all_of(&run),
     }
 }
 
-/// Tells the refutation that lines say.
-fn tell_lines<C: Source>(
-    story: &mut Story,
-    network: &[u8],
-    traffic: &[u8],
-    lines: &mut LineReader<C>,
-) -> Result<(), Fault>
-    ensures { IfErr result IsUntold }
-{
-    match documents_again(story, network, traffic) {
-        Some(documents) => tell_read(story, &documents, lines),
-        None => Ok(()),
-    }
-}
-
-/// What is to be told of a refutation.
-fn story_of<C: Source>(
-    alloc: Global,
-    network: &[u8],
-    traffic: &[u8],
-    refutation: &mut LineReader<C>,
-) -> Result<Story, Fault>
-    ensures { IfErr result IsUntold }
-{
-    let mut story = Story::new(alloc);
-    tell_lines(&mut story, network, traffic, refutation)?;
-    Ok(story)
-}
-
-/// Writes in sentences what a refutation says: its packet, with its class by name and its fields that aren't 0; each
-/// step with the names of what it is about, and what the key of a record lacks that stays unassigned or that an aggregation
-/// doesn't take in; at which steps a record reaches the report; and, where it is confirmed, the totals of its run and those
-/// that it should have, and what to do about their difference. The documents are those over which the refutation was confirmed, the lines those of its text, opened anew.
-/// What can't be told is left out. The text has no control characters but line feeds.
+/// Explains a refutation in sentences. Where it is confirmed, how its packet is counted and what to do about that come
+/// first. Then its packet, with its class by name and its fields that aren't 0; each step with the names of what it is
+/// about, and what the key of a record lacks that stays unassigned or that an aggregation doesn't take in; at which
+/// steps a record reaches the report; and, where it is confirmed, the totals of its run and those that it should have.
+/// The text has no control characters but line feeds.
 ///
-/// Fails with 900 for want of memory; with 901 where a read fails, or the reader hasn't ended after 4,294,967,296 calls;
-/// with 903 at a line of more than 4,096 octets; with 902 where a write fails. Nothing is written for a fault other than
-/// 902.
-pub fn put_refutation_story<C: Source, S: Sink>(
+/// Fails with 900 if out of memory, and then nothing is written; with 902 where a write fails.
+pub fn put_refutation_story<S: Sink>(
     alloc: Global,
-    network: &[u8],
-    traffic: &[u8],
-    refutation: &mut LineReader<C>,
+    documents: &Documents<'_>,
+    refutation: &Refutation,
     sink: &mut S,
 ) -> Result<(), Fault>
     ensures ok { OnOk result (WritesStory (S.taken sink.old) (S.taken sink.new)) }
     ensures going { OnOk result (KeepsGoing (S.failed sink.old) (S.failed sink.new)) }
-    ensures err { IfErr result (λ e. (IsUntold e × (sink.new ≡ sink.old))
+    ensures err { IfErr result (λ e. (IsMemory e × (sink.new ≡ sink.old))
         ⊎ IsWriteFault (S.failed sink.new) e) }
 {
-    let story = story_of(alloc, network, traffic, refutation)?;
+    let mut story = Story::new(alloc);
+    write_refutation(&mut story, documents, refutation);
+    put_text(sink, story.octets()?)
+}
+
+/// Writes in sentences what a refutation says that is refused with 504 or 505: its packet and its steps, as
+/// [`put_refutation_story`] does, and for 504 what is left after the last step. The text has no control characters but
+/// line feeds.
+///
+/// Fails with 900 if out of memory, and then nothing is written; with 902 where a write fails.
+pub fn put_unconfirmed_words<S: Sink>(
+    alloc: Global,
+    documents: &Documents<'_>,
+    refutation: &Refutation,
+    number: u16,
+    last: &State<'_>,
+    sink: &mut S,
+) -> Result<(), Fault>
+    ensures ok { OnOk result (WritesStory (S.taken sink.old) (S.taken sink.new)) }
+    ensures going { OnOk result (KeepsGoing (S.failed sink.old) (S.failed sink.new)) }
+    ensures err { IfErr result (λ e. (IsMemory e × (sink.new ≡ sink.old))
+        ⊎ IsWriteFault (S.failed sink.new) e) }
+{
+    let mut story = Story::new(alloc);
+    write_unconfirmed(&mut story, documents, refutation, number, last);
     put_text(sink, story.octets()?)
 }

@@ -3,7 +3,7 @@ use crate::story::Story;
 use fx_boxes::Region;
 use fx_elements::{Axis, EVERY_AXIS, top};
 
-/// The word of an axis, as certificates have it.
+/// Returns the word of an axis, as certificates have it.
 pub(crate) fn axis_word(axis: Axis) -> &'static str {
     match axis {
         Axis::Source => "source",
@@ -18,8 +18,8 @@ pub(crate) fn axis_word(axis: Axis) -> &'static str {
     }
 }
 
-/// Tells the values from a least to a greatest on an axis.
-pub(crate) fn tell_values(story: &mut Story, axis: Axis, low: u128, high: u128) {
+/// Writes the values from a least to a greatest on an axis.
+pub(crate) fn write_values(story: &mut Story, axis: Axis, low: u128, high: u128) {
     story.value(axis, low);
     if low == high {
         return;
@@ -28,8 +28,8 @@ pub(crate) fn tell_values(story: &mut Story, axis: Axis, low: u128, high: u128) 
     story.value(axis, high);
 }
 
-/// Tells a region: its values on each axis on which it doesn't have all.
-pub(crate) fn tell_region(story: &mut Story, region: &Region) {
+/// Writes a region: its values on each axis on which it doesn't have all.
+pub(crate) fn write_region(story: &mut Story, region: &Region) {
     let least = region.corner();
     let greatest = region.far_corner();
     let mut separator = "";
@@ -40,7 +40,7 @@ pub(crate) fn tell_region(story: &mut Story, region: &Region) {
             story.text(separator);
             story.text(axis_word(axis));
             story.text(" ");
-            tell_values(story, axis, low, high);
+            write_values(story, axis, low, high);
             separator = ", ";
         }
     }

@@ -21,7 +21,7 @@ struct Scan {
     open: Vec<Open>,
     in_string: bool,
     escaped: bool,
-    /// Where the string began that it is in, behind its quotation mark.
+    /// Where the string began that it is in, after its quotation mark.
     start: usize,
     line: u64,
     /// Which document it is, as `network`.
@@ -36,7 +36,7 @@ fn part(text: &[u8], start: usize, end: usize) -> &[u8] {
     }
 }
 
-/// Whether one of these names is the same as another.
+/// Returns whether one of these names is the same as another.
 fn has_name(text: &[u8], names: &[(usize, usize)], name: &[u8]) -> bool {
     for (start, end) in names {
         if part(text, *start, *end) == name {
@@ -92,7 +92,7 @@ impl Scan {
         }
     }
 
-    /// A string ends at a place: tells it where it is the name of a member that stands there already.
+    /// A string ends at a place: writes it where it is the name of a member that stands there already.
     fn end_string(&mut self, story: &mut Story, text: &[u8], end: usize) {
         self.in_string = false;
         let start = self.start;
@@ -143,9 +143,9 @@ impl Scan {
     }
 }
 
-/// Tells the members that stand twice in an object of a JSON text, which is valid, by the lines of the second ones. Of
+/// Writes the members that stand twice in an object of a JSON text, which is valid, by the lines of the second ones. Of
 /// each object its first 64 names are looked at, as they are spelled.
-pub(crate) fn tell_twice(story: &mut Story, document: &'static str, text: &[u8]) {
+pub(crate) fn write_twice(story: &mut Story, document: &'static str, text: &[u8]) {
     let mut scan = Scan::new(story.alloc, document);
     for place in 0..text.len() {
         scan.take(story, text, place);

@@ -6,15 +6,15 @@ use fx_config::{Destination, ExportMode, ExportingProcess};
 use fx_plan::Plan;
 use fx_topology::{NamedLink, NetworkDevice};
 
-/// Tells the collecting process to which a link leads.
-pub(crate) fn tell_end(story: &mut Story, link: &NamedLink) {
+/// Writes the collecting process to which a link leads.
+pub(crate) fn write_end(story: &mut Story, link: &NamedLink) {
     story.text_quoted("collecting process ", link.to_process.as_str());
     story.text(" of ");
     story.text(link.to_device.as_str());
 }
 
-/// Tells where a destination's records come to.
-fn tell_destination<'x>(
+/// Writes where a destination's records come to.
+fn write_destination<'x>(
     story: &mut Story,
     plan: &Plan,
     device: &NetworkDevice,
@@ -27,14 +27,14 @@ fn tell_destination<'x>(
     match link_from(links, &device.name, &process.name, &destination.name) {
         Some(link) => {
             story.text(", which is linked to ");
-            tell_end(story, link);
+            write_end(story, link);
         }
         None => story.text(", which has no link: what it is sent is lost"),
     }
 }
 
-/// Tells where all destinations' records come to.
-fn tell_destinations(
+/// Writes where all destinations' records come to.
+fn write_destinations(
     story: &mut Story,
     plan: &Plan,
     device: &NetworkDevice,
@@ -43,13 +43,13 @@ fn tell_destinations(
     let mut separator = "";
     for destination in process.destinations.as_slice() {
         story.text(separator);
-        tell_destination(story, plan, device, process, destination);
+        write_destination(story, plan, device, process, destination);
         separator = "; ";
     }
 }
 
-/// Tells where an exporting process sends a record: to all its destinations, or to the one of this number, from 1.
-fn tell_process(
+/// Writes where an exporting process sends a record: to all its destinations, or to the one of this number, from 1.
+fn write_process(
     story: &mut Story,
     plan: &Plan,
     device: &NetworkDevice,
@@ -57,11 +57,11 @@ fn tell_process(
     chosen: Option<u64>,
 ) {
     let Some(number) = chosen else {
-        tell_destinations(story, plan, device, process);
+        write_destinations(story, plan, device, process);
         return;
     };
     match entry_numbered(process.destinations.as_slice(), number) {
-        Some(destination) => tell_destination(story, plan, device, process, destination),
+        Some(destination) => write_destination(story, plan, device, process, destination),
         None => {
             story.text_quoted("exporting process ", process.name.as_str());
             story.text_number(" has no destination ", number);
@@ -69,14 +69,14 @@ fn tell_process(
     }
 }
 
-/// Whether an exporting process sends a record to one of its destinations, which is chosen.
+/// Returns whether an exporting process sends a record to one of its destinations, which is chosen.
 pub(crate) fn chooses(process: &ExportingProcess) -> bool {
     !matches!(process.mode, ExportMode::Parallel)
 }
 
-/// Tells where the exporting processes of these names send a record, by the choices of a step, one for each that isn't
+/// Writes where the exporting processes of these names send a record, by the choices of a step, one for each that isn't
 /// parallel; without choices, to all destinations. Answers how many choices were made.
-pub(crate) fn tell_sending(
+pub(crate) fn write_sending(
     story: &mut Story,
     plan: &Plan,
     device: &NetworkDevice,
@@ -84,7 +84,7 @@ pub(crate) fn tell_sending(
     choices: &[Option<u64>],
 ) -> usize {
     let mut made: usize = 0;
-    let mut told = false;
+    let mut shown = false;
     for name in names {
         if let Some(process) = entry_named(device.config.exporting_processes.as_slice(), name) {
             let mut chosen = None;
@@ -92,9 +92,9 @@ pub(crate) fn tell_sending(
                 chosen = choices.get(made).copied().flatten();
                 made = made.saturating_add(1);
             }
-            story.text(between(told, "; "));
-            tell_process(story, plan, device, process, chosen);
-            told = true;
+            story.text(between(shown, "; "));
+            write_process(story, plan, device, process, chosen);
+            shown = true;
         }
     }
     made

@@ -7,7 +7,7 @@ use fx_elements::{Axis, Element, read_number, read_on, top, width};
 /// How many octets a text has at most that is looked at.
 const LONGEST: usize = 200;
 
-/// What is wrong with a number of an address of IPv4.
+/// Returns what is wrong with a number of an address of IPv4.
 fn number_words(text: &str) -> Option<&'static str> {
     if read_number(text.as_bytes(), 255).is_some() {
         return None;
@@ -24,8 +24,8 @@ fn number_words(text: &str) -> Option<&'static str> {
     Some(" is more than 255")
 }
 
-/// Tells what is wrong with an address of IPv4.
-fn tell_quad(story: &mut Story, text: &str) {
+/// Writes what is wrong with an address of IPv4.
+fn write_quad(story: &mut Story, text: &str) {
     let mut count: u64 = 0;
     for part in text.split('.') {
         count = count.saturating_add(1);
@@ -41,7 +41,7 @@ fn tell_quad(story: &mut Story, text: &str) {
     story.sentence("; one of IPv4 has four");
 }
 
-/// Whether all these characters may stand in an address of IPv6.
+/// Returns whether all these characters may stand in an address of IPv6.
 fn are_of_address6(octets: &[u8]) -> bool {
     for octet in octets {
         if !octet.is_ascii_hexdigit() && *octet != b':' && *octet != b'.' {
@@ -51,7 +51,7 @@ fn are_of_address6(octets: &[u8]) -> bool {
     true
 }
 
-/// Whether an address of IPv6 has a group of too many digits.
+/// Returns whether an address of IPv6 has a group of too many digits.
 fn has_long_group(text: &str) -> bool {
     for group in text.split(':') {
         if group.len() > 4 && !group.contains('.') {
@@ -61,7 +61,7 @@ fn has_long_group(text: &str) -> bool {
     false
 }
 
-/// What is wrong with an address of IPv6.
+/// Returns what is wrong with an address of IPv6.
 fn wide_words(text: &str) -> &'static str {
     if !are_of_address6(text.as_bytes()) {
         return " has characters that are none of 0 to 9, a to f, : and .";
@@ -73,20 +73,20 @@ fn wide_words(text: &str) -> &'static str {
         return " has a group of more than four digits";
     }
     match text.split_once("::") {
-        Some((_, behind)) if behind.contains("::") || behind.starts_with(':') =>
+        Some((_, after)) if after.contains("::") || after.starts_with(':') =>
             " has :: twice; it may stand there once",
         _ => " hasn't eight groups between colons, nor fewer and :: once",
     }
 }
 
-/// Tells what is wrong with an address of IPv6.
-fn tell_wide(story: &mut Story, text: &str) {
+/// Writes what is wrong with an address of IPv6.
+fn write_wide(story: &mut Story, text: &str) {
     story.text_quoted("the address ", text);
     story.sentence(wide_words(text));
 }
 
-/// Tells which numbers an axis has.
-fn tell_number(story: &mut Story, axis: Axis) {
+/// Writes which numbers an axis has.
+fn write_number(story: &mut Story, axis: Axis) {
     story.text("allowed there: a number from 0 to ");
     story.value(axis, top(axis));
     story.text(", in decimal digits without a zero in front");
@@ -96,25 +96,25 @@ fn tell_number(story: &mut Story, axis: Axis) {
     story.end_line();
 }
 
-/// Tells what is wrong with a text that should spell one value of an axis, if something is.
-fn tell_single(story: &mut Story, axis: Axis, text: &str) {
+/// Writes what is wrong with a text that should spell one value of an axis, if something is.
+fn write_single(story: &mut Story, axis: Axis, text: &str) {
     if read_on(axis, text.as_bytes()).is_some() {
         return;
     }
     if axis.is_wide() {
-        tell_wide(story, text);
+        write_wide(story, text);
     } else if !axis.is_address() {
-        tell_number(story, axis);
+        write_number(story, axis);
     } else if text.contains(':') {
         story.text_quoted("the address ", text);
         story.sentence(" is none of IPv4; for one of IPv6 name an element of IPv6");
     } else {
-        tell_quad(story, text);
+        write_quad(story, text);
     }
 }
 
-/// Tells what is wrong with the number of bits behind an address, if something is.
-fn tell_bits(story: &mut Story, axis: Axis, text: &str) {
+/// Writes what is wrong with the number of bits after an address, if something is.
+fn write_bits(story: &mut Story, axis: Axis, text: &str) {
     let Some(bits) = read_number(text.as_bytes(), u128::from(width(axis))) else {
         story.text_quoted("the length of the prefix is ", text);
         story.text_number(
@@ -130,25 +130,25 @@ fn tell_bits(story: &mut Story, axis: Axis, text: &str) {
     story.sentence("a prefix has 1 bit at least; for all addresses leave it out");
 }
 
-/// Tells what is wrong with a text that should spell a prefix, if something is.
-fn tell_prefix(story: &mut Story, axis: Axis, text: &str) {
+/// Writes what is wrong with a text that should spell a prefix, if something is.
+fn write_prefix(story: &mut Story, axis: Axis, text: &str) {
     let Some((address, bits)) = text.split_once('/') else {
         story.quoted(text);
         story.sentence(" has no /n: a prefix is an address, / and the number of its leading bits");
         return;
     };
-    tell_single(story, axis, address);
-    tell_bits(story, axis, bits);
+    write_single(story, axis, address);
+    write_bits(story, axis, bits);
 }
 
-/// Tells what is wrong with a text that should spell two values of an axis.
-fn tell_ends<'x>(story: &mut Story, axis: Axis, low: &'x str, high: &'x str) {
+/// Writes what is wrong with a text that should spell two values of an axis.
+fn write_ends<'x>(story: &mut Story, axis: Axis, low: &'x str, high: &'x str) {
     let Some(least) = read_on(axis, low.as_bytes()) else {
-        tell_single(story, axis, low);
+        write_single(story, axis, low);
         return;
     };
     let Some(greatest) = read_on(axis, high.as_bytes()) else {
-        tell_single(story, axis, high);
+        write_single(story, axis, high);
         return;
     };
     if least <= greatest {
@@ -160,8 +160,8 @@ fn tell_ends<'x>(story: &mut Story, axis: Axis, low: &'x str, high: &'x str) {
     story.sentence("; the least value stands in front");
 }
 
-/// Tells what is wrong with a text that should spell a value of an element, or a prefix.
-pub(crate) fn tell_spelling(story: &mut Story, element: Element, text: &str) {
+/// Writes what is wrong with a text that should spell a value of an element, or a prefix.
+pub(crate) fn write_spelling(story: &mut Story, element: Element, text: &str) {
     if text.len() > LONGEST {
         return;
     }
@@ -174,13 +174,13 @@ pub(crate) fn tell_spelling(story: &mut Story, element: Element, text: &str) {
         Element::OnAxis(axis) | Element::Prefix(axis) if is_range(axis, text) => story.sentence(
             "one value is allowed there, or a prefix; LOW-HIGH stands in the regions of traffic alone",
         ),
-        Element::OnAxis(axis) => tell_single(story, axis, text),
-        Element::Prefix(axis) => tell_prefix(story, axis, text),
+        Element::OnAxis(axis) => write_single(story, axis, text),
+        Element::Prefix(axis) => write_prefix(story, axis, text),
         _ => {},
     }
 }
 
-/// Whether a text is two values of an axis with a hyphen between them.
+/// Returns whether a text is two values of an axis with a hyphen between them.
 fn is_range(axis: Axis, text: &str) -> bool {
     match text.split_once('-') {
         Some((low, high)) => {
@@ -190,8 +190,8 @@ fn is_range(axis: Axis, text: &str) -> bool {
     }
 }
 
-/// Tells how the values of a region are written on an axis.
-pub(crate) fn tell_forms(story: &mut Story, axis: Axis) {
+/// Writes how the values of a region are written on an axis.
+pub(crate) fn write_forms(story: &mut Story, axis: Axis) {
     story.sentence(if axis.is_address() {
         "a region has on an axis one value, or LOW-HIGH without blanks, or ADDRESS/n; of several values each has a class of its own"
     } else {
@@ -199,19 +199,19 @@ pub(crate) fn tell_forms(story: &mut Story, axis: Axis) {
     });
 }
 
-/// Tells what is wrong with a text that should spell values of a region on an axis.
-pub(crate) fn tell_values(story: &mut Story, axis: Axis, text: &str) {
+/// Writes what is wrong with a text that should spell values of a region on an axis.
+pub(crate) fn write_values(story: &mut Story, axis: Axis, text: &str) {
     if text.len() > LONGEST {
         return;
     }
     if matches!(text, "any" | "all" | "*" | "") {
         story.sentence("an axis on which a class has all values is left out of its region");
     } else if let Some((low, high)) = text.split_once('-') {
-        tell_ends(story, axis, low, high);
+        write_ends(story, axis, low, high);
     } else if axis.is_address() && text.contains('/') {
-        tell_prefix(story, axis, text);
+        write_prefix(story, axis, text);
     } else {
-        tell_single(story, axis, text);
+        write_single(story, axis, text);
     }
-    tell_forms(story, axis);
+    write_forms(story, axis);
 }

@@ -9,8 +9,8 @@ use itoa::Buffer;
 use std::alloc::{AllocError, Global};
 use std::marker::Model;
 
-/// Lines of text without control characters: those of a document are told as `?`. Where there is no memory for more, nothing
-/// is told from then on, and that is said at the end alone.
+/// Lines of text without control characters: those of a document are written as `?`. Where there is no memory for more,
+/// nothing is written from then on, and that is said at the end alone.
 #[derive(Drop)]
 pub(crate) struct Story {
     /// Where its octets are kept, and what is gathered for it.
@@ -30,7 +30,7 @@ impl Model for Story {
     ghost invariant = { λ s. IsPlainText s.octets.items };
 }
 
-/// An octet as it is told: a control character as `?`.
+/// Returns an octet as it is written: a control character as `?`.
 fn shown_octet(octet: u8) -> u8
     ensures { result ≡ shown octet }
 {
@@ -41,13 +41,49 @@ fn shown_octet(octet: u8) -> u8
     }
 }
 
-/// What stands before the next of several, where one was told before.
-pub(crate) fn between(told: bool, separator: &'static str) -> &'static str {
-    if told { separator } else { "" }
+/// Returns what stands before the next of several, where one was written before.
+pub(crate) fn between(shown: bool, separator: &'static str) -> &'static str {
+    if shown { separator } else { "" }
+}
+
+/// Returns the year, month and day that begin so many days after 1970 does.
+fn date_of(days: u64) -> (u64, u64, u64) {
+    // Years begin in March here, so that the day of a leap year is the last one; 719,468 days lie between the years 0
+    // and 1970.
+    let days = days.saturating_add(719_468);
+    let (era, day) = (days / 146_097, days % 146_097);
+    let leaps = (day / 1460)
+        .saturating_sub(day / 36_524)
+        .saturating_add(day / 146_096);
+    let year = day.saturating_sub(leaps) / 365;
+    let before = year
+        .saturating_mul(365)
+        .saturating_add(year / 4)
+        .saturating_sub(year / 100);
+    let day = day.saturating_sub(before);
+    let month = day.saturating_mul(5).saturating_add(2) / 153;
+    let first = month.saturating_mul(153).saturating_add(2) / 5;
+    let day = day.saturating_sub(first).saturating_add(1);
+    let is_next = month >= 10;
+    let month = if is_next {
+        month.saturating_sub(9)
+    } else {
+        month.saturating_add(3)
+    };
+    let year = era.saturating_mul(400).saturating_add(year);
+    (
+        if is_next {
+            year.saturating_add(1)
+        } else {
+            year
+        },
+        month,
+        day,
+    )
 }
 
 impl Story {
-    /// A story that tells nothing yet.
+    /// Returns a story that writes nothing yet.
     pub(crate) fn new(alloc: Global) -> Story {
         Story {
             alloc,
@@ -56,7 +92,7 @@ impl Story {
         }
     }
 
-    /// What it tells, where there was memory for all of it.
+    /// Returns what it writes, where there was memory for all of it.
     pub(crate) fn octets(&self) -> Result<&[u8], AllocError>
         ensures plain { IfOk result (λ octets. IsPlainText octets.now) }
     {
@@ -71,7 +107,7 @@ impl Story {
         self.is_short = true;
     }
 
-    /// What there was memory for, or none where there was too little, which is noted.
+    /// Returns what there was memory for, or none where there was too little, which is noted.
     pub(crate) fn unless_short<T: Drop>(&mut self, made: Result<T, AllocError>) -> Option<T> {
         match made {
             Ok(made) => Some(made),
@@ -82,7 +118,7 @@ impl Story {
         }
     }
 
-    /// Tells an octet, which is a line feed or no control character.
+    /// Writes an octet, which is a line feed or no control character.
     fn octet(&mut self, octet: u8)
         requires { is_plain octet ≡ true }
     {
@@ -91,14 +127,14 @@ impl Story {
         }
     }
 
-    /// Tells these octets.
+    /// Writes these octets.
     pub(crate) fn octets_of(&mut self, octets: &[u8]) {
         for octet in octets {
             self.octet(shown_octet(*octet));
         }
     }
 
-    /// Tells lines, each of which a line feed ends.
+    /// Writes lines, each of which a line feed ends.
     pub(crate) fn lines_of(&mut self, octets: &[u8]) {
         for octet in octets {
             if *octet == b'\n' {
@@ -109,33 +145,68 @@ impl Story {
         }
     }
 
+    /// Adds all that another story says.
+    pub(crate) fn all_of(&mut self, other: &Story) {
+        match other.octets() {
+            Ok(octets) => self.lines_of(octets),
+            Err(_) => self.fall_short(),
+        }
+    }
+
     /// Ends the line.
     pub(crate) fn end_line(&mut self) {
         self.octet(b'\n');
     }
 
-    /// Tells a text.
-    // This one and those below stand at hundreds of places, of which a run takes a few: copies there would cost more than calls.
+    /// Writes a text.
+    // This one and those below stand at hundreds of places, of which a run takes a few: copies there would cost more
+    // than calls.
     #[cold]
     #[inline(never)]
     pub(crate) fn text(&mut self, text: &str) {
         self.octets_of(text.as_bytes());
     }
 
-    /// Tells a name, in quotation marks.
+    /// Writes a name, in quotation marks.
     pub(crate) fn quoted(&mut self, name: &str) {
         self.text("\"");
         self.text(name);
         self.text("\"");
     }
 
-    /// Tells a number in decimal.
+    /// Writes a number in decimal.
     pub(crate) fn number(&mut self, number: u64) {
         let mut buffer = Buffer::new();
         self.octets_of(buffer.format(number).as_bytes());
     }
 
-    /// Tells a value of an axis, an address as an address.
+    /// Writes a number that has two digits at least.
+    fn two_digits(&mut self, number: u64) {
+        if number < 10 {
+            self.text("0");
+        }
+        self.number(number);
+    }
+
+    /// Writes a time, in seconds since 1970, as in `2026-11-30T15:10:43Z` (RFC 3339).
+    pub(crate) fn time(&mut self, seconds: u32) {
+        let (year, month, day) = date_of(u64::from(seconds) / 86_400);
+        let of_day = u64::from(seconds) % 86_400;
+        self.number(year);
+        self.text("-");
+        self.two_digits(month);
+        self.text("-");
+        self.two_digits(day);
+        self.text("T");
+        self.two_digits(of_day / 3600);
+        self.text(":");
+        self.two_digits(of_day / 60 % 60);
+        self.text(":");
+        self.two_digits(of_day % 60);
+        self.text("Z");
+    }
+
+    /// Writes a value of an axis, an address as an address.
     pub(crate) fn value(&mut self, axis: Axis, value: u128) {
         if value > top(axis) {
             return;
@@ -147,7 +218,7 @@ impl Story {
         self.octets_of(room.octets());
     }
 
-    /// Tells a text, and behind it a name in quotation marks.
+    /// Writes a text, and after it a name in quotation marks.
     #[cold]
     #[inline(never)]
     pub(crate) fn text_quoted(&mut self, text: &str, name: &str) {
@@ -155,7 +226,7 @@ impl Story {
         self.quoted(name);
     }
 
-    /// Tells a text, and behind it a number in decimal.
+    /// Writes a text, and after it a number in decimal.
     #[cold]
     #[inline(never)]
     pub(crate) fn text_number(&mut self, text: &str, number: u64) {
@@ -163,7 +234,7 @@ impl Story {
         self.number(number);
     }
 
-    /// Tells a text, and ends the line.
+    /// Writes a text, and ends the line.
     #[cold]
     #[inline(never)]
     pub(crate) fn sentence(&mut self, text: &str) {

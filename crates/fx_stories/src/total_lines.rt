@@ -2,14 +2,14 @@
 use crate::line_forms::{Fit, fit_of};
 use crate::regions::axis_word;
 use crate::story::Story;
-use crate::wrong_lines::{tell_due, tell_word, value_words};
+use crate::wrong_lines::{value_words, write_due, write_word};
 use fx_elements::{Axis, Element, is_word, read_value, read_written, split_at_byte, width};
-use fx_plan::Plan;
+use fx_layout::Layout;
 
 /// The form of a key's line.
 const KEY_LINE: &str = "KEY packets PACKETS octets OCTETS";
 
-/// Whether a word is the value of a field of a key: so many leading bits on an axis.
+/// Returns whether a word is the value of a field of a key: so many leading bits on an axis.
 fn is_value(axis: Axis, bits: u32, word: &[u8]) -> bool {
     if bits == width(axis) {
         return read_written(axis, word).is_some();
@@ -26,7 +26,7 @@ fn is_value(axis: Axis, bits: u32, word: &[u8]) -> bool {
     }
 }
 
-/// The first word of what is left of a line, and what is left behind it.
+/// Returns the first word of what is left of a line, and what is left after it.
 fn next_word(left: &[u8]) -> (&[u8], &[u8]) {
     match split_at_byte(left, b' ') {
         Some((word, rest)) => (word, rest),
@@ -45,10 +45,10 @@ struct KeyFit<'a> {
 
 impl KeyFit<'_> {
     /// How far a line is a key of the network's report.
-    fn of<'a>(plan: &Plan, line: &'a [u8]) -> KeyFit<'a> {
+    fn of<'a>(key: &Layout, line: &'a [u8]) -> KeyFit<'a> {
         let mut fields: usize = 0;
         let mut left = line;
-        for part in plan.net().report_layout().parts() {
+        for part in key.parts() {
             let (word, rest) = next_word(left);
             if !is_value(part.axis, part.bits, word) {
                 return KeyFit { fields, left };
@@ -60,21 +60,21 @@ impl KeyFit<'_> {
     }
 }
 
-/// Tells an axis, with the number of its leading bits where not all of them are meant.
-fn tell_part(story: &mut Story, axis: Axis, bits: u32) {
+/// Writes an axis, with the number of its leading bits where not all of them are meant.
+fn write_part(story: &mut Story, axis: Axis, bits: u32) {
     story.text(axis_word(axis));
     if bits < width(axis) {
         story.text_number("/", u64::from(bits));
     }
 }
 
-/// Tells the fields of the key of the network's report.
-fn tell_fields(story: &mut Story, plan: &Plan) {
-    let parts = plan.net().report_layout().parts();
+/// Writes the fields of the key of the network's report.
+fn write_fields(story: &mut Story, key: &Layout) {
+    let parts = key.parts();
     let mut separator = "the key of the network's report has these fields: ";
     for part in parts {
         story.text(separator);
-        tell_part(story, part.axis, part.bits);
+        write_part(story, part.axis, part.bits);
         separator = ", ";
     }
     if parts.is_empty() {
@@ -83,26 +83,26 @@ fn tell_fields(story: &mut Story, plan: &Plan) {
     story.sentence("; totals of another report have other fields, and aren't summed with these");
 }
 
-/// Tells the field of a key that is due behind so many, and what may stand for it.
-fn tell_field_due(story: &mut Story, plan: &Plan, fields: usize) {
-    let Some(part) = plan.net().report_layout().parts().get(fields) else {
+/// Writes the field of a key that is due after so many, and what may stand for it.
+fn write_field_due(story: &mut Story, key: &Layout, fields: usize) {
+    let Some(part) = key.parts().get(fields) else {
         return;
     };
     story.text("due there: ");
-    tell_part(story, part.axis, part.bits);
+    write_part(story, part.axis, part.bits);
     if part.bits < width(part.axis) {
         story.text_number(
-            ", an address whose bits are 0 behind its first ",
+            ", an address whose bits are 0 after its first ",
             u64::from(part.bits),
         );
-        story.text_number(", and behind it /", u64::from(part.bits));
+        story.text_number(", and after it /", u64::from(part.bits));
         story.end_line();
         return;
     }
     story.sentence(value_words(part.axis));
 }
 
-/// Whether two lines have the same key of so many fields.
+/// Returns whether two lines have the same key of so many fields.
 fn have_same_key(fields: usize, line: &[u8], other: &[u8]) -> bool {
     let mut left = line;
     let mut others = other;
@@ -118,8 +118,8 @@ fn have_same_key(fields: usize, line: &[u8], other: &[u8]) -> bool {
     true
 }
 
-/// Tells what is wrong with the place of a key's line that has a right form, behind this one.
-fn tell_order(story: &mut Story, fields: usize, line: &[u8], before: &[u8]) {
+/// Writes what is wrong with the place of a key's line that has a right form, after this one.
+fn write_order(story: &mut Story, fields: usize, line: &[u8], before: &[u8]) {
     story.text("the line before it: ");
     story.octets_of(before);
     story.end_line();
@@ -130,26 +130,26 @@ fn tell_order(story: &mut Story, fields: usize, line: &[u8], before: &[u8]) {
     });
 }
 
-/// Tells what is wrong with the line of a key of the network's report, behind this line.
-pub(crate) fn tell_key_line(story: &mut Story, plan: &Plan, line: &[u8], before: &[u8]) {
-    let key = KeyFit::of(plan, line);
-    let parts = plan.net().report_layout().parts().len();
+/// Writes what is wrong with the line of a key of the network's report, after this line.
+pub(crate) fn write_key_line(story: &mut Story, key: &Layout, line: &[u8], before: &[u8]) {
+    let read = KeyFit::of(key, line);
+    let parts = key.parts().len();
     let form = if parts == 0 {
         "all packets PACKETS octets OCTETS"
     } else {
         "packets PACKETS octets OCTETS"
     };
-    let fit = fit_of(form, key.left);
-    let is_key = key.fields == parts;
+    let fit = fit_of(form, read.left);
+    let is_key = read.fields == parts;
     if is_key && fit.is_whole() {
-        tell_order(story, key.fields.max(1), line, before);
+        write_order(story, read.fields.max(1), line, before);
         return;
     }
-    let (word, _rest) = next_word(key.left);
-    let told = Fit {
-        words: (key.fields as u64).saturating_add(if is_key { fit.words } else { 0 }),
+    let (word, _rest) = next_word(read.left);
+    let shown = Fit {
+        words: (read.fields as u64).saturating_add(if is_key { fit.words } else { 0 }),
         due: fit.due,
-        word: if key.left.is_empty() {
+        word: if read.left.is_empty() {
             None
         } else if is_key {
             fit.word
@@ -157,13 +157,13 @@ pub(crate) fn tell_key_line(story: &mut Story, plan: &Plan, line: &[u8], before:
             Some(word)
         },
     };
-    tell_word(story, &told, line);
+    write_word(story, &shown, line);
     if is_key {
-        tell_due(story, KEY_LINE, &told);
+        write_due(story, KEY_LINE, &shown);
     } else {
-        tell_field_due(story, plan, key.fields);
+        write_field_due(story, key, read.fields);
     }
     if !is_key || fit.words == 0 {
-        tell_fields(story, plan);
+        write_fields(story, key);
     }
 }

@@ -1,18 +1,18 @@
 //! What to do about a packet that nothing meters on its path.
-use crate::again::Documents;
-use crate::crossings::tell_numbered;
-use crate::paths::tell_class;
+use crate::crossings::write_numbered;
+use crate::lent::Documents;
+use crate::paths::write_class;
 use crate::story::{Story, between};
 use fx_base::entry_at;
 use fx_elements::Axis;
 use fx_tables::{Crossing, Packet, Point, Selection};
 
-/// How many crossings are told.
-const TOLD: usize = 8;
+/// How many crossings are written.
+const SHOWN: usize = 8;
 
-/// Tells the observation points that see a crossing.
-fn tell_watchers(story: &mut Story, documents: &Documents, crossing: &Crossing) {
-    let mut told = false;
+/// Writes the observation points that see a crossing.
+fn write_watchers(story: &mut Story, documents: &Documents<'_>, crossing: &Crossing) {
+    let mut shown = false;
     let points = documents.plan.net().points_of(crossing.device);
     let Some(device) = documents.plan.device(crossing.device) else {
         return;
@@ -20,33 +20,36 @@ fn tell_watchers(story: &mut Story, documents: &Documents, crossing: &Crossing) 
     for place in 0..points.len() {
         if points[place].watches(crossing) {
             if let Some(named) = entry_at(device.observation_points.as_slice(), place) {
-                story.text_quoted(between(told, " and "), named.name.as_str());
-                told = true;
+                story.text_quoted(between(shown, " and "), named.name.as_str());
+                shown = true;
             }
         }
     }
-    story.text(if told {
+    story.text(if shown {
         " sees it, and none of its selection processes with a cache selects it"
     } else {
         "no observation point sees it"
     });
 }
 
-/// Tells what sees the first crossings of a path.
-fn tell_crossings_of(story: &mut Story, documents: &Documents, crossings: &[Crossing]) {
-    let told = crossings.len().min(TOLD);
-    for place in 0..told {
+/// Writes what sees the first crossings of a path.
+fn write_crossings_of(story: &mut Story, documents: &Documents<'_>, crossings: &[Crossing]) {
+    let shown = crossings.len().min(SHOWN);
+    for place in 0..shown {
         story.text(between(place > 0, "; "));
-        tell_numbered(story, &documents.plan, place as u64 + 1, &crossings[place]);
+        write_numbered(story, documents.plan, place as u64 + 1, &crossings[place]);
         story.text(": ");
-        tell_watchers(story, documents, &crossings[place]);
+        write_watchers(story, documents, &crossings[place]);
     }
-    if told < crossings.len() {
-        story.text_number("; and further crossings: ", (crossings.len() - told) as u64);
+    if shown < crossings.len() {
+        story.text_number(
+            "; and further crossings: ",
+            (crossings.len() - shown) as u64,
+        );
     }
 }
 
-/// Whether a selection selects packets of other versions than this one alone.
+/// Returns whether a selection selects packets of other versions than this one alone.
 fn is_of_others(selection: &Selection, version: u128) -> bool {
     match &selection.region {
         Some(region) => {
@@ -57,7 +60,7 @@ fn is_of_others(selection: &Selection, version: u128) -> bool {
     }
 }
 
-/// Whether a selection process of a point selects packets of other versions than this one alone.
+/// Returns whether a selection process of a point selects packets of other versions than this one alone.
 fn has_others(point: &Point, version: u128) -> bool {
     for selection in point.selections() {
         if is_of_others(selection, version) {
@@ -67,8 +70,9 @@ fn has_others(point: &Point, version: u128) -> bool {
     false
 }
 
-/// Whether a selection process of a point that sees a crossing selects packets of other versions than this one alone.
-fn passes_over(documents: &Documents, crossing: &Crossing, version: u128) -> bool {
+/// Returns whether a selection process of a point that sees a crossing selects packets of other versions than this one
+/// alone.
+fn passes_over(documents: &Documents<'_>, crossing: &Crossing, version: u128) -> bool {
     for point in documents.plan.net().points_of(crossing.device) {
         if has_others(point, version) && point.watches(crossing) {
             return true;
@@ -77,8 +81,14 @@ fn passes_over(documents: &Documents, crossing: &Crossing, version: u128) -> boo
     false
 }
 
-/// Tells that a packet is neither of IPv4 nor of IPv6, where that is why a point at one of these crossings passes it over.
-fn tell_version(story: &mut Story, documents: &Documents, packet: &Packet, crossings: &[Crossing]) {
+/// Writes that a packet is neither of IPv4 nor of IPv6, where that is why a point at one of these crossings passes it
+/// over.
+fn write_version(
+    story: &mut Story,
+    documents: &Documents<'_>,
+    packet: &Packet,
+    crossings: &[Crossing],
+) {
     let version = packet.fields.get(Axis::Version);
     if version == 4 || version == 6 {
         return;
@@ -93,14 +103,14 @@ fn tell_version(story: &mut Story, documents: &Documents, packet: &Packet, cross
     }
 }
 
-/// Tells what to do about a packet that nothing meters.
-pub(crate) fn tell_unmetered_path(story: &mut Story, documents: &Documents, packet: &Packet) {
+/// Writes what to do about a packet that nothing meters.
+pub(crate) fn write_unmetered_path(story: &mut Story, documents: &Documents<'_>, packet: &Packet) {
     let crossings = documents.traffic.classes().path_of(packet);
     if crossings.is_empty() {
         story.text(
             "Name the crossings that its packets make, or write exempt in the class if they aren't to be counted, and audit again: ",
         );
-        tell_class(story, documents, packet.class, packet.path);
+        write_class(story, documents, packet.class, packet.path);
         story.sentence(" has no crossing");
         return;
     }
@@ -109,7 +119,7 @@ pub(crate) fn tell_unmetered_path(story: &mut Story, documents: &Documents, pack
 filter (which may count packets of another path there a second time), a cache or another observation point, or write exempt \
 in its class if it isn't to be counted, and audit again: ",
     );
-    tell_crossings_of(story, documents, crossings);
-    tell_version(story, documents, packet, crossings);
+    write_crossings_of(story, documents, crossings);
+    write_version(story, documents, packet, crossings);
     story.end_line();
 }

@@ -1,5 +1,5 @@
 //! Members of a network's document that nothing reads.
-use crate::elements::tell_misspelled_fields;
+use crate::elements::write_misspelled_fields;
 use crate::pointers::{configuration, items_member, text_or_none};
 use crate::story::Story;
 use serde_json::Value;
@@ -22,7 +22,7 @@ const KINDS: [&str; 4] = [
     "permanentCache",
 ];
 
-/// Whether a member is an object that isn't empty.
+/// Returns whether a member is an object that isn't empty.
 fn has_content(entry: &Value, member: &str) -> bool {
     match entry.get(member) {
         Some(Value::Object(members)) => !members.is_empty(),
@@ -30,8 +30,8 @@ fn has_content(entry: &Value, member: &str) -> bool {
     }
 }
 
-/// Tells that a member of an entry of a device isn't read.
-fn tell_unread<'x>(
+/// Writes that a member of an entry of a device isn't read.
+fn write_unread<'x>(
     story: &mut Story,
     device: &'x str,
     kind: &'x str,
@@ -46,20 +46,20 @@ fn tell_unread<'x>(
     story.sentence(" isn't read");
 }
 
-/// Tells the transports of an entry of a device in which something stands.
-fn tell_transports<'x>(story: &mut Story, device: &'x str, kind: &'x str, entry: &'x Value) {
+/// Writes the transports of an entry of a device in which something stands.
+fn write_transports<'x>(story: &mut Story, device: &'x str, kind: &'x str, entry: &'x Value) {
     for member in TRANSPORTS {
         if has_content(entry, member) {
-            tell_unread(story, device, kind, text_or_none(entry, "name"), member);
+            write_unread(story, device, kind, text_or_none(entry, "name"), member);
         }
     }
 }
 
-/// Tells what isn't read of the exporting processes of a device.
-fn tell_exporting(story: &mut Story, device: &str, container: &Value) {
+/// Writes what isn't read of the exporting processes of a device.
+fn write_exporting(story: &mut Story, device: &str, container: &Value) {
     for process in items_member(container, "exportingProcess") {
         if process.get("options").is_some() {
-            tell_unread(
+            write_unread(
                 story,
                 device,
                 "exporting process ",
@@ -68,20 +68,20 @@ fn tell_exporting(story: &mut Story, device: &str, container: &Value) {
             );
         }
         for destination in items_member(process, "destination") {
-            tell_transports(story, device, "destination ", destination);
+            write_transports(story, device, "destination ", destination);
         }
     }
 }
 
-/// Tells what isn't read of the collecting processes of a device.
-fn tell_collecting(story: &mut Story, device: &str, container: &Value) {
+/// Writes what isn't read of the collecting processes of a device.
+fn write_collecting(story: &mut Story, device: &str, container: &Value) {
     for process in items_member(container, "collectingProcess") {
-        tell_transports(story, device, "collecting process ", process);
+        write_transports(story, device, "collecting process ", process);
     }
 }
 
-/// Tells the members of a device's configuration that are other modules'.
-fn tell_modules<'x>(story: &mut Story, device: &'x str, config: &'x Value) {
+/// Writes the members of a device's configuration that are other modules'.
+fn write_modules<'x>(story: &mut Story, device: &'x str, config: &'x Value) {
     let Some(members) = config.as_object() else {
         return;
     };
@@ -96,26 +96,26 @@ fn tell_modules<'x>(story: &mut Story, device: &'x str, config: &'x Value) {
     }
 }
 
-/// Tells what isn't read of a device.
-fn tell_device(story: &mut Story, device: &Value) {
+/// Writes what isn't read of a device.
+fn write_device(story: &mut Story, device: &Value) {
     let name = text_or_none(device, "name");
     if let Some(config) = device.get("config") {
-        tell_modules(story, name, config);
+        write_modules(story, name, config);
     }
     if let Some(container) = configuration(device) {
-        tell_exporting(story, name, container);
-        tell_collecting(story, name, container);
+        write_exporting(story, name, container);
+        write_collecting(story, name, container);
     }
 }
 
-/// Tells the members of a network's document that nothing reads, but for those that say when records leave.
-pub(crate) fn tell_unread_members(story: &mut Story, network: &Value) {
+/// Writes the members of a network's document that nothing reads, but for those that say when records leave.
+pub(crate) fn write_unread_members(story: &mut Story, network: &Value) {
     for device in items_member(network, "devices") {
-        tell_device(story, device);
+        write_device(story, device);
     }
 }
 
-/// The layout of a cache.
+/// Returns the layout of a cache.
 fn layout_of(cache: &Value) -> Option<&Value> {
     for kind in KINDS {
         if let Some(members) = cache.get(kind) {
@@ -125,14 +125,14 @@ fn layout_of(cache: &Value) -> Option<&Value> {
     None
 }
 
-/// Tells the fields of a device's caches whose elements are misspelled.
-fn tell_fields(story: &mut Story, device: &Value) {
+/// Writes the fields of a device's caches whose elements are misspelled.
+fn write_fields(story: &mut Story, device: &Value) {
     let Some(container) = configuration(device) else {
         return;
     };
     for cache in items_member(container, "cache") {
         if let Some(layout) = layout_of(cache) {
-            tell_misspelled_fields(
+            write_misspelled_fields(
                 story,
                 text_or_none(device, "name"),
                 text_or_none(cache, "name"),
@@ -142,9 +142,9 @@ fn tell_fields(story: &mut Story, device: &Value) {
     }
 }
 
-/// Tells the fields of caches of a network's document whose elements are misspelled, and so aren't read.
-pub(crate) fn tell_unread_fields(story: &mut Story, network: &Value) {
+/// Writes the fields of caches of a network's document whose elements are misspelled, and so aren't read.
+pub(crate) fn write_unread_fields(story: &mut Story, network: &Value) {
     for device in items_member(network, "devices") {
-        tell_fields(story, device);
+        write_fields(story, device);
     }
 }

@@ -6,8 +6,8 @@ use fx_config::{Cache, CollectingProcess, ExportingProcess, SelectionProcess};
 use fx_plan::Plan;
 use fx_topology::{NamedLink, NetworkDevice};
 
-/// Tells the destinations of an exporting process that have no link.
-fn tell_destinations(
+/// Writes the destinations of an exporting process that have no link.
+fn write_destinations(
     story: &mut Story,
     links: &[NamedLink],
     device: &Name,
@@ -15,7 +15,7 @@ fn tell_destinations(
 ) {
     for destination in process.destinations.as_slice() {
         if link_from(links, device, &process.name, &destination.name).is_none() {
-            tell_lost(
+            write_lost(
                 story,
                 device.as_str(),
                 process.name.as_str(),
@@ -25,8 +25,8 @@ fn tell_destinations(
     }
 }
 
-/// Tells that a destination has no link.
-fn tell_lost<'x>(story: &mut Story, device: &'x str, process: &'x str, destination: &'x str) {
+/// Writes that a destination has no link.
+fn write_lost<'x>(story: &mut Story, device: &'x str, process: &'x str, destination: &'x str) {
     story.text_quoted("destination ", destination);
     story.text_quoted(" of exporting process ", process);
     story.text(" of ");
@@ -34,7 +34,7 @@ fn tell_lost<'x>(story: &mut Story, device: &'x str, process: &'x str, destinati
     story.sentence(" has no link: what it is sent is lost");
 }
 
-/// Whether a selection process hands packets to the cache of this name.
+/// Returns whether a selection process hands packets to the cache of this name.
 fn feeds(process: &SelectionProcess, name: &Name) -> bool {
     match &process.cache {
         Some(cache) => cache == name,
@@ -42,7 +42,7 @@ fn feeds(process: &SelectionProcess, name: &Name) -> bool {
     }
 }
 
-/// Whether one of these selection processes hands packets to the cache of this name.
+/// Returns whether one of these selection processes hands packets to the cache of this name.
 fn is_fed(processes: &[SelectionProcess], name: &Name) -> bool {
     for process in processes {
         if feeds(process, name) {
@@ -52,25 +52,25 @@ fn is_fed(processes: &[SelectionProcess], name: &Name) -> bool {
     false
 }
 
-/// Tells that a cache is fed by nothing.
-fn tell_empty<'x>(story: &mut Story, device: &'x Name, cache: &'x Cache) {
+/// Writes that a cache is fed by nothing.
+fn write_empty<'x>(story: &mut Story, device: &'x Name, cache: &'x Cache) {
     story.text_quoted("no selection process feeds cache ", cache.name.as_str());
     story.text(" of ");
     story.sentence(device.as_str());
 }
 
-/// Tells the caches of a device that no selection process feeds.
-fn tell_caches(story: &mut Story, device: &NetworkDevice) {
+/// Writes the caches of a device that no selection process feeds.
+fn write_caches(story: &mut Story, device: &NetworkDevice) {
     let processes = device.config.selection_processes.as_slice();
     for cache in device.config.caches.as_slice() {
         if !is_fed(processes, &cache.name) {
-            tell_empty(story, &device.name, cache);
+            write_empty(story, &device.name, cache);
         }
     }
 }
 
-/// Tells something by its kind and name, and what of it leads nowhere.
-fn tell_end<'x>(
+/// Writes something by its kind and name, and what of it leads nowhere.
+fn write_end<'x>(
     story: &mut Story,
     kind: &'static str,
     name: &'x Name,
@@ -84,18 +84,18 @@ fn tell_end<'x>(
     story.sentence(words);
 }
 
-/// Tells the points and selection processes of a device by which no packet is metered.
-fn tell_unmetered(story: &mut Story, device: &NetworkDevice) {
+/// Writes the points and selection processes of a device by which no packet is metered.
+fn write_unmetered(story: &mut Story, device: &NetworkDevice) {
     for point in device.config.observation_points.as_slice() {
         if point.selection_processes.as_slice().is_empty() {
             let words = " has no selection process, so nothing there is metered";
-            tell_end(story, "observation point", &point.name, &device.name, words);
+            write_end(story, "observation point", &point.name, &device.name, words);
         }
     }
     for process in device.config.selection_processes.as_slice() {
         if process.cache.is_none() {
             let words = " has no cache, so what it selects isn't metered";
-            tell_end(
+            write_end(
                 story,
                 "selection process",
                 &process.name,
@@ -106,37 +106,37 @@ fn tell_unmetered(story: &mut Story, device: &NetworkDevice) {
     }
 }
 
-/// Tells the caches of a device whose records go nowhere.
-fn tell_unexported(story: &mut Story, device: &NetworkDevice) {
+/// Writes the caches of a device whose records go nowhere.
+fn write_unexported(story: &mut Story, device: &NetworkDevice) {
     for cache in device.config.caches.as_slice() {
         if cache.exporting_processes.as_slice().is_empty() {
             let words = " has no exporting process, so its records are lost";
-            tell_end(story, "cache", &cache.name, &device.name, words);
+            write_end(story, "cache", &cache.name, &device.name, words);
         }
     }
 }
 
-/// Tells the caches of a device that have no flow key.
-fn tell_keyless(story: &mut Story, device: &NetworkDevice) {
+/// Writes the caches of a device that have no flow key.
+fn write_keyless(story: &mut Story, device: &NetworkDevice) {
     for cache in device.config.caches.as_slice() {
         if cache.layout.parts().is_empty() {
-            let words = " has no flow key (isFlowKey), so its records tell no packets apart";
-            tell_end(story, "cache", &cache.name, &device.name, words);
+            let words = " has no flow key (isFlowKey), so its records don't distinguish packets";
+            write_end(story, "cache", &cache.name, &device.name, words);
         }
     }
 }
 
-/// Tells the aggregations of a collecting process whose records go nowhere.
-fn tell_unsent(story: &mut Story, device: &NetworkDevice, process: &CollectingProcess) {
+/// Writes the aggregations of a collecting process whose records go nowhere.
+fn write_unsent(story: &mut Story, device: &NetworkDevice, process: &CollectingProcess) {
     for aggregation in process.aggregations.as_slice() {
         if aggregation.exporting_processes.as_slice().is_empty() {
             let words = " has no exporting process, so its records are lost";
-            tell_end(story, "aggregation", &aggregation.name, &device.name, words);
+            write_end(story, "aggregation", &aggregation.name, &device.name, words);
         }
     }
 }
 
-/// Whether a link leads to a collecting process of a device.
+/// Returns whether a link leads to a collecting process of a device.
 fn is_linked(links: &[NamedLink], device: &Name, process: &Name) -> bool {
     for link in links {
         if link.to_device == *device && link.to_process == *process {
@@ -146,12 +146,12 @@ fn is_linked(links: &[NamedLink], device: &Name, process: &Name) -> bool {
     false
 }
 
-/// Tells the collecting processes of a device to which no link leads, and their aggregations whose records go nowhere.
-fn tell_collecting(story: &mut Story, links: &[NamedLink], device: &NetworkDevice) {
+/// Writes the collecting processes of a device to which no link leads, and their aggregations whose records go nowhere.
+fn write_collecting(story: &mut Story, links: &[NamedLink], device: &NetworkDevice) {
     for process in device.config.collecting_processes.as_slice() {
         if !is_linked(links, &device.name, &process.name) {
             let words = " has no link that leads to it";
-            tell_end(
+            write_end(
                 story,
                 "collecting process",
                 &process.name,
@@ -159,27 +159,27 @@ fn tell_collecting(story: &mut Story, links: &[NamedLink], device: &NetworkDevic
                 words,
             );
         }
-        tell_unsent(story, device, process);
+        write_unsent(story, device, process);
     }
 }
 
-/// Tells what of a device leads nowhere, and what nothing feeds.
-fn tell_device(story: &mut Story, links: &[NamedLink], device: &NetworkDevice) {
-    tell_unmetered(story, device);
-    tell_caches(story, device);
-    tell_unexported(story, device);
-    tell_keyless(story, device);
+/// Writes what of a device leads nowhere, and what nothing feeds.
+fn write_device(story: &mut Story, links: &[NamedLink], device: &NetworkDevice) {
+    write_unmetered(story, device);
+    write_caches(story, device);
+    write_unexported(story, device);
+    write_keyless(story, device);
     for process in device.config.exporting_processes.as_slice() {
-        tell_destinations(story, links, &device.name, process);
+        write_destinations(story, links, &device.name, process);
     }
-    tell_collecting(story, links, device);
+    write_collecting(story, links, device);
 }
 
-/// Tells the observation points, selection processes, caches, destinations and aggregations of a network that lead
+/// Writes the observation points, selection processes, caches, destinations and aggregations of a network that lead
 /// nowhere, and the caches and collecting processes that nothing feeds.
-pub(crate) fn tell_unused(story: &mut Story, plan: &Plan) {
+pub(crate) fn write_unused(story: &mut Story, plan: &Plan) {
     let network = plan.network();
     for device in network.devices.as_slice() {
-        tell_device(story, network.links.as_slice(), device);
+        write_device(story, network.links.as_slice(), device);
     }
 }

@@ -1,8 +1,8 @@
 //! What is wrong with a value that isn't allowed, and which values are.
-use crate::elements::{element_of, tell_element};
+use crate::elements::{element_of, write_element};
 use crate::members::one_required;
 use crate::pointers::{last_member, text_member};
-use crate::spelling::{tell_forms, tell_spelling, tell_values};
+use crate::spelling::{write_forms, write_spelling, write_values};
 use crate::story::Story;
 use fx_elements::{Element, by_name, width};
 use serde_json::Value;
@@ -17,8 +17,8 @@ const WHOLE: [&str; 6] = [
     "ieEnterpriseNumber",
 ];
 
-/// Which values a member may have, of a network's document or of a traffic declaration, where that can be said in a few
-/// words.
+/// Returns which values a member may have, of a network's document or of a traffic declaration, where that can be said
+/// in a few words.
 fn words_allowed(member: &str, is_network: bool) -> &'static str {
     if WHOLE.contains(&member) {
         return "a whole number from 0 to 4294967295";
@@ -37,21 +37,21 @@ fn words_allowed(member: &str, is_network: bool) -> &'static str {
     }
 }
 
-/// Tells which values a member may have.
-pub(crate) fn tell_allowed(story: &mut Story, member: &str, is_network: bool) {
+/// Writes which values a member may have.
+pub(crate) fn write_allowed(story: &mut Story, member: &str, is_network: bool) {
     let words = words_allowed(member, is_network);
     if !words.is_empty() {
         story.text("allowed there: ");
         story.sentence(words);
     } else if !is_network {
-        tell_region_forms(story, member);
+        write_region_forms(story, member);
     }
 }
 
-/// Tells how the values of a member of a region are written.
-fn tell_region_forms(story: &mut Story, member: &str) {
+/// Writes how the values of a member of a region are written.
+fn write_region_forms(story: &mut Story, member: &str) {
     if let Element::OnAxis(axis) = by_name(member) {
-        tell_forms(story, axis);
+        write_forms(story, axis);
     }
 }
 
@@ -68,22 +68,22 @@ fn name_words(text: &str) -> Option<&'static str> {
     }
 }
 
-/// Tells why a text is no name, if it is none.
-fn tell_name(story: &mut Story, text: &str) {
+/// Writes why a text is no name, if it is none.
+fn write_name(story: &mut Story, text: &str) {
     if let Some(words) = name_words(text) {
         story.sentence(words);
     }
 }
 
-/// Tells what is wrong with the text of a member that isn't one of a few words.
-fn tell_text(story: &mut Story, member: &str, text: &str, is_network: bool) {
+/// Writes what is wrong with the text of a member that isn't one of a few words.
+fn write_text(story: &mut Story, member: &str, text: &str, is_network: bool) {
     match by_name(member) {
-        Element::OnAxis(axis) if !is_network => tell_values(story, axis, text),
-        _ => tell_name(story, text),
+        Element::OnAxis(axis) if !is_network => write_values(story, axis, text),
+        _ => write_name(story, text),
     }
 }
 
-/// Whether a value is a number of octets that a field may have.
+/// Returns whether a value is a number of octets that a field may have.
 fn is_length(value: &Value) -> bool {
     match value.as_u64() {
         Some(octets) => 0 < octets && octets < 0x1_0000,
@@ -91,8 +91,8 @@ fn is_length(value: &Value) -> bool {
     }
 }
 
-/// Tells how many octets the element of a field has.
-fn tell_octets(story: &mut Story, field: &Value) {
+/// Writes how many octets the element of a field has.
+fn write_octets(story: &mut Story, field: &Value) {
     let octets = match element_of(field) {
         Element::OnAxis(axis) => u64::from(width(axis) / 8),
         Element::OctetDeltaCount | Element::PacketDeltaCount => 8,
@@ -102,8 +102,8 @@ fn tell_octets(story: &mut Story, field: &Value) {
     story.end_line();
 }
 
-/// Tells those of several members, of which one may be there, that are.
-fn tell_several(story: &mut Story, object: &Value, names: &'static [&'static str]) {
+/// Writes those of several members, of which one may be there, that are.
+fn write_several(story: &mut Story, object: &Value, names: &'static [&'static str]) {
     let mut separator = "only one of these may be there: ";
     for name in names {
         if object.get(*name).is_some() {
@@ -115,7 +115,7 @@ fn tell_several(story: &mut Story, object: &Value, names: &'static [&'static str
     story.end_line();
 }
 
-/// Whether more than one of these members are there.
+/// Returns whether more than one of these members are there.
 fn are_several(object: &Value, names: &'static [&'static str]) -> bool {
     let mut found = false;
     for name in names {
@@ -129,17 +129,17 @@ fn are_several(object: &Value, names: &'static [&'static str]) -> bool {
     false
 }
 
-/// Tells what is wrong with an object that names an element and a value of it.
-fn tell_match(story: &mut Story, object: &Value) {
-    if !tell_element(story, object, true) {
+/// Writes what is wrong with an object that names an element and a value of it.
+fn write_match(story: &mut Story, object: &Value) {
+    if !write_element(story, object, true) {
         return;
     }
     if let Some(text) = text_member(object, "value") {
-        tell_spelling(story, element_of(object), text);
+        write_spelling(story, element_of(object), text);
     }
 }
 
-/// Whether two fields of a key are of one axis.
+/// Returns whether two fields of a key are of one axis.
 fn is_same_axis(one: &Value, other: &Value) -> bool {
     match (element_of(one), element_of(other)) {
         (
@@ -150,7 +150,7 @@ fn is_same_axis(one: &Value, other: &Value) -> bool {
     }
 }
 
-/// Whether one of these fields of a key is of the axis of another.
+/// Returns whether one of these fields of a key is of the axis of another.
 fn has_same_axis(fields: &[Value], other: &Value) -> bool {
     for field in fields {
         if is_same_axis(field, other) {
@@ -160,9 +160,9 @@ fn has_same_axis(fields: &[Value], other: &Value) -> bool {
     false
 }
 
-/// Tells what is wrong with a field of a key, behind these fields.
-fn tell_field(story: &mut Story, field: &Value, earlier: &[Value]) {
-    if !tell_element(story, field, true) {
+/// Writes what is wrong with a field of a key, after these fields.
+fn write_field(story: &mut Story, field: &Value, earlier: &[Value]) {
+    if !write_element(story, field, true) {
         return;
     }
     let is_axis = matches!(element_of(field), Element::OnAxis(_));
@@ -178,48 +178,48 @@ fn tell_field(story: &mut Story, field: &Value, earlier: &[Value]) {
     }
 }
 
-/// Tells what is wrong with the fields of a key.
-fn tell_key(story: &mut Story, fields: &[Value]) {
+/// Writes what is wrong with the fields of a key.
+fn write_key(story: &mut Story, fields: &[Value]) {
     for place in 0..fields.len() {
-        tell_field(story, &fields[place], &fields[..place]);
+        write_field(story, &fields[place], &fields[..place]);
     }
 }
 
-/// The value in which the one at a pointer stands.
+/// Returns the value in which the one at a pointer stands.
 fn value_above<'a>(document: &'a Value, pointer: &str) -> Option<&'a Value> {
     let (above, _) = pointer.rsplit_once('/')?;
     document.pointer(above)
 }
 
-/// Tells what is wrong with an object at a pointer that isn't allowed.
-fn tell_object(story: &mut Story, document: &Value, pointer: &str, object: &Value) {
+/// Writes what is wrong with an object at a pointer that isn't allowed.
+fn write_object(story: &mut Story, document: &Value, pointer: &str, object: &Value) {
     let member = last_member(pointer);
     let choice = one_required(member);
     if are_several(object, choice) {
-        tell_several(story, object, choice);
+        write_several(story, object, choice);
         return;
     }
     match member {
-        "filterMatch" | "match" => tell_match(story, object),
+        "filterMatch" | "match" => write_match(story, object),
         "cacheField" => {
-            let _of_axis = tell_element(story, object, false);
+            let _of_axis = write_element(story, object, false);
         }
         "report" => {
             if let Some(Value::Array(fields)) = object.get("key") {
-                tell_key(story, fields.as_slice());
+                write_key(story, fields.as_slice());
             }
         }
         "key" => {
             if let Some(Value::Array(fields)) = value_above(document, pointer) {
-                tell_key(story, fields.as_slice());
+                write_key(story, fields.as_slice());
             }
         }
         _ => {}
     }
 }
 
-/// Tells what is wrong with a value at a pointer that isn't allowed, and which values are.
-pub(crate) fn tell_wrong(
+/// Writes what is wrong with a value at a pointer that isn't allowed, and which values are.
+pub(crate) fn write_wrong(
     story: &mut Story,
     document: &Value,
     pointer: &str,
@@ -229,14 +229,14 @@ pub(crate) fn tell_wrong(
     let member = last_member(pointer);
     if words_allowed(member, is_network).is_empty() {
         match value {
-            Value::Object(_) => tell_object(story, document, pointer, value),
-            Value::String(text) => tell_text(story, member, text.as_str(), is_network),
+            Value::Object(_) => write_object(story, document, pointer, value),
+            Value::String(text) => write_text(story, member, text.as_str(), is_network),
             _ => {}
         }
         return;
     }
     match value_above(document, pointer) {
-        Some(field) if member == "ieLength" && is_length(value) => tell_octets(story, field),
-        _ => tell_allowed(story, member, is_network),
+        Some(field) if member == "ieLength" && is_length(value) => write_octets(story, field),
+        _ => write_allowed(story, member, is_network),
     }
 }

@@ -1,7 +1,7 @@
 //! What sees a region's packets along a path.
-use crate::crossings::tell_numbered;
+use crate::crossings::write_numbered;
 use crate::names::{entry_named, selection_process};
-use crate::sending::tell_sending;
+use crate::sending::write_sending;
 use crate::story::Story;
 use fx_base::{entry_at, entry_numbered};
 use fx_boxes::Region;
@@ -20,8 +20,8 @@ fn overlap_words(region: &Region, selection: &Selection) -> &'static str {
     }
 }
 
-/// Tells where the records of a selection process's cache go.
-fn tell_cache(story: &mut Story, plan: &Plan, device: &NetworkDevice, process: &SelectionProcess) {
+/// Writes where the records of a selection process's cache go.
+fn write_cache(story: &mut Story, plan: &Plan, device: &NetworkDevice, process: &SelectionProcess) {
     let Some(name) = &process.cache else {
         story.sentence(" and has no cache");
         return;
@@ -29,7 +29,7 @@ fn tell_cache(story: &mut Story, plan: &Plan, device: &NetworkDevice, process: &
     story.text_quoted(", cache ", name.as_str());
     if let Some(cache) = entry_named(device.config.caches.as_slice(), name) {
         story.text(": ");
-        tell_sending(
+        write_sending(
             story,
             plan,
             device,
@@ -53,8 +53,8 @@ struct Crossed<'a> {
     number: u64,
 }
 
-/// Tells what a selection process does with the packets.
-fn tell_selection<'x>(
+/// Writes what a selection process does with the packets.
+fn write_selection<'x>(
     story: &mut Story,
     crossed: &Crossed<'_>,
     device: &NetworkDevice,
@@ -62,15 +62,15 @@ fn tell_selection<'x>(
     process: &'x SelectionProcess,
     selection: &Selection,
 ) {
-    tell_numbered(story, crossed.plan, crossed.number, crossed.crossing);
+    write_numbered(story, crossed.plan, crossed.number, crossed.crossing);
     story.text_quoted(": observation point ", point.name.as_str());
     story.text_quoted(", selection process ", process.name.as_str());
     story.text(overlap_words(crossed.region, selection));
-    tell_cache(story, crossed.plan, device, process)
+    write_cache(story, crossed.plan, device, process)
 }
 
-/// Tells what a point's selection processes do with the packets.
-fn tell_selections(
+/// Writes what a point's selection processes do with the packets.
+fn write_selections(
     story: &mut Story,
     crossed: &Crossed<'_>,
     device: &NetworkDevice,
@@ -79,13 +79,13 @@ fn tell_selections(
 ) {
     for place in 0..selections.len() {
         if let Some(process) = selection_process(&device.config, point, place as u64 + 1) {
-            tell_selection(story, crossed, device, point, process, &selections[place]);
+            write_selection(story, crossed, device, point, process, &selections[place]);
         }
     }
 }
 
-/// Tells what the points of a device do with the packets, and answers whether one sees them and selects.
-fn tell_points(
+/// Writes what the points of a device do with the packets, and answers whether one sees them and selects.
+fn write_points(
     story: &mut Story,
     crossed: &Crossed<'_>,
     device: &NetworkDevice,
@@ -96,7 +96,7 @@ fn tell_points(
         let point = &points[place];
         if point.watches(crossed.crossing) {
             if let Some(named) = entry_at(device.config.observation_points.as_slice(), place) {
-                tell_selections(story, crossed, device, named, point.selections());
+                write_selections(story, crossed, device, named, point.selections());
                 seen = seen || !point.selections().is_empty();
             }
         }
@@ -104,22 +104,22 @@ fn tell_points(
     seen
 }
 
-/// Tells what sees the packets at a crossing.
-fn tell_at(story: &mut Story, crossed: &Crossed<'_>) {
+/// Writes what sees the packets at a crossing.
+fn write_at(story: &mut Story, crossed: &Crossed<'_>) {
     let number = crossed.crossing.device;
     let Some(device) = entry_numbered(crossed.plan.network().devices.as_slice(), number) else {
         return;
     };
     let points = crossed.plan.net().points_of(number);
-    if tell_points(story, crossed, device, points) {
+    if write_points(story, crossed, device, points) {
         return;
     }
-    tell_numbered(story, crossed.plan, crossed.number, crossed.crossing);
+    write_numbered(story, crossed.plan, crossed.number, crossed.crossing);
     story.sentence(": no observation point with a selection process sees it");
 }
 
-/// Tells, for each crossing of a path, what sees the packets of a region there and where their records go.
-pub(crate) fn tell_watching(
+/// Writes, for each crossing of a path, what sees the packets of a region there and where their records go.
+pub(crate) fn write_watching(
     story: &mut Story,
     plan: &Plan,
     region: &Region,
@@ -132,6 +132,6 @@ pub(crate) fn tell_watching(
             crossing: &crossings[place],
             number: place as u64 + 1,
         };
-        tell_at(story, &crossed);
+        write_at(story, &crossed);
     }
 }

@@ -1,7 +1,7 @@
 //! In which ways records come to the report, by what happened to them step by step.
 use std::alloc::{AllocError, Global};
 
-/// What happens to a record at a step, which is told by its place from 0.
+/// What happens to a record at a step, which is written by its place from 0.
 #[derive(Clone, Copy)]
 pub(crate) enum Event {
     /// It goes into the held record of this number.
@@ -36,13 +36,14 @@ fn add(numbers: &mut [usize], place: usize, more: usize) {
     }
 }
 
-/// Whether the number at a place isn't 0.
+/// Returns whether the number at a place isn't 0.
 pub(crate) fn is_some_at(numbers: &[usize], place: usize) -> bool {
     numbers.get(place).copied().unwrap_or(0) > 0
 }
 
 impl Ways {
-    /// What these events come to, of so many steps and so many held records. What is behind an event is known before it.
+    /// Returns what these events come to, of so many steps and so many held records. What is after an event is known
+    /// before it.
     pub(crate) fn of(
         alloc: Global,
         events: &[Event],
@@ -51,8 +52,8 @@ impl Ways {
     ) -> Result<Ways, AllocError> {
         let mut steps = vec![in alloc; 0usize; steps]?;
         let mut records = vec![in alloc; 0usize; records]?;
-        for behind in 0..events.len() {
-            match events[events.len() - 1 - behind] {
+        for after in 0..events.len() {
+            match events[events.len() - 1 - after] {
                 Event::Taken { step, into } => {
                     let more = usize::from(is_some_at(records.as_slice(), into));
                     add(steps.as_mut_slice(), step, more);

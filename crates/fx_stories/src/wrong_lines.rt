@@ -6,7 +6,7 @@ use crate::story::Story;
 use fx_base::Line;
 use fx_elements::{Axis, is_word, read_u64};
 
-/// What may stand for a value of an axis, in words.
+/// Returns what may stand for a value of an axis, in words.
 pub(crate) fn value_words(axis: Axis) -> &'static str {
     match axis {
         Axis::Source | Axis::Destination => ", an address of IPv4, as 192.0.2.1",
@@ -18,7 +18,7 @@ pub(crate) fn value_words(axis: Axis) -> &'static str {
     }
 }
 
-/// What may stand for a word of a form, in words.
+/// Returns what may stand for a word of a form, in words.
 fn due_words(form: &str, due: &str) -> &'static str {
     match axis_of(form, due) {
         Some(axis) => value_words(axis),
@@ -26,7 +26,7 @@ fn due_words(form: &str, due: &str) -> &'static str {
     }
 }
 
-/// The same for a word that stands for no value of an axis.
+/// Returns the same for a word that stands for no value of an axis.
 fn number_words(form: &str, due: &str) -> &'static str {
     match due {
         "CHOICES" => ", each of which is n or a number",
@@ -44,7 +44,7 @@ fn number_words(form: &str, due: &str) -> &'static str {
     }
 }
 
-/// What is strange about a word, wherever it stands.
+/// Returns what is strange about a word, wherever it stands.
 fn strange_word(word: &[u8]) -> Option<&'static str> {
     if word.is_empty() {
         Some("the line is empty")
@@ -82,7 +82,7 @@ pub(crate) fn nearest<'a>(forms: &[&'static str], line: &'a [u8]) -> Fit<'a> {
     best
 }
 
-/// What is strange about a line that has an empty word, in words.
+/// Returns what is strange about a line that has an empty word, in words.
 fn blank_words(line: &[u8]) -> &'static str {
     if line.is_empty() {
         "the line is empty"
@@ -95,8 +95,8 @@ fn blank_words(line: &[u8]) -> &'static str {
     }
 }
 
-/// Tells the first word of a line that is wrong, but for a line that begins a file of another kind.
-pub(crate) fn tell_word(story: &mut Story, fit: &Fit<'_>, line: &[u8]) {
+/// Writes the first word of a line that is wrong, but for a line that begins a file of another kind.
+pub(crate) fn write_word(story: &mut Story, fit: &Fit<'_>, line: &[u8]) {
     if foreign_words(line).is_some() {
         return;
     }
@@ -122,8 +122,8 @@ pub(crate) fn tell_word(story: &mut Story, fit: &Fit<'_>, line: &[u8]) {
     story.end_line();
 }
 
-/// Tells what may stand behind so many words of a line that are as a form wants them.
-pub(crate) fn tell_due(story: &mut Story, form: &'static str, fit: &Fit<'_>) {
+/// Writes what may follow so many words of a line that are as a form wants them.
+pub(crate) fn write_due(story: &mut Story, form: &'static str, fit: &Fit<'_>) {
     story.text("due there: ");
     match fit.due {
         Some(due) => {
@@ -136,18 +136,18 @@ pub(crate) fn tell_due(story: &mut Story, form: &'static str, fit: &Fit<'_>) {
     story.sentence(form);
 }
 
-/// Tells the forms that a line may have that is as they want it up to so many words.
-pub(crate) fn tell_forms(story: &mut Story, forms: &[&'static str], line: &[u8], words: u64) {
+/// Writes the forms that a line may have that is as they want it up to so many words.
+pub(crate) fn write_forms(story: &mut Story, forms: &[&'static str], line: &[u8], words: u64) {
     for form in forms {
         let fit = fit_of(form, line);
         if !form.is_empty() && fit.words == words {
-            tell_due(story, form, &fit);
+            write_due(story, form, &fit);
         }
     }
 }
 
-/// Tells all forms of lines.
-fn tell_all_forms(story: &mut Story, forms: &[&'static str]) {
+/// Writes all forms of lines.
+fn write_all_forms(story: &mut Story, forms: &[&'static str]) {
     let mut separator = "no line begins so; the forms of lines: ";
     for form in forms {
         if !form.is_empty() {
@@ -159,34 +159,34 @@ fn tell_all_forms(story: &mut Story, forms: &[&'static str]) {
     story.end_line();
 }
 
-/// What is wrong with a line that has a right form, in words.
+/// Returns what is wrong with a line that has a right form, in words.
 fn misplaced_words(kind: Kind, line: &Line<'_>) -> &'static str {
     match kind {
         _ if !line.ended => "no line feed ends the line",
         Kind::Run(_) => {
-            "the line has a right form, and isn't in its place: behind the first line come packets, of which a \
+            "the line has a right form, and isn't in its place: after the first line come packets, of which a \
 refutation has one, then steps, of which that has at most 1,000,000, then end, and nothing behind it"
         }
         _ => "the line has a right form, and isn't in its place",
     }
 }
 
-/// Tells the first word of a line that is wrong, and which form the line should have. Answers whether it may be another
-/// kind of line that is due: where no word behind the first is wrong.
-pub(crate) fn tell_wrong_line(story: &mut Story, kind: Kind, line: &Line<'_>) -> bool {
+/// Writes the first word of a line that is wrong, and which form the line should have. Answers whether it may be
+/// another kind of line that is due: where no word after the first is wrong.
+pub(crate) fn write_wrong_line(story: &mut Story, kind: Kind, line: &Line<'_>) -> bool {
     let forms = forms_of(kind);
     let fit = nearest(&forms, line.bytes);
     if fit.is_whole() {
         story.sentence(misplaced_words(kind, line));
         return line.ended;
     }
-    tell_word(story, &fit, line.bytes);
+    write_word(story, &fit, line.bytes);
     if fit.words == 0 {
-        tell_all_forms(story, &forms);
-        tell_text(story, line.bytes);
+        write_all_forms(story, &forms);
+        write_text(story, line.bytes);
         return true;
     }
-    tell_forms(story, &forms, line.bytes, fit.words);
+    write_forms(story, &forms, line.bytes, fit.words);
     if is_of_other_version(kind, line.bytes) {
         story.sentence(
             "it is a packet's line of the other version than the one that the first line says",
@@ -195,7 +195,7 @@ pub(crate) fn tell_wrong_line(story: &mut Story, kind: Kind, line: &Line<'_>) ->
     false
 }
 
-/// What a text is that begins with this line, in words.
+/// Returns what a text is that begins with this line, in words.
 fn text_words(line: &[u8]) -> Option<&'static str> {
     if line.starts_with(b"once-certificate ") {
         Some("it begins a certificate, which once check takes")
@@ -214,7 +214,7 @@ fn text_words(line: &[u8]) -> Option<&'static str> {
     }
 }
 
-/// What an answer of the program is that begins with this line, in words.
+/// Returns what an answer of the program is that begins with this line, in words.
 pub(crate) fn answer_words(line: &[u8]) -> Option<&'static str> {
     if line.starts_with(b"unknown ") {
         Some(
@@ -236,15 +236,15 @@ pub(crate) fn answer_words(line: &[u8]) -> Option<&'static str> {
     }
 }
 
-/// Tells what a text is that begins with this line, where that can be told.
-fn tell_text(story: &mut Story, line: &[u8]) {
+/// Writes what a text is that begins with this line, where that can be written.
+fn write_text(story: &mut Story, line: &[u8]) {
     if let Some(words) = text_words(line) {
         story.sentence(words);
     }
 }
 
-/// Tells what the first line of a text should be, which begins with this name, and what it begins.
-pub(crate) fn tell_wrong_header(
+/// Writes what the first line of a text should be, which begins with this name, and what it begins.
+pub(crate) fn write_wrong_header(
     story: &mut Story,
     name: &'static str,
     condition: &'static str,
@@ -265,9 +265,9 @@ pub(crate) fn tell_wrong_header(
         story.sentence(blank_words(line.bytes));
     } else if line.bytes.starts_with(name.as_bytes()) {
         story.sentence(
-            "behind the name stand one blank and the version, 2 or 1, and nothing more; other versions aren't known here",
+            "after the name come one blank and the version, 2 or 1, and nothing more; other versions aren't known here",
         );
     } else {
-        tell_text(story, line.bytes);
+        write_text(story, line.bytes);
     }
 }

@@ -1,11 +1,13 @@
 //! Networks audited over octets.
 use crate::audit_texts::{NETWORK, TRAFFIC, ending};
-use crate::check::traffic_of;
+use crate::check::{TWO_METERS, traffic_of};
 use crate::plan::plan_of;
 use crate::refute::{EXEMPT, WITH_FALLBACK};
 use fx_audit::{Answer, audit_bytes, confirm_bytes};
 use fx_base::{Fuse, LineReader, Octets, Room};
-use fx_search::{Found, Unwatched, Watch, search};
+use fx_elements::Axis;
+use fx_leaf::Judgement;
+use fx_search::{Found, Limit, Outcome, Unwatched, Watch, search, search_outcome};
 use std::alloc::Global;
 use std::process::Abort;
 
@@ -124,6 +126,56 @@ fn finds_a_certificate(rt: HostRuntime) {
     let mut told = LastLines { lines: 0 };
     let found = search(rt.alloc(), &plan, &traffic, 2, &mut told).expect(&rt, "a certificate");
     assert!(rt; (items(found) == 4) & (told.lines == 1));
+}
+
+/// A path through a meter of the sources below 128.0.0.0 alone.
+const PATH_THROUGH_ONE: &str =
+    r#"{"classes":[{"name":"web","paths":[[{"device":"m1","interface":"eth0","direction":"ingress"}]]}]}"#;
+
+/// Two paths through one meter.
+const TWO_PATHS: &str =
+    r#"{"classes":[{"name":"web","region":{"sourceIPv4Address":"10.0.0.0/8"},"paths":[[{"device":"m1","interface":"eth0","direction":"ingress"}],[{"device":"m1","interface":"eth0","direction":"ingress"}]]}]}"#;
+
+/// Whether a search refutes that packets of the only class and path are counted, which are never counted from this source
+/// on.
+fn refutes_from(outcome: &Outcome, source: u128) -> bool {
+    match outcome {
+        Outcome::Refuted(refuted) => {
+            let least = refuted.region.corner();
+            (refuted.class == 1)
+                & (refuted.path == 1)
+                & (refuted.judgement == Judgement::Never)
+                & (least.get(Axis::Source) == source)
+                & (least == refuted.refutation.packet().fields)
+        }
+        _ => false,
+    }
+}
+
+#[test]
+fn knows_what_it_refutes(rt: HostRuntime) {
+    let plan = plan_of(&rt, rt.alloc(), TWO_METERS);
+    let traffic = traffic_of(&rt, rt.alloc(), PATH_THROUGH_ONE, &plan);
+    let found = search_outcome(rt.alloc(), &plan, &traffic, 3, &mut Unwatched);
+    assert!(rt; refutes_from(&found.expect(&rt, "an outcome"), 2147483648));
+}
+
+/// Whether a search ends where a certificate needs a line more, for a path of the only class.
+fn needs_a_line(outcome: &Outcome, path: u64) -> bool {
+    match outcome {
+        Outcome::TooLarge(reached) => {
+            (reached.limit == Limit::Lines) & (reached.class == 1) & (reached.path == path)
+        }
+        _ => false,
+    }
+}
+
+#[test]
+fn knows_its_limit(rt: HostRuntime) {
+    let plan = plan_of(&rt, rt.alloc(), NETWORK);
+    let traffic = traffic_of(&rt, rt.alloc(), TWO_PATHS, &plan);
+    let found = search_outcome(rt.alloc(), &plan, &traffic, 1, &mut Unwatched);
+    assert!(rt; needs_a_line(&found.expect(&rt, "an outcome"), 2));
 }
 
 /// How an audit ends where its devices fail at these calls, the network, the traffic and the answer, or at none for 0.

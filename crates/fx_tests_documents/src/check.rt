@@ -3,7 +3,11 @@ use crate::audit_texts::{NETWORK, TRAFFIC};
 use crate::documents::is_told;
 use crate::plan::plan_of;
 use fx_base::{Fault, LineReader, Octets};
-use fx_check::{certificates_are_accepted, certificates_count_once, check, wrong_leaves_are_told};
+use fx_cert::Version;
+use fx_check::{
+    Checker, Due, certificates_are_accepted, certificates_count_once, check, wrong_leaves_are_told,
+};
+use fx_elements::Axis;
 use fx_plan::Plan;
 use fx_traffic::{Traffic, read_traffic};
 use serde_json::Value;
@@ -11,7 +15,7 @@ use std::alloc::Global;
 use std::process::Abort;
 
 /// A meter of the sources below 128.0.0.0, a collector, and a meter of the sources from there on.
-const TWO_METERS: &str = r#"{"devices":[{"name":"m1","config":{"ietf-ipfix-psamp:ipfix":{
+pub(crate) const TWO_METERS: &str = r#"{"devices":[{"name":"m1","config":{"ietf-ipfix-psamp:ipfix":{
 "observationPoint":[{"name":"op","observationDomainId":0,"ifName":["eth0"],"selectionProcess":["sp"]}],
 "selectionProcess":[{"name":"sp","selector":[{"name":"a","filterMatch":{"ieName":"sourceIPv4Prefix","value":"0.0.0.0/1"}}],"cache":"ca"}],
 "cache":[{"name":"ca","timeoutCache":{"cacheLayout":{"cacheField":[
@@ -170,6 +174,77 @@ const CHECKED: [(&str, &str, &[(&str, &str)]); 6] = [
 fn checks_certificates(rt: HostRuntime) {
     for (network, traffic, certificates) in &CHECKED {
         check_all(&rt, rt.alloc(), *network, *traffic, *certificates);
+    }
+}
+
+/// Whether the tree is due of a region at depth 1 of the only path, whose sources begin with this one.
+fn is_part_due(due: &Due<'_>, source: u128) -> bool {
+    match due {
+        Due::Tree {
+            version: Version::One,
+            target,
+            region,
+            depth,
+        } => {
+            (target.class == 1)
+                & (target.path == 1)
+                & (*depth == 1)
+                & (region.corner().get(Axis::Source) == source)
+        }
+        _ => false,
+    }
+}
+
+#[test]
+fn stands_before_the_refused_line(rt: HostRuntime) {
+    let plan = plan_of(&rt, rt.alloc(), TWO_METERS);
+    let traffic = traffic_of(&rt, rt.alloc(), PATH_THROUGH_TWO, &plan);
+    let mut checker = Checker::new(rt.alloc(), &plan, &traffic).expect(&rt, "a checker");
+    let (certificate, wanted) = OF_PATH_THROUGH_TWO[1];
+    let mut lines = LineReader::new(rt.alloc(), Octets::new(certificate.as_bytes())).expect(
+        &rt, "a reader",
+    );
+    assert!(rt; matches!(checker.due(), Due::Header));
+    let answer = checker.take_all(&mut lines);
+    assert!(rt;
+        is_told(&rt, rt.alloc(), answer, wanted)
+            & (lines.number() == 5)
+            & (lines.line().bytes == b"L 2 1 1".as_slice())
+            & is_part_due(&checker.due(), 2147483647)
+    );
+}
+
+/// Certificates of two classes, the second exempt, and the class of the line that is due where they end.
+const DUE_CLASSES: [(&str, u64); 2] = [
+    (
+        "once-certificate 2
+",
+        1,
+    ),
+    (
+        "once-certificate 2
+class 1 path 1
+L 1 1 1
+",
+        2,
+    ),
+];
+
+#[test]
+fn waits_for_the_next_class(rt: HostRuntime) {
+    let plan = plan_of(&rt, rt.alloc(), NETWORK);
+    let traffic = traffic_of(&rt, rt.alloc(), EXEMPT_UNSEEN, &plan);
+    for (certificate, class) in &DUE_CLASSES {
+        let mut checker = Checker::new(rt.alloc(), &plan, &traffic).expect(&rt, "a checker");
+        let mut lines = LineReader::new(rt.alloc(), Octets::new(certificate.as_bytes())).expect(
+            &rt, "a reader",
+        );
+        assert!(rt; checker.take_all(&mut lines).is_err());
+        let is_due = match checker.due() {
+            Due::Target(target) => target.class == *class,
+            _ => false,
+        };
+        assert!(rt; is_due, "{certificate}");
     }
 }
 

@@ -44,6 +44,8 @@ mod plan;
 #[cfg(test)]
 mod refute;
 #[cfg(test)]
+mod run_stories;
+#[cfg(test)]
 mod running;
 #[cfg(test)]
 mod selectors;

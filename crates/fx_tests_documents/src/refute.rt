@@ -4,13 +4,15 @@ use crate::audit_texts::{NETWORK, TRAFFIC};
 use crate::check::traffic_of;
 use crate::documents::fault_told;
 use crate::plan::plan_of;
-use fx_base::{Fault, LineReader, Octets, Room};
+use fx_base::{Fault, LineReader, Octets, Place, Room};
 use fx_collect::Totals;
+use fx_machine::{State, StepWatch};
 use fx_plan::Plan;
 use fx_refute::{
-    confirm, put_refutation, read_refutation, refutations_have_one_text, refutations_refute,
+    confirm, confirm_watched, put_refutation, read_refutation, refutations_have_one_text,
+    refutations_refute,
 };
-use fx_run_text::run_lines_have_one_text;
+use fx_run_text::{Step, run_lines_have_one_text};
 use fx_traffic::Traffic;
 use std::alloc::Global;
 use std::process::Abort;
@@ -25,6 +27,68 @@ fn refuted(
     let mut lines = LineReader::new(alloc, Octets::new(text.as_bytes()))?;
     let refutation = read_refutation(alloc, &mut lines)?;
     confirm(alloc, plan, traffic, &refutation)
+}
+
+/// What an observer was shown of a run: the number of a refused step, from 1, the number of its refusal, and whether it was shown
+/// the last state. All 0 and false where it was shown nothing.
+#[derive(Drop)]
+struct Shown {
+    step: u64,
+    why: u16,
+    is_last: bool,
+}
+
+impl StepWatch for Shown {
+    fn on_refused_step(&mut self, _state: &State<'_>, _step: &Step, number: u64, fault: &Fault) {
+        self.step = number;
+        self.why = fault.number;
+    }
+
+    fn on_last_state(&mut self, state: &State<'_>) {
+        self.is_last = state.packets().len() == 1;
+    }
+}
+
+/// Confirms a refutation, as [`refuted`] does, before an observer.
+fn refuted_before(
+    alloc: Global,
+    plan: &Plan,
+    traffic: &Traffic,
+    text: &str,
+    shown: &mut Shown,
+) -> Result<(Totals, Totals), Fault> {
+    let mut lines = LineReader::new(alloc, Octets::new(text.as_bytes()))?;
+    let refutation = read_refutation(alloc, &mut lines)?;
+    confirm_watched(alloc, plan, traffic, &refutation, shown)
+}
+
+/// Returns the line of a fault, or 0 where it has none.
+fn line_of(fault: &Fault) -> u64 {
+    match &fault.place {
+        Place::Line(line) => *line,
+        _ => 0,
+    }
+}
+
+/// Whether an observer is shown the step that is refused, or the last state, where a refutation is refused for it.
+fn is_shown(alloc: Global, plan: &Plan, traffic: &Traffic, text: &str) -> bool {
+    let mut shown = Shown {
+        step: 0,
+        why: 0,
+        is_last: false,
+    };
+    let answer = refuted_before(alloc, plan, traffic, text, &mut shown);
+    let (number, line) = match &answer {
+        Ok(_) => (0, 0),
+        Err(fault) => (fault.number, line_of(fault)),
+    };
+    match number {
+        503 => shown.step.saturating_add(2) == line
+            && matches!(shown.why, 851..=853)
+            && !shown.is_last,
+        504 | 505 => shown.step == 0 && shown.is_last,
+        _ => shown.step == 0 && !shown.is_last,
+    }
 }
 
 /// How many keys and unassigned records a run has, and how many keys its packet.
@@ -54,6 +118,7 @@ fn confirm_all(
     for (text, wanted) in refutations {
         let answer = refuted(alloc, &plan, &traffic, *text);
         assert!(rt; told(rt, alloc, answer).as_str() == *wanted, "{text}");
+        assert!(rt; is_shown(alloc, &plan, &traffic, *text), "{text}");
     }
 }
 

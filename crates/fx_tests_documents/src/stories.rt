@@ -1,11 +1,16 @@
-//! What fixed answers are about, told in sentences and by name.
+//! Answers explained in sentences.
 use crate::answers::ends;
 use crate::audit_texts::{NETWORK, TRAFFIC};
+use crate::check::traffic_of;
+use crate::plan::plan_of;
 use fx_base::{Fault, LineReader, Octets, Room};
+use fx_check::Checker;
+use fx_pcap::Capture;
+use fx_session::Session;
 use fx_stories::{
-    put_capture_words, put_certificate_words, put_collection_words, put_document_words,
-    put_lint_words, put_refutation_story, put_replay_words, put_run_words, put_schedule_words,
-    put_stream_words, put_totals_words,
+    Documents, StreamWatch, packet_in_line, put_left_out, put_network_notes, put_refused_capture,
+    put_refused_certificate, put_refused_message, put_refused_metering, put_refused_network,
+    put_refused_packet, put_refused_totals, put_refused_traffic, put_text_line, put_traffic_notes,
 };
 use std::alloc::Global;
 use std::process::Abort;
@@ -22,39 +27,24 @@ collecting process \"cp\" of c1 is the report's
 ";
 
 /// A run that ends before its record leaves the cache.
-const REFUTATION: &[u8] = b"once-refutation 1
+pub(crate) const REFUTATION: &[u8] = b"once-refutation 1
 packet 1 1 10.0.0.1 192.0.2.1 6 1000 80 0 100
 cross 1 1 n
 end
 ";
 
-const REFUTATION_STORY: &[u8] =
+pub(crate) const REFUTATION_STORY: &[u8] =
     b"the packet: class 1 \"web\", path 1, source 10.0.0.1, destination 192.0.2.1, protocol 6, sport 1000, dport 80, version 4, 0 in all other fields, octets 100
 1. packet 1 crosses m1 eth0 ingress: observation point \"op\", selection process \"sp\": cache \"ca\" holds a record of it
 no record reaches the report
 ";
 
-/// A run in which a record leaves a position at which none stands.
-const RUN: &[u8] = b"once-run 1
-packet 1 1 10.0.0.1 192.0.2.1 6 1000 80 0 100
-cross 1 1 n
-expire cache 1 1 2
-end
-";
-
-const RUN_WORDS: &[u8] = b"line 4: expire cache 1 1 2
+pub(crate) const RUN_WORDS: &[u8] = b"line 4: expire cache 1 1 2
 this step can't be made; what it asks for: a record leaves cache \"ca\" of m1: exporting process \"ex\" sends to destination \"d\", which is linked to collecting process \"cp\" of c1
 before this step the number of records there is 1; positions count from 1, and none is at 2
 ";
 
-/// A run whose record stays in the cache.
-const RUN_NOT_COMPLETE: &[u8] = b"once-run 1
-packet 1 1 10.0.0.1 192.0.2.1 6 1000 80 0 100
-cross 1 1 n
-end
-";
-
-const REPLAY_WORDS: &[u8] =
+pub(crate) const REPLAY_WORDS: &[u8] =
     b"cache \"ca\" of m1 still holds records: 1; the first leaves by a line expire cache 1 1 1 CHOICES
 ";
 
@@ -74,8 +64,7 @@ const COLLECTION_WORDS: &[u8] =
     b"The stream is empty: it has no message. Look whether it is the right file, and whether the exporter sends to this address and port; some send their first message, with the templates, only after minutes.
 ";
 
-const DOCUMENT_WORDS: &[u8] = b"file: net.json
-missing: devices
+const DOCUMENT_WORDS: &[u8] = b"missing: devices
 missing: links
 missing: report
 it has no members
@@ -85,9 +74,8 @@ it has no members
 const UNSEEN_TRAFFIC: &[u8] =
     br#"{"classes":[{"name":"web","paths":[[{"device":"m1","interface":"eth9","direction":"ingress"}]]}]}"#;
 
-const LINT_WORDS: &[u8] =
-    b"class 1 \"web\", path 1: at m1 eth9 ingress the interface is at no observation point; those of the device are at \"eth0\"
-class 1 \"web\", path 1: no observation point sees any of its crossings
+const LINT_WORDS: &[u8] = b"class 1 \"web\", path 1: no observation point sees any of its crossings
+class 1 \"web\", path 1: at m1 eth9 ingress the interface is at no observation point; those of the device are at \"eth0\"
 ";
 
 /// The first octets of a capture, which are no message.
@@ -97,7 +85,7 @@ const NO_STREAM: &[u8] = &[
 
 const STREAM_WORDS: &[u8] =
     b"message 1 of the stream, from octet 0 on: its first octets are d4 c3 b2 a1 02 00 04 00 00 00 00 00 00 00 00 00
-These octets begin a capture (pcap). The messages stand inside of its packets: docs/GUIDE.md tells how to take them out.
+These octets begin a capture (pcap). The messages stand inside of its packets: docs/GUIDE.md says how to take them out.
 ";
 
 /// The first octets of a capture of another format.
@@ -112,7 +100,13 @@ const EMPTY_CAPTURE: &[u8] = &[
     0xd4, 0xc3, 0xb2, 0xa1, 2, 0, 4, 0, 0, 0, 0, 0, 0, 0, 0, 0, 0, 0, 4, 0, 101, 0, 0, 0,
 ];
 
-const SCHEDULE_WORDS: &[u8] = b"line 1: next 1 2\n";
+const SCHEDULE_WORDS: &[u8] = b"line 1: next 1 2
+no packet is left in the capture, of which lines next before this one read 0; frames that aren't of IP, or are broken, are passed over; take the line out
+";
+
+/// A packet outside of its class.
+const PACKET: &[u8] =
+    b"packet 1 1 11.0.0.1 192.0.2.1 6 1000 80 0 4 0:0:0:0:0:0:0:0 0:0:0:0:0:0:0:0 100";
 
 /// The lines of a text.
 fn lines_of<'a>(rt: &impl Abort, alloc: Global, text: &'a [u8]) -> LineReader<Octets<'a>> {
@@ -120,138 +114,140 @@ fn lines_of<'a>(rt: &impl Abort, alloc: Global, text: &'a [u8]) -> LineReader<Oc
 }
 
 #[test]
-fn tells_streams(rt: HostRuntime) {
-    let mut stream = Octets::new(NO_STREAM);
+fn explains_a_message_that_is_refused(rt: HostRuntime) {
+    let mut watch = StreamWatch::new(rt.alloc(), true);
+    let mut session = Session::new(rt.alloc()).expect(&rt, "memory");
+    let is_refused = session.feed_watched(NO_STREAM, &mut watch).is_err();
     let mut octets = [0u8; 1000];
     let mut room = Room::new(&mut octets);
-    let fault = Fault::at_octet(611, 0);
-    let is_put = ends(
-        put_stream_words(rt.alloc(), &mut stream, &fault, &mut room),
-        0,
-    );
-    assert!(rt; is_put & (room.octets() == STREAM_WORDS));
+    let is_put = ends(put_refused_message(&watch, &mut room), 0);
+    assert!(rt; is_refused & is_put & (room.octets() == STREAM_WORDS));
 }
 
 #[test]
-fn tells_captures(rt: HostRuntime) {
-    let mut capture = Octets::new(NO_CAPTURE);
+fn explains_a_stream_without_messages(rt: HostRuntime) {
+    let watch = StreamWatch::new(rt.alloc(), true);
+    let mut octets = [0u8; 1000];
+    let mut room = Room::new(&mut octets);
+    let is_put = ends(put_left_out(&watch, &mut room), 0);
+    assert!(rt; is_put & (room.octets() == COLLECTION_WORDS));
+}
+
+#[test]
+fn explains_captures(rt: HostRuntime) {
     let mut octets = [0u8; 1000];
     let mut room = Room::new(&mut octets);
     let fault = Fault::at_octet(701, 0);
-    let is_put = ends(
-        put_capture_words(rt.alloc(), &mut capture, &fault, &mut room),
-        0,
-    );
-    assert!(rt; is_put & (room.octets() == CAPTURE_WORDS));
+    let answer = put_refused_capture(rt.alloc(), NO_CAPTURE, &fault, &mut room);
+    assert!(rt; ends(answer, 0) & (room.octets() == CAPTURE_WORDS));
 }
 
 #[test]
-fn tells_schedules(rt: HostRuntime) {
+fn explains_schedules(rt: HostRuntime) {
+    let plan = plan_of(&rt, rt.alloc(), NETWORK);
+    let traffic = traffic_of(&rt, rt.alloc(), TRAFFIC, &plan);
     let mut lines = lines_of(&rt, rt.alloc(), b"next 1 2\n");
+    let _there = lines.advance();
+    let capture = Capture::new(rt.alloc(), Octets::new(EMPTY_CAPTURE)).expect(&rt, "a capture");
     let mut octets = [0u8; 1000];
     let mut room = Room::new(&mut octets);
-    let answer = put_schedule_words(
+    let answer = put_refused_metering(
         rt.alloc(),
-        NETWORK.as_bytes(),
-        TRAFFIC.as_bytes(),
-        &mut lines,
-        Octets::new(EMPTY_CAPTURE),
-        &Fault::at_line(803, 1),
+        &Documents::new(&plan, &traffic),
+        &lines.line(),
+        &capture.frame(),
+        capture.packets(),
+        capture.skipped(),
+        &Fault::at_line(802, 1),
         &mut room,
     );
-    assert!(rt; ends(answer, 0) & room.octets().starts_with(SCHEDULE_WORDS));
+    assert!(rt; ends(answer, 0) & (room.octets() == SCHEDULE_WORDS));
 }
 
 #[test]
-fn tells_certificates(rt: HostRuntime) {
+fn explains_certificates(rt: HostRuntime) {
+    let plan = plan_of(&rt, rt.alloc(), NETWORK);
+    let traffic = traffic_of(&rt, rt.alloc(), TRAFFIC, &plan);
+    let mut checker = Checker::new(rt.alloc(), &plan, &traffic).expect(&rt, "a checker");
     let mut lines = lines_of(&rt, rt.alloc(), CERTIFICATE);
+    let fault = match checker.take_all(&mut lines) {
+        Ok(()) => Fault::at_line(0, 0),
+        Err(fault) => fault,
+    };
     let mut octets = [0u8; 1000];
     let mut room = Room::new(&mut octets);
-    let answer = put_certificate_words(
+    let answer = put_refused_certificate(
         rt.alloc(),
-        NETWORK.as_bytes(),
-        TRAFFIC.as_bytes(),
-        &mut lines,
-        &Fault::at_line(410, 3),
+        &Documents::new(&plan, &traffic),
+        &checker.due(),
+        Some(&lines.line()),
+        &fault,
         &mut room,
     );
     assert!(rt; ends(answer, 0) & (room.octets() == CERTIFICATE_WORDS));
 }
 
 #[test]
-fn tells_refutations(rt: HostRuntime) {
-    let mut lines = lines_of(&rt, rt.alloc(), REFUTATION);
+fn explains_lines_of_texts(rt: HostRuntime) {
     let mut octets = [0u8; 1000];
     let mut room = Room::new(&mut octets);
-    let (network, traffic) = (NETWORK.as_bytes(), TRAFFIC.as_bytes());
-    let answer = put_refutation_story(rt.alloc(), network, traffic, &mut lines, &mut room);
-    assert!(rt; ends(answer, 0) & (room.octets() == REFUTATION_STORY));
+    let answer = put_text_line(rt.alloc(), b"", 1, 854, &mut room);
+    assert!(rt; ends(answer, 0) & (room.octets() == b"the text is empty\n".as_slice()));
 }
 
 #[test]
-fn tells_runs(rt: HostRuntime) {
-    let mut lines = lines_of(&rt, rt.alloc(), RUN);
+fn explains_packets(rt: HostRuntime) {
+    let plan = plan_of(&rt, rt.alloc(), NETWORK);
+    let traffic = traffic_of(&rt, rt.alloc(), TRAFFIC, &plan);
+    let Some(packet) = packet_in_line(rt.alloc(), PACKET) else {
+        return;
+    };
     let mut octets = [0u8; 1000];
     let mut room = Room::new(&mut octets);
-    let answer = put_run_words(
-        rt.alloc(),
-        NETWORK.as_bytes(),
-        TRAFFIC.as_bytes(),
-        &mut lines,
-        &Fault::bare(853),
-        &mut room,
-    );
-    assert!(rt; ends(answer, 0) & (room.octets() == RUN_WORDS));
+    let documents = Documents::new(&plan, &traffic);
+    let answer = put_refused_packet(rt.alloc(), &documents, 2, &packet, &mut room);
+    assert!(rt; ends(answer, 0) & room.octets().starts_with(b"packet 1: source 11.0.0.1,"));
 }
 
 #[test]
-fn tells_replays(rt: HostRuntime) {
-    let mut lines = lines_of(&rt, rt.alloc(), RUN_NOT_COMPLETE);
+fn explains_totals(rt: HostRuntime) {
+    let plan = plan_of(&rt, rt.alloc(), NETWORK);
+    let key = plan.net().report_layout();
+    let fault = Fault::at_line(861, 2);
     let mut octets = [0u8; 1000];
     let mut room = Room::new(&mut octets);
-    let (network, traffic) = (NETWORK.as_bytes(), TRAFFIC.as_bytes());
-    let answer = put_replay_words(rt.alloc(), network, traffic, &mut lines, &mut room);
-    assert!(rt; ends(answer, 0) & (room.octets() == REPLAY_WORDS));
-}
-
-#[test]
-fn tells_totals(rt: HostRuntime) {
-    let mut lines = lines_of(&rt, rt.alloc(), TOTALS);
-    let mut octets = [0u8; 1000];
-    let mut room = Room::new(&mut octets);
-    let answer = put_totals_words(
-        rt.alloc(),
-        NETWORK.as_bytes(),
-        &mut lines,
-        &Fault::at_line(861, 2),
-        &mut room,
-    );
+    let answer = put_refused_totals(rt.alloc(), Some(key), TOTALS, &fault, &mut room);
     assert!(rt; ends(answer, 0) & (room.octets() == TOTALS_WORDS));
 }
 
 #[test]
-fn tells_collections(rt: HostRuntime) {
-    let mut stream = Octets::new(b"");
+fn explains_documents(rt: HostRuntime) {
     let mut octets = [0u8; 1000];
     let mut room = Room::new(&mut octets);
-    let answer = put_collection_words(rt.alloc(), NETWORK.as_bytes(), &mut stream, &mut room);
-    assert!(rt; ends(answer, 0) & (room.octets() == COLLECTION_WORDS));
-}
-
-#[test]
-fn tells_documents(rt: HostRuntime) {
-    let mut octets = [0u8; 1000];
-    let mut room = Room::new(&mut octets);
-    let fault = Fault::bare(103);
-    let answer = put_document_words(rt.alloc(), "net.json", b"{}", None, &fault, &mut room);
+    let answer = put_refused_network(rt.alloc(), b"{}", &Fault::bare(103), &mut room);
     assert!(rt; ends(answer, 0) & (room.octets() == DOCUMENT_WORDS));
 }
 
 #[test]
-fn tells_lints(rt: HostRuntime) {
+fn explains_declarations(rt: HostRuntime) {
+    let plan = plan_of(&rt, rt.alloc(), NETWORK);
     let mut octets = [0u8; 1000];
     let mut room = Room::new(&mut octets);
-    let network = NETWORK.as_bytes();
-    let answer = put_lint_words(rt.alloc(), network, Some(UNSEEN_TRAFFIC), &mut room);
-    assert!(rt; ends(answer, 0) & (room.octets() == LINT_WORDS));
+    let answer = put_refused_traffic(rt.alloc(), b"{}", &plan, &Fault::bare(103), &mut room);
+    assert!(rt;
+        ends(answer, 0) & (room.octets() == b"missing: classes\nit has no members\n".as_slice())
+    );
+}
+
+#[test]
+fn notes_what_is_read_in_silence(rt: HostRuntime) {
+    let plan = plan_of(&rt, rt.alloc(), NETWORK);
+    let unseen = str::from_utf8(UNSEEN_TRAFFIC).unwrap_or("");
+    let traffic = traffic_of(&rt, rt.alloc(), unseen, &plan);
+    let mut octets = [0u8; 1000];
+    let mut room = Room::new(&mut octets);
+    let of_network = put_network_notes(rt.alloc(), NETWORK.as_bytes(), &plan, &mut room);
+    let documents = Documents::new(&plan, &traffic);
+    let answer = put_traffic_notes(rt.alloc(), UNSEEN_TRAFFIC, &documents, &mut room);
+    assert!(rt; ends(of_network, 0) & ends(answer, 0) & (room.octets() == LINT_WORDS));
 }

@@ -28,6 +28,8 @@ mod session_addresses;
 #[cfg(test)]
 mod session_hostile;
 #[cfg(test)]
+mod session_watched;
+#[cfg(test)]
 mod words;
 #[cfg(test)]
 mod wrong_runs;

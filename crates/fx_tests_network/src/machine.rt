@@ -5,7 +5,8 @@ use fx_base::{Fault, LineReader, Octets};
 use fx_boxes::{Fields, Region};
 use fx_elements::Axis;
 use fx_machine::{
-    State, choices_are_free, complete_runs_exist, six_axes_suffice, unnamed_axes_mean_nothing,
+    State, Tally, choices_are_free, complete_runs_exist, six_axes_suffice,
+    unnamed_axes_mean_nothing,
 };
 use fx_run_text::{Choices, Step, read_packets};
 use fx_tables::{
@@ -109,16 +110,86 @@ fn number(answer: Result<(), Fault>) -> u16 {
     }
 }
 
-/// Makes each step of a run: whether it wasn't complete before any, and none can be made twice.
+/// Returns the number of the fault with which a state would refuse a step, or 0.
+fn foreseen(state: &State<'_>, step: &Step) -> u16 {
+    match state.effects(step) {
+        Ok(_) => 0,
+        Err(fault) => fault.number,
+    }
+}
+
+/// Makes each step of a run: whether it wasn't complete before any, none can be made twice, and each refusal was foreseen.
 fn are_made(state: &mut State<'_>, steps: &[Step]) -> bool {
     let mut made = true;
     for step in steps {
         let complete = state.complete();
+        let is_foreseen = foreseen(state, step) == 0 && state.acts(step).is_ok();
         let first = number(state.step(step));
+        let refusal = foreseen(state, step);
         let again = number(state.step(step));
-        made = made && !complete && first == 0 && matches!(again, 851..=853);
+        made = made
+            && !complete
+            && is_foreseen
+            && first == 0
+            && again == refusal
+            && matches!(again, 851..=853);
     }
     made
+}
+
+/// Returns how many records are in the first cache and on the first link, and how many of two crossings are to come.
+fn counts(state: &State<'_>) -> [u64; 3] {
+    let to_come = u64::from(state.is_to_come(1, 1)) + u64::from(state.is_to_come(2, 1));
+    [state.records_held(0), state.records_on(0), to_come]
+}
+
+/// Whether a record is at the first position of the first cache, and on the first link.
+fn first_records(state: &State<'_>) -> [bool; 2] {
+    [
+        state.record_held(0, 1).is_some(),
+        state.record_on(0, 1).is_some(),
+    ]
+}
+
+/// Returns how many links a step sends a record on, which position the first record that is taken in joins, and whether the
+/// record is counted.
+fn effects_of(state: &State<'_>, step: &Step) -> (usize, Option<u64>, Tally) {
+    match state.effects(step) {
+        Ok(effects) => {
+            let joined = match effects.taken() {
+                [first, ..] => first.joined,
+                [] => None,
+            };
+            (effects.links().len(), joined, effects.tally())
+        }
+        Err(_) => (usize::MAX, None, Tally::Untallied),
+    }
+}
+
+/// Whether a state says what it holds and what each step of a run does.
+fn is_queried(net: &Net, classes: &Classes, rt: &impl Abort, alloc: Global) -> bool {
+    let packets = vec![in alloc; packet(1, 1); 2].expect(rt, "memory");
+    let mut state = State::open(alloc, net, classes, packets).expect(rt, "a run");
+    let all = steps(rt, alloc);
+    let [first, second, third, last] = all.as_slice() else {
+        return false;
+    };
+    let mut told = state.packets().len() == 2
+        && state.classes().as_slice().len() == 1
+        && counts(&state) == [0, 0, 2]
+        && effects_of(&state, first) == (0, None, Tally::Untallied);
+    told = told
+        && number(state.step(first)) == 0
+        && counts(&state) == [1, 0, 1]
+        && effects_of(&state, second) == (0, Some(1), Tally::Untallied);
+    told = told
+        && number(state.step(second)) == 0
+        && first_records(&state) == [true, false]
+        && effects_of(&state, third) == (1, None, Tally::Untallied);
+    told && number(state.step(third)) == 0
+        && counts(&state) == [0, 1, 0]
+        && first_records(&state) == [false, true]
+        && effects_of(&state, last) == (0, None, Tally::Counted)
 }
 
 /// Whether the complete run has counted both packets in one total.
@@ -235,6 +306,7 @@ fn looks_up_and_runs_and_refuses_packets_of_no_class(rt: HostRuntime) {
             & is_exempt(&classes, &exempt)
             & is_unopened(&net, &classes, &rt, rt.alloc())
             & is_run(&net, &classes, &rt, rt.alloc())
+            & is_queried(&net, &classes, &rt, rt.alloc())
             & is_run_as_read(&net, &classes, &rt, rt.alloc())
     );
 }

@@ -8,7 +8,7 @@ use std::alloc::Global;
 use std::process::Abort;
 
 /// A template of a source address and the two counters (id 256), and a record: 10.0.0.1, 2 packets, 300 octets.
-const FIRST: [u8; 60] = [
+pub(crate) const FIRST: [u8; 60] = [
     0x00, 0x0a, 0x00, 0x3c, 0, 0, 0, 2, 0, 0, 0, 0, 0, 0, 0, 0, // the header
     0x00, 0x02, 0x00, 0x14, 0x01, 0x00, 0x00, 0x03, // the template
     0x00, 0x08, 0x00, 0x04, 0x00, 0x01, 0x00, 0x08, 0x00, 0x02, 0x00, 0x08, // its fields
@@ -16,13 +16,13 @@ const FIRST: [u8; 60] = [
 ];
 
 /// The next message: 10.0.0.1, 1 packet, 300 octets.
-const SECOND: [u8; 40] = [
+pub(crate) const SECOND: [u8; 40] = [
     0x00, 0x0a, 0x00, 0x28, 0, 0, 0, 3, 0, 0, 0, 1, 0, 0, 0, 0, // the header
     0x01, 0x00, 0x00, 0x18, 10, 0, 0, 1, 0, 0, 0, 0, 0, 0, 0x01, 0x2c, 0, 0, 0, 0, 0, 0, 0, 1,
 ];
 
 /// A template with an interface name of variable length, an options template, and data of both, with padding.
-const OPTIONS: [u8; 107] = [
+pub(crate) const OPTIONS: [u8; 107] = [
     0x00, 0x0a, 0x00, 0x6b, 0, 0, 0, 0, 0, 0, 0, 0, 0, 0, 0, 0, // the header
     0x00, 0x02, 0x00, 0x18, 0x01, 0x00, 0x00, 0x04, // a template
     0x00, 0x08, 0x00, 0x04, 0x00, 0x52, 0xff, 0xff, 0x00, 0x01, 0x00, 0x08, 0x00, 0x02, 0x00, 0x08,
@@ -34,7 +34,7 @@ const OPTIONS: [u8; 107] = [
 ];
 
 /// The template is withdrawn and declared anew, after a gap.
-const WITHDRAWN: [u8; 68] = [
+pub(crate) const WITHDRAWN: [u8; 68] = [
     0x00, 0x0a, 0x00, 0x44, 0, 0, 0, 0, 0, 0, 0, 5, 0, 0, 0, 0, // the header
     0x00, 0x02, 0x00, 0x08, 0x01, 0x00, 0x00, 0x00, // the withdrawal
     0x00, 0x02, 0x00, 0x14, 0x01, 0x00, 0x00, 0x03, // the new template
@@ -43,13 +43,13 @@ const WITHDRAWN: [u8; 68] = [
 ];
 
 /// A data set of a template that isn't there.
-const UNKNOWN: [u8; 24] = [
+pub(crate) const UNKNOWN: [u8; 24] = [
     0x00, 0x0a, 0x00, 0x18, 0, 0, 0, 0, 0, 0, 0, 6, 0, 0, 0, 0, // the header
     0x01, 0x02, 0x00, 0x08, 0, 0, 0, 0, // the set
 ];
 
 /// Another template under the id of the first one.
-const CHANGED: [u8; 36] = [
+pub(crate) const CHANGED: [u8; 36] = [
     0x00, 0x0a, 0x00, 0x24, 0, 0, 0, 3, 0, 0, 0, 1, 0, 0, 0, 0, // the header
     0x00, 0x02, 0x00, 0x14, 0x01, 0x00, 0x00, 0x03, // the template
     0x00, 0x08, 0x00, 0x04, 0x00, 0x02, 0x00, 0x08, 0x00, 0x01, 0x00, 0x08, // its fields

@@ -2,7 +2,7 @@
 use clap::error::ErrorKind;
 use fx_audit::Answer;
 use fx_base::{Fault, Room};
-use fx_cli::{finish, finish_unread, finish_words};
+use fx_cli::{finish, finish_arguments, finish_unread};
 use std::alloc::AllocError;
 use std::io;
 use std::test::Fail;
@@ -60,7 +60,7 @@ fn ends_for_want_of_memory(rt: HostRuntime) {
     let mut room = Room::new(&mut octets);
     let error = clap::Error::from(AllocError);
     assert!(rt; error.kind() == ErrorKind::OutOfMemory);
-    assert!(rt; finish_words(rt.alloc(), &error, &mut room) == 4);
+    assert!(rt; finish_arguments(rt.alloc(), &error, &mut room) == 4);
     assert!(rt; room.octets() == b"memory 900\n".as_slice());
 }
 
@@ -79,7 +79,7 @@ fn ends_unread_words(rt: HostRuntime) {
         (
             io::ErrorKind::InvalidData,
             6,
-            b"error: a word is no UTF-8 text\n\nwhat to do: Name each file in UTF-8: rename it, or name a link to it.\n",
+            b"error: an argument is not UTF-8 text\n\nwhat to do: Name each file in UTF-8: rename it, or name a link to it.\n",
         ),
     ] {
         assert!(rt; ends_unread(kind, status, text));

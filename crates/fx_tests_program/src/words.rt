@@ -1,6 +1,6 @@
 //! Words that name a call, and words that name none.
 use fx_base::Room;
-use fx_cli::{Call, finish_words, read_words};
+use fx_cli::{Call, finish_arguments, read_words};
 use std::alloc::{AllocError, Global};
 use std::test::Fail;
 
@@ -134,7 +134,7 @@ fn ends_words(alloc: Global, line: &str) -> Result<Option<(u8, bool)>, AllocErro
     Ok(match read_words(alloc, words.as_slice()) {
         Ok(_) => None,
         Err(error) => {
-            let status = finish_words(alloc, &error, &mut room);
+            let status = finish_arguments(alloc, &error, &mut room);
             Some((status, !room.octets().is_empty()))
         }
     })

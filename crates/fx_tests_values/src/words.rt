@@ -37,8 +37,8 @@ fn finds_words_by_number(rt: HostRuntime) {
 const WORDS: &[u8] = b"411
 wrong: A line follows the line `end`.
 usually: an empty line at the end of the text, two certificates in one file, or the sentences \
-that `once audit --words` writes after a certificate.
-what to do: Remove what follows `end` and its line feed, or audit again without --words.
+that `once audit --explain` writes after a certificate.
+what to do: Remove what follows `end` and its line feed, or audit again without --explain.
 see: FORMATS, a certificate
 wrong: The program was refused memory.
 usually: a limit of the system or of a container, or more flows, steps or documents at once than \

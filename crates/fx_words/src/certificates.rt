@@ -113,8 +113,8 @@ pub const CERTIFICATES: &[Row] = &[
         refusals::LINE_BEHIND_END,
         "A line follows the line `end`.",
         "an empty line at the end of the text, two certificates in one file, or the sentences \
-         that `once audit --words` writes after a certificate.",
-        "Remove what follows `end` and its line feed, or audit again without --words.",
+         that `once audit --explain` writes after a certificate.",
+        "Remove what follows `end` and its line feed, or audit again without --explain.",
         "FORMATS, a certificate",
     ),
     (

@@ -15,7 +15,7 @@ pub const DEVICES: &[Row] = &[
          encoding, an empty file, or another file in the document's place. A value more than 127 \
          levels deep and a number of some 309 digits or more are refused so too.",
         "Correct the text at that line and column, or at the end of the line before, or name \
-         the right file: --words prints the place, and what the file is if it is another one. \
+         the right file: --explain prints the place, and what the file is if it is another one. \
          `python3 -m json.tool FILE` prints the place too, but accepts NaN and Infinity, values \
          nested too deeply, numbers that are too large, and halves of surrogate pairs.",
         "RFC 8259, sections 2 and 8.1",

@@ -14,7 +14,7 @@ pub const REFUTATIONS: &[Row] = &[
         "a certificate instead of the refutation, which `once audit` writes too and `once \
          check` reads; an empty file, a run, a packet's line of another version than the first \
          line, a second packet, lines that end in CR and LF, the sentences of `once audit \
-         --words` after `end`, or more than 1,000,000 steps.",
+         --explain` after `end`, or more than 1,000,000 steps.",
         "Give a refutation that `once audit` has written, as it is: once-refutation 2, one packet, \
          its steps, `end`.",
         "FORMATS, a refutation",

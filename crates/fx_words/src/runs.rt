@@ -108,7 +108,7 @@ pub const RUNS: &[Row] = &[
     (
         refusals::TOTALS_FORM,
         "A text isn't that of totals of the network's report, or a line of it is out of order.",
-        "totals of another report, a refusal instead of totals, sentences of --words after \
+        "totals of another report, a refusal instead of totals, sentences of --explain after \
          them, a text that was cut off or edited, keys that don't ascend, or lines that end in \
          CR and LF.",
         "Give texts that once collect, run or replay wrote over networks with this report, as \

@@ -32,7 +32,7 @@ pub const TRAFFIC: &[Row] = &[
         "a misspelled name, or a traffic declaration that belongs to another network.",
         "Name a device of the network document, letter by letter. An interface isn't checked \
          so: a crossing at one that no observation point has is never metered, and `once lint \
-         --words` reports it, with the interfaces that there are.",
+         --explain` reports it, with the interfaces that there are.",
         "FORMATS, traffic",
     ),
     (

@@ -5,7 +5,7 @@ use Rattle.fx_cli.proofs.CallRefusals.{lines_refused}
 use Rattle.fx_cli.proofs.commands.sum.Goals as goal
 
 pub returns-clause-answers : goal.returns-clause-answers
-returns-clause-answers g c = (yes_of_lines IsSummed _ c.sum_bytes-answer.result None _ _ (at_beginning _ _ _ _ c.in_ok-lines.ensures.ok) c.sum_bytes-answer.ensures.ok, c.sum_bytes-answer.ensures.answers.1)
+returns-clause-answers g c = (yes_of_lines IsSummed _ c.sum_explained-answer.result None _ _ (at_beginning _ _ _ _ c.in_ok-lines.ensures.ok) c.sum_explained-answer.ensures.ok, c.sum_explained-answer.ensures.answers.1)
 
 pub returns-clause-refused : goal.returns-clause-refused
-returns-clause-refused g c = lines_refused IsRefusedSum _ _ None _ _ c.sum_bytes-answer.result (at_beginning _ _ _ _ c.in_ok-lines.ensures.ok) c.sum_bytes-answer.ensures.err
+returns-clause-refused g c = lines_refused IsRefusedSum _ _ None _ _ c.sum_explained-answer.result (at_beginning _ _ _ _ c.in_ok-lines.ensures.ok) c.sum_explained-answer.ensures.err

@@ -2,7 +2,7 @@ use Rattle.fx_cli.specs.Ending.{EndsWith}
 use Rattle.std.proofs.Common.{string_bytes}
 use Rattle.std.specs.IoError.{error_kind}
 use Rattle.fx_cli.specs.Arguments.{EndsByGivenArguments}
-use Rattle.fx_cli.specs.WordsEnding.{unread_status, unread_text}
+use Rattle.fx_cli.specs.ArgumentErrors.{unread_status, unread_text}
 use Rattle.fx_cli.proofs.AnswersGiven.{if_err_handed, if_ok_handed}
 use Rattle.fx_cli.proofs.running.answer.Goals as goal
 

@@ -1,5 +1,5 @@
 use Rattle.std.proofs.Common.{List, Some, None, refl, subst, string_bytes}
-use Rattle.fx_cli.specs.WordFlag.{IsFlagPlace}
+use Rattle.fx_cli.specs.OptionFlag.{IsFlagPlace}
 use Rattle.fx_cli.proofs.running.take_flag.Goals as goal
 
 pub returns-in-Some : goal.returns-in-Some

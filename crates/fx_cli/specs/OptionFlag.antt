@@ -1,0 +1,42 @@
+-- Options that every command takes: `--explain` and `--progress`.
+use Rattle.std.specs.Prelude.{◌≡◌, ◌⊎◌, ◌≤◌, ◌<◌, ◌+◌, ◌==◌, ◌&&◌, ◌++◌, ℕ, Bool, true, false, List, [], ◌∷◌, drop, length, take, Option, None, Some, codes, slice_get}
+use Rattle.std.specs.Str.{bytes_eq}
+use Rattle.clap.specs.Words.{Text}
+
+abbrev pub is_flag : Text → Text → Bool
+is_flag flag word = bytes_eq word flag
+
+abbrev pub is_last_flag : Text → Bool
+is_last_flag word = bytes_eq word (codes "--")
+
+-- none of the words behind the program's own name, up to a place, is the option or `--`
+abbrev pub IsUnmarked : {A : Type 0} → Text → (A → Text) → List A → ℕ → Type 0
+IsUnmarked {A} flag text_of words end =
+    (place : ℕ) (word : A) → 1 ≤ place → place < end → slice_get words place ≡ Some word → (is_flag flag (text_of word) ≡ false) × (is_last_flag (text_of word) ≡ false)
+
+-- where an option stands: behind the program's own name, the first of its kind, and before any `--`
+abbrev pub IsFlagPlace : {A : Type 0} → Text → (A → Text) → List A → Option ℕ → Type 0
+IsFlagPlace {A} flag text_of words (Some place) =
+    IsUnmarked flag text_of words place × (1 ≤ place) × ((word : A) × (slice_get words place ≡ Some word) × (is_flag flag (text_of word) ≡ true))
+IsFlagPlace {A} flag text_of words None =
+    (end : ℕ) × IsUnmarked flag text_of words end × ((length words ≤ end) ⊎ ((word : A) × (slice_get words end ≡ Some word) × (is_last_flag (text_of word) ≡ true)))
+
+-- the option is among the arguments and removed, once (`true`), or isn't, and they stay as they are (`false`)
+abbrev pub RemovesFlag : {A : Type 0} → Text → (A → Text) → List A → List A → Bool → Type 0
+RemovesFlag {A} flag text_of old new true = (place : ℕ) × IsFlagPlace flag text_of old (Some place) × (new ≡ take place old ++ drop (place + 1) old)
+RemovesFlag {A} flag text_of old new false = IsFlagPlace flag text_of old None × (new ≡ old)
+
+-- `--progress` is removed where it is among the arguments, and then `--explain`
+pub record RemovesOptions {A : Type 0} (text_of : A → Text) (given rest : List A) (explained progress : Bool) : Type 0 where
+  pub mid : List A
+  pub progress_is : RemovesFlag (codes "--progress") text_of given mid progress
+  pub explain_is : RemovesFlag (codes "--explain") text_of mid rest explained
+
+-- `--help` is added after the arguments (`true`), or nothing is (`false`)
+abbrev pub AddsHelp : {A : Type 0} → (A → Text) → List A → List A → Bool → Type 0
+AddsHelp {A} text_of old new true = (help : A) × (text_of help ≡ codes "--help") × (new ≡ old ++ help ∷ [])
+AddsHelp {A} text_of old new false = new ≡ old
+
+-- at a terminal, with no argument but the name of the program
+abbrev pub wants_help : {A : Type 0} → Bool → List A → Bool
+wants_help {A} on_terminal arguments = on_terminal && (length arguments == 1)

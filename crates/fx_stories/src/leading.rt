@@ -1,0 +1,124 @@
+//! Which collecting processes lead to the report.
+use fx_base::entry_at;
+use fx_plan::Plan;
+use fx_tables::Net;
+use fx_topology::NetworkDevice;
+use fx_walk::place_of;
+use std::alloc::{AllocError, Global};
+
+/// For each collecting process of a network's table, whether it is the report's or sends records on to one that leads
+/// there, whatever their keys.
+#[derive(Drop)]
+pub(crate) struct Leading {
+    processes: Vec<bool>,
+}
+
+/// Returns whether one of these links, by place from 0, leads to a collecting process that leads to the report.
+fn has_leading(net: &Net, leads: &[bool], links: &[Option<usize>]) -> bool {
+    for link in links {
+        let process = entry_at(net.links(), link.unwrap_or(usize::MAX)).copied();
+        if leads
+            .get(process.unwrap_or(usize::MAX))
+            .copied()
+            .unwrap_or(false)
+        {
+            return true;
+        }
+    }
+    false
+}
+
+/// Returns whether one of these exporting processes, by place from 0, sends to a collecting process that leads to the
+/// report.
+fn sends_on(net: &Net, leads: &[bool], exporters: &[usize]) -> bool {
+    for place in exporters {
+        if let Some(exporter) = entry_at(net.exporters(), *place) {
+            if has_leading(net, leads, exporter.destinations()) {
+                return true;
+            }
+        }
+    }
+    false
+}
+
+/// Returns whether the collecting process at a place sends records on to one that leads to the report, its own or those
+/// of its aggregations.
+fn leads_on(net: &Net, leads: &[bool], place: usize) -> bool {
+    let Some(process) = entry_at(net.processes(), place) else {
+        return false;
+    };
+    if sends_on(net, leads, process.exporters()) {
+        return true;
+    }
+    for aggregation in process.aggregations() {
+        if sends_on(net, leads, net.named_by(aggregation.holder())) {
+            return true;
+        }
+    }
+    false
+}
+
+/// Notes the collecting processes that send records on to those that lead to the report. Returns whether there was
+/// another one.
+fn note_more(net: &Net, leads: &mut Vec<bool>) -> bool {
+    let mut has_more = false;
+    for place in 0..leads.len() {
+        let is_known = leads.get(place).copied().unwrap_or(true);
+        if !is_known && leads_on(net, leads.as_slice(), place) {
+            if let Some(at) = leads.get_mut(place) {
+                *at = true;
+            }
+            has_more = true;
+        }
+    }
+    has_more
+}
+
+impl Leading {
+    /// Returns which collecting processes lead to the report.
+    ///
+    /// Fails where memory runs out.
+    pub(crate) fn of(alloc: Global, net: &Net) -> Result<Leading, AllocError> {
+        let count = net.processes().len();
+        let mut processes = vec![in alloc; false; count]?;
+        if let Some(at) = processes.get_mut(net.report()) {
+            *at = true;
+        }
+        for _round in 0..count {
+            if !note_more(net, &mut processes) {
+                return Ok(Leading { processes });
+            }
+        }
+        Ok(Leading { processes })
+    }
+
+    /// Returns whether the collecting process at a place of the network's table, from 0, leads to the report.
+    pub(crate) fn has(&self, place: usize) -> bool {
+        self.processes.get(place).copied().unwrap_or(false)
+    }
+
+    /// Returns the place of the first collecting process of a device, from 0, that leads to the report.
+    pub(crate) fn process_of(&self, plan: &Plan, device: &NetworkDevice) -> Option<usize> {
+        let at = place_of(plan.network().devices.as_slice(), &device.name)?;
+        let entry = entry_at(plan.net().devices(), at)?;
+        let processes = entry.processes();
+        for place in 0..processes.len() {
+            if self.has(processes[place]) {
+                return Some(place);
+            }
+        }
+        None
+    }
+
+    /// Returns whether a destination of a device is linked to a collecting process that leads to the report.
+    pub(crate) fn is_linked_from(&self, plan: &Plan, device: &NetworkDevice) -> bool {
+        let links = plan.network().links.as_slice();
+        for place in 0..links.len() {
+            let process = entry_at(plan.net().links(), place).copied();
+            if links[place].device == device.name && self.has(process.unwrap_or(usize::MAX)) {
+                return true;
+            }
+        }
+        false
+    }
+}
