@@ -12,16 +12,16 @@ _once()
     [[ $before == = ]] && before=${COMP_WORDS[COMP_CWORD-2]}
     [[ $current == = ]] && before=${COMP_WORDS[COMP_CWORD-1]} current=
     case $command in
-        replay) options="-h --help --words" files=(json json txt) ;;
-        collect) options="-h --help --words --progress" files=(json ipfix) ;;
-        check) options="-h --help --words" files=(json json txt) ;;
-        confirm) options="-h --help --words" files=(json json txt) ;;
-        audit) options="--limit -h --help --words --progress" files=(json json) ;;
-        run) options="--links -h --help --words --progress" files=(json json pcap txt) ;;
-        lint) options="-h --help --words" files=(json json) ;;
-        draw) options="-h --help --words" files=(json json txt) ;;
-        sum) options="-h --help --words" files=(json txt) ;;
-        explain) options="-h --help --words" files=(-) ;;
+        replay) options="-h --help --explain" files=(json json txt) ;;
+        collect) options="-h --help --explain --progress" files=(json ipfix) ;;
+        check) options="-h --help --explain" files=(json json txt) ;;
+        confirm) options="-h --help --explain" files=(json json txt) ;;
+        audit) options="--limit -h --help --explain --progress" files=(json json) ;;
+        run) options="--links -h --help --explain --progress" files=(json json pcap txt) ;;
+        lint) options="-h --help --explain" files=(json json) ;;
+        draw) options="-h --help --explain" files=(json json txt) ;;
+        sum) options="-h --help --explain" files=(json txt) ;;
+        explain) options="-h --help --explain" files=(-) ;;
         help) [[ $place -eq 0 ]] && COMPREPLY=($(compgen -W "replay collect check confirm audit run lint draw sum explain help" -- "$current")); return ;;
         *) COMPREPLY=($(compgen -W "replay collect check confirm audit run lint draw sum explain help -h --help -V --version" -- "$current")); return ;;
     esac

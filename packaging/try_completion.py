@@ -20,7 +20,7 @@ CASES = [
     (["help", "con"], ["confirm"]),
     (["audit", "--lim"], ["--limit"]),
     (["run", "--li"], ["--links"]),
-    (["check", "--w"], ["--words"]),
+    (["check", "--w"], ["--explain"]),
     (["collect", "--p"], ["--progress"]),
     (["check", "--p"], []),
     (["check", ""], ["below", "network.json", "traffic.json"]),

@@ -43,3 +43,15 @@ def module(name: str) -> Any:
 def once() -> str:
     """The program `once`: that of the variable ONCE, of the repository, or of the PATH."""
     return needed("once", os.environ.get("ONCE", "once"), TOP / "once")
+
+
+@pytest.fixture(scope="session")
+def demo(once: str, tmp_path_factory: pytest.TempPathFactory) -> Path:
+    """A folder with the reports of the examples and others."""
+    from report_pages import build
+
+    module("jinja2")
+    needed("dot")
+    folder = tmp_path_factory.mktemp("demo")
+    build(once, folder)
+    return folder

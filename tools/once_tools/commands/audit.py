@@ -16,6 +16,7 @@ from once_tools.model import Finding
 from once_tools.once_program import Run, find_once, run_once
 from once_tools.project import Project, read_project
 from once_tools.report import Report
+from once_tools.since import compared, states_before
 
 NAME = "audit"
 NOT_ALL = 7
@@ -23,6 +24,8 @@ FAILED = 5
 # Of the statuses of several pairs of documents, the first of these is the answer.
 WORST = [2, 4, FAILED, 6, 1, 3]
 ANSWERS = ("certificate.txt", "refutation.txt")
+# Documents with these statuses have classes that can be judged.
+JUDGED = (0, 1, 3)
 
 
 def add_parser(subparsers: Subparsers) -> None:
@@ -34,6 +37,8 @@ def add_parser(subparsers: Subparsers) -> None:
                "not everything was carried over.")
     add_import_options(parser)
     parser.add_argument("--once", metavar="PROGRAM", help="the program `once` (found on the PATH otherwise)")
+    parser.add_argument("--since", metavar="OLD", type=Path,
+                        help="the folder that an earlier audit wrote: say which classes are newly right or wrong, or counted elsewhere")
     parser.set_defaults(run=run)
 
 
@@ -115,18 +120,22 @@ def run(arguments: argparse.Namespace) -> int:
     if not imported.pairs:
         print_report(imported.report, arguments.format, arguments.project.parent)
         return imported.report.status
+    folders = [pair.folder for pair in imported.pairs]
+    before = states_before(program, arguments.since, folders) if arguments.since else None
     with tempfile.TemporaryDirectory() as made:
         out = arguments.out or Path(made)
         write_texts(imported.texts(), out)
         forget(out)
         answers = [(pair, *audit_pair(program, pair, out / pair.folder, imported.report)) for pair in imported.pairs]
+        since = [line for pair, answer, _ in answers if before is not None and answer.status in JUDGED
+                 for line in compared(before, program, out, pair.folder)]
     blamed: list[Finding] = []
     for pair, answer, _ in answers:
         found = blamed_in_full(program, project, options, pair.folder) if answer.status == 1 and not options.full else []
         blamed += found or blame(pair.network, pair.traffic, answer.output or answer.errors)
     statuses = [answer.status for _, answer, _ in answers]
     meaning = meaning_of_certificates(imported.report.meaning, statuses)
-    report = Report([*imported.report.findings, *blamed], imported.report.accepts, [*meaning, *(says for _, _, says in answers)])
+    report = Report([*imported.report.findings, *blamed], imported.report.accepts, [*meaning, *(says for _, _, says in answers), *since])
     print_report(report, arguments.format, arguments.project.parent)
     worst = next((one for one in WORST if one in statuses), 0)
     return worst or (NOT_ALL if imported.report.status == 1 else 0)
