@@ -1,5 +1,5 @@
 # The gate and the program. All of it needs the Rattle kit's command `rt` on the PATH; mutants, rows and examples need
-# python3, the tests of once-import Python 3.11 with pytest and mypy (Debian's packages python3-pytest and mypy).
+# python3, the tests of the tools Python 3.11 with pytest, mypy and Jinja2 (Debian's packages python3-pytest, mypy and python3-jinja2).
 
 SHELL := /bin/bash
 .DEFAULT_GOAL := help
@@ -24,7 +24,7 @@ help:
 	@echo 'make shown             runs the rows that mutants name over one program that has all mutants'
 	@echo 'make rows              proves and builds the program, and runs the steps of the gate over it'
 	@echo 'make examples          the same for the examples alone'
-	@echo 'make tools             checks the types of once-import and once-mend and runs their tests, over ./once or ONCE=PROGRAM'
+	@echo 'make tools             checks the types of once-import, once-mend and once-report and runs their tests, over ./once or ONCE=PROGRAM'
 	@echo 'make lab               compares ./once with running exporters and collectors, as root (docs/LAB.md); ALL=1 for all scenarios'
 	@echo 'make pictures          draws the pictures of the examples anew (needs Graphviz)'
 	@echo 'make torture           the same over inputs that are made to do harm, for an hour or more'
@@ -104,6 +104,7 @@ WORKERS = $(shell $(PYTHON) -c 'import xdist' 2> /dev/null && echo "-n 2")
 run-tools:
 	@[ -n "$(PYTHON)" ] || { echo 'pytest not found: install it (Debian: python3-pytest)'; exit 2; }
 	@command -v mypy > /dev/null || { echo 'mypy not found: install it (Debian: mypy)'; exit 2; }
+	@$(PYTHON) -c 'import jinja2' 2> /dev/null || { echo 'jinja2 not found: install it (Debian: python3-jinja2)'; exit 2; }
 	cd tools && mypy --strict --cache-dir=/dev/null once_tools lab
 	cd tools && ONCE=$(ONCE) $(PYTHON) -B -m pytest -q -rs -p no:cacheprovider $(WORKERS) tests
 
@@ -153,17 +154,17 @@ install:
 	install -D -m 644 packaging/once.bash $(SHARE)/bash-completion/completions/once
 	install -D -m 644 packaging/_once $(ZSH)/_once
 	install -D -m 644 -t $(SHARE)/doc/once README.md CHANGELOG.md SECURITY.md
-	install -D -m 644 -t $(SHARE)/doc/once/docs $(DOCUMENTS)
+	install -D -m 644 -t $(SHARE)/doc/once/docs $(DOCUMENTS) docs/report-certificate.png docs/report-refutation.png
 	install -D -m 644 -t $(SHARE)/doc/once/docs/schemas docs/schemas/*
 	cd examples && find . -type f ! -name '*.pyc' -exec install -D -m 644 {} "$(abspath $(SHARE))/doc/once/examples/{}" \;
-	install -D -m 755 -t $(BIN) tools/once-import tools/once-mend
-	cd tools && find once_tools -name '*.py' -exec install -D -m 644 {} "$(abspath $(SHARE))/once/{}" \;
-	install -D -m 644 -t $(SHARE)/man/man1 packaging/once-import.1 packaging/once-mend.1
+	install -D -m 755 -t $(BIN) tools/once-import tools/once-mend tools/once-report
+	cd tools && find once_tools \( -name '*.py' -o -name '*.j2' -o -name '*.css' \) -exec install -D -m 644 {} "$(abspath $(SHARE))/once/{}" \;
+	install -D -m 644 -t $(SHARE)/man/man1 packaging/once-import.1 packaging/once-mend.1 packaging/once-report.1
 	install -D -m 644 -t $(SHARE)/doc/once/tools tools/README.md
 	install -D -m 644 -t $(SHARE)/doc/once/tools/examples tools/examples/*
 
 uninstall:
-	rm -f $(addprefix $(BIN)/,once-import once-mend) $(addprefix $(SHARE)/man/man1/,once-import.1 once-mend.1)
+	rm -f $(addprefix $(BIN)/,once-import once-mend once-report) $(addprefix $(SHARE)/man/man1/,once-import.1 once-mend.1 once-report.1)
 	rm -rf $(SHARE)/once
 	rm -f $(BIN)/once $(SHARE)/man/man1/once.1 $(SHARE)/bash-completion/completions/once $(ZSH)/_once
 	rm -rf $(SHARE)/doc/once
