@@ -9,11 +9,12 @@ import re
 import shutil
 
 from mutation.edits import module_of, proof_paths, read, sources
-from mutation.texts import functions
+from mutation.texts import blanked, closing, functions
 
 MARK = "_twin_"
-# What keeps the prover from trying tactics at a function's goals.
+# What keeps the prover from trying tactics at a function's goals, and how a function names tactics of its own.
 WITHOUT_TACTICS = "#[tactic(none)]\n"
+TACTIC = re.compile(r"#\[tactic(?=\()")
 
 
 class Copies:
@@ -95,9 +96,20 @@ def change_of(part, text, with_own_body):
     body = text[function.opens : function.end] if with_own_body else part.body
     if not part.has_twin():
         return function.start, function.end, text[function.start : function.opens] + body, part
-    front = WITHOUT_TACTICS if part.alone else ""
-    head = text[function.start : function.named] + part.twin_name(MARK)
-    return function.end, function.end, f"\n{front}{head}{text[function.named + len(function.name) : function.opens]}{body}", part
+    front, head = "", text[function.start : function.named]
+    if part.alone:
+        front, head = WITHOUT_TACTICS, without_tactic(head)
+    tail = text[function.named + len(function.name) : function.opens]
+    return function.end, function.end, f"\n{front}{head}{part.twin_name(MARK)}{tail}{body}", part
+
+
+def without_tactic(head):
+    """Returns the head of a function without its own line `#[tactic(..)]`, of which a function may have one."""
+    found = TACTIC.search(blanked(head))
+    if not found:
+        return head
+    end = closing(blanked(head), found.start() + 1)
+    return head[: found.start()] + head[end:].lstrip()
 
 
 def text_with(text, changes):

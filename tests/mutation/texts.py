@@ -1,5 +1,6 @@
 """Reads the items of a Rattle text that a wrong body changes: its functions, with the impl that holds each, and its
 constants."""
+import functools
 import re
 
 PAIRS = {"(": ")", "[": "]", "{": "}"}
@@ -7,47 +8,19 @@ PAIRS = {"(": ")", "[": "]", "{": "}"}
 CLAUSE = re.compile(r"(?:\b(?:requires|ensures)\*?(?:\s+\w+)?|\bghost\s+\w+\s*:)\s*\Z")
 
 
+# Comments, raw strings, strings and character literals.
+SKIPPED = re.compile(
+    r"""//[^\n]*|/\*.*?(?:\*/|\Z)"""
+    r"""|(?<!\w)b?r(?P<hashes>\#*)".*?(?:"(?P=hashes)|\Z)|"(?:\\.|[^"\\])*(?:"|\Z)"""
+    r"""|'(?:\\x[0-9a-fA-F]{2}|\\u\{[^}]*\}|\\[^\n]|[^\\'\n])'""",
+    re.S,
+)
+
+
+@functools.lru_cache(maxsize=1024)
 def blanked(text):
     """Returns the text with comments, strings and character literals blanked, each character at its place."""
-    out, at, size = list(text), 0, len(text)
-
-    def blank(begin, end):
-        for place in range(begin, min(end, size)):
-            if out[place] != "\n":
-                out[place] = " "
-
-    while at < size:
-        end = end_of_comment(text, at) or end_of_literal(text, at)
-        if end:
-            blank(at, end)
-        at = end or at + 1
-    return "".join(out)
-
-
-def end_of_comment(text, at):
-    """Returns the place behind the comment that begins here, or None."""
-    if text.startswith("//", at):
-        end = text.find("\n", at)
-        return len(text) if end < 0 else end
-    if text.startswith("/*", at):
-        end = text.find("*/", at + 2)
-        return len(text) if end < 0 else end + 2
-    return None
-
-
-def end_of_literal(text, at):
-    """Returns the place behind the string or character literal that begins here, or None."""
-    raw = re.compile(r'b?r(#*)"').match(text, at)
-    if raw and not (at and (text[at - 1].isalnum() or text[at - 1] == "_")):
-        end = text.find(f'"{raw[1]}', raw.end())
-        return len(text) if end < 0 else end + 1 + len(raw[1])
-    if text[at] == '"':
-        end = at + 1
-        while end < len(text) and text[end] != '"':
-            end += 2 if text[end] == "\\" else 1
-        return end + 1
-    found = re.compile(r"'(\\x[0-9a-fA-F]{2}|\\u\{[^}]*\}|\\.|[^\\'\n])'").match(text, at)
-    return found.end() if found else None
+    return SKIPPED.sub(lambda found: re.sub(r"[^\n]", " ", found[0]), text)
 
 
 def closing(text, at):
@@ -123,8 +96,9 @@ def type_name(text):
     return front + (last[1] if last and not (front and re.fullmatch(r"[A-Z]", last[1])) else "")
 
 
+@functools.lru_cache(maxsize=1024)
 def functions(text):
-    """Returns the functions that have a body, less those inside another function."""
+    """Returns the functions that have a body, less those inside another function, as a tuple."""
     bare, found, counts, at = blanked(text), [], {}, 0
     blocks = blocks_of(bare)
     for head in re.finditer(r"\bfn\s+(\w+)", bare):
@@ -139,7 +113,7 @@ def functions(text):
         made.key, made.body = (*key, counts[key]), bare[opens : made.end]
         found.append(made)
         at = made.end
-    return found
+    return tuple(found)
 
 
 def blocks_of(bare):
