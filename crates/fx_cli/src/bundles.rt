@@ -105,7 +105,7 @@ fn put_nearly_marks(octets: &[u8], at_end: bool, words: &mut Gathered) {
     words.text(b" (the first is line ");
     words.number(first);
     words.text(if at_end {
-        b"); put a line feed in front of each %%\n".as_slice()
+        b"); put a line feed before each %%\n".as_slice()
     } else {
         b"); remove what follows each %%\n"
     });
@@ -153,7 +153,7 @@ fn put_first_line(line: &[u8], words: &mut Gathered) {
     words.text(if line.starts_with(ORDER_MARK) {
         b"\"; a byte order mark is before it\n".as_slice()
     } else if line.ends_with(b" ") {
-        b"\"; a blank is at its end\n"
+        b"\"; it ends with a space\n"
     } else {
         b"\"\n"
     });
@@ -162,9 +162,7 @@ fn put_first_line(line: &[u8], words: &mut Gathered) {
 /// Writes why octets are no bundle.
 pub(crate) fn put_bundle_words(octets: &[u8], words: &mut Gathered) {
     if octets.is_empty() {
-        words.text(
-            b"standard input has no octets; without other words a bundle is read from there\n",
-        );
+        words.text(b"standard input is empty; without arguments a bundle is read from it\n");
         return;
     }
     let (command, rest) = first_line(octets);

@@ -25,9 +25,9 @@ use fx_audit::{
 };
 use fx_base::{Fault, LineReader, Outside, Sink, Source};
 use fx_command_line::Call;
+use fx_explain_streams::StreamWatch;
 use fx_layout::Seed;
 use fx_link::{Links, Nowhere, OpenedSinks};
-use fx_stories::StreamWatch;
 use std::alloc::Global;
 use std::random::RandomSource;
 use std::rt::{Clock, Files};

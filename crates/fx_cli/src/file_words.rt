@@ -9,7 +9,7 @@ use std::rt::Files;
 
 /// Where the lines of a bundle's third text are, which have numbers of their own.
 const IN_BUNDLE: &[u8] =
-    b"file: standard input, the third text in the bundle, of which the lines are counted from 1\n";
+    b"file: standard input, the third text in the bundle, whose lines are counted from 1\n";
 
 /// Returns whether a directory has this name.
 fn is_directory<R: Files>(rt: &R, path: &str) -> bool {

@@ -7,18 +7,20 @@ use fx_audit::{AcceptedDocuments, Answer, Command, Explainer, PacketAt};
 use fx_base::{Fault, Line, Place, refusals};
 use fx_check::Due;
 use fx_command_line::Call;
+use fx_explain_documents::{
+    put_network_notes, put_refused_network, put_refused_traffic, put_traffic_notes,
+};
+use fx_explain_runs::{
+    packet_in_line, put_refused_certificate, put_refused_metering, put_refused_packet,
+    put_refused_replay, put_refused_step, put_refused_totals, put_refutation_story, put_text_line,
+    put_unconfirmed_refutation,
+};
+use fx_explain_streams::{StreamWatch, put_left_out, put_refused_capture, put_refused_message};
 use fx_layout::Layout;
 use fx_machine::State;
 use fx_plan::Plan;
 use fx_refute::Refutation;
 use fx_run_text::{Choices, Step};
-use fx_stories::{
-    StreamWatch, packet_in_line, put_left_out, put_network_notes, put_refused_capture,
-    put_refused_certificate, put_refused_message, put_refused_metering, put_refused_network,
-    put_refused_packet, put_refused_step_words, put_refused_totals, put_refused_traffic,
-    put_refutation_story, put_replay_words, put_text_line, put_traffic_notes,
-    put_unconfirmed_words,
-};
 use fx_tables::Packet;
 use fx_traffic::Traffic;
 use std::alloc::Global;
@@ -260,8 +262,8 @@ fn all_but_last(steps: &[Step]) -> &[Step] {
 }
 
 /// Lends two documents to what explains them.
-fn lent(documents: &AcceptedDocuments) -> fx_stories::Documents<'_> {
-    fx_stories::Documents {
+fn lent(documents: &AcceptedDocuments) -> fx_explanation::Documents<'_> {
+    fx_explanation::Documents {
         plan: &documents.plan,
         traffic: &documents.traffic,
     }
@@ -292,7 +294,7 @@ impl Explainer for Sentences<'_> {
     fn on_traffic(&mut self, octets: &[u8], plan: &Plan, traffic: &Traffic) {
         self.progressed = Progressed::Traffic;
         if self.wants_notes() {
-            let documents = fx_stories::Documents { plan, traffic };
+            let documents = fx_explanation::Documents { plan, traffic };
             let sink = self.notes.sink();
             let written = put_traffic_notes(self.alloc, octets, &documents, sink);
             self.notes.note(written);
@@ -363,7 +365,7 @@ impl Explainer for Sentences<'_> {
         let before = number.saturating_sub(1) as usize;
         let steps = refutation.steps();
         if let (true, Some(step)) = (self.are_wanted(), steps.get(before)) {
-            let written = put_refused_step_words(
+            let written = put_refused_step(
                 self.alloc,
                 &lent(documents),
                 state,
@@ -392,7 +394,7 @@ impl Explainer for Sentences<'_> {
         if self.are_wanted() {
             let documents = lent(documents);
             let sink = self.words.sink();
-            let written = put_unconfirmed_words(
+            let written = put_unconfirmed_refutation(
                 self.alloc, &documents, refutation, number, last, sink,
             );
             self.words.note(written);
@@ -417,7 +419,7 @@ impl Explainer for Sentences<'_> {
             let documents = lent(documents);
             let sink = self.words.sink();
             let before = all_but_last(self.steps.as_slice());
-            let written = put_refused_step_words(
+            let written = put_refused_step(
                 self.alloc, &documents, state, before, line, step, fault, sink,
             );
             self.words.note(written);
@@ -428,7 +430,7 @@ impl Explainer for Sentences<'_> {
         if self.are_wanted() {
             let documents = lent(documents);
             let sink = self.words.sink();
-            let written = put_replay_words(self.alloc, &documents, state, sink);
+            let written = put_refused_replay(self.alloc, &documents, state, sink);
             self.words.note(written);
         }
     }

@@ -36,6 +36,8 @@ mod documents;
 #[cfg(test)]
 mod drawings;
 #[cfg(test)]
+mod explanations;
+#[cfg(test)]
 mod judging;
 #[cfg(test)]
 mod networks;
@@ -44,13 +46,11 @@ mod plan;
 #[cfg(test)]
 mod refute;
 #[cfg(test)]
-mod run_stories;
+mod run_explanations;
 #[cfg(test)]
 mod running;
 #[cfg(test)]
 mod selectors;
-#[cfg(test)]
-mod stories;
 #[cfg(test)]
 mod traffic;
 #[cfg(test)]

@@ -1,0 +1,69 @@
+//! Counters that a cache's layout lacks, and flow keys that a cache can't have.
+use crate::elements::{element_of, write_element};
+use crate::pointers::{items_member, text_member, text_or_none};
+use crate::similar_names::similar_name;
+use fx_elements::{Axis, Element, by_name};
+use fx_explanation::Explanation;
+use serde_json::Value;
+
+/// The counters that have to be among the fields of a cache.
+const COUNTERS: [&str; 2] = ["octetDeltaCount", "packetDeltaCount"];
+
+/// Returns whether one of these fields names this element.
+fn is_among(fields: &[Value], element: Element) -> bool {
+    for field in fields {
+        if element_of(field) == element {
+            return true;
+        }
+    }
+    false
+}
+
+/// Writes the fields of a layout whose element is misspelled, where it is nearest to this counter.
+fn write_misspelled(out: &mut Explanation, fields: &[Value], counter: &'static str) {
+    for field in fields {
+        if let Some(name) = text_member(field, "ieName") {
+            let is_near = similar_name(out, name, &COUNTERS) == Some(counter);
+            if is_near && by_name(name) == Element::Other {
+                out.text_quoted("field ", text_or_none(field, "name"));
+                out.text_quoted(" names no element that is read: ", name);
+                out.end_line();
+            }
+        }
+    }
+}
+
+/// Writes which counters the layout of a cache lacks.
+pub(crate) fn write_counters(out: &mut Explanation, layout: &Value) {
+    let fields = items_member(layout, "cacheField");
+    for counter in COUNTERS {
+        if !is_among(fields, by_name(counter)) {
+            out.text("missing among the fields: ");
+            out.sentence(counter);
+            write_misspelled(out, fields, counter);
+        }
+    }
+}
+
+/// Returns the element of the whole addresses whose prefixes stand on an axis.
+fn address_name(axis: Axis) -> &'static str {
+    match axis {
+        Axis::Source => "sourceIPv4Address",
+        Axis::Destination => "destinationIPv4Address",
+        Axis::Source6 => "sourceIPv6Address",
+        _ => "destinationIPv6Address",
+    }
+}
+
+/// Writes why a field of a cache can't be a flow key.
+pub(crate) fn write_flow_key(out: &mut Explanation, field: &Value) {
+    if let Element::Prefix(axis) = element_of(field) {
+        out.text("its element is a prefix, and the flow keys of caches are whole: write ");
+        out.text(address_name(axis));
+        out.sentence(
+            ", and the prefix with its prefixLength in the key of an aggregation or of the report",
+        );
+        return;
+    }
+    let _of_axis = write_element(out, field, false);
+}

@@ -1,0 +1,208 @@
+//! Links that lead records round in a circle.
+use fx_base::{Name, entry_at};
+use fx_config::{Aggregation, CollectingProcess};
+use fx_explanation::{Explanation, entry_named, unless_refused, write_end};
+use fx_topology::{NamedLink, NetworkDevice, NetworkDocument, read_network};
+use serde_json::Value;
+use std::alloc::{AllocError, Global};
+
+/// Returns whether an aggregation hands its records to the exporting process of this name.
+fn aggregates_to(aggregation: &Aggregation, name: &Name) -> bool {
+    aggregation.exporting_processes.as_slice().contains(name)
+}
+
+/// Returns whether a collecting process hands records to the exporting process of this name, as they are or added up.
+fn hands_to(process: &CollectingProcess, name: &Name) -> bool {
+    for aggregation in process.aggregations.as_slice() {
+        if aggregates_to(aggregation, name) {
+            return true;
+        }
+    }
+    process.exporting_processes.as_slice().contains(name)
+}
+
+/// Returns the collecting process to which a link leads.
+fn process_at_end<'a>(
+    devices: &'a [NetworkDevice],
+    link: &NamedLink,
+) -> Option<&'a CollectingProcess> {
+    let device = entry_named(devices, &link.to_device)?;
+    entry_named(
+        device.config.collecting_processes.as_slice(),
+        &link.to_process,
+    )
+}
+
+/// Returns whether what comes by a link may go on by another.
+fn goes_on(devices: &[NetworkDevice], link: &NamedLink, next: &NamedLink) -> bool {
+    if link.to_device != next.device {
+        return false;
+    }
+    match process_at_end(devices, link) {
+        Some(process) => hands_to(process, &next.exporting_process),
+        None => false,
+    }
+}
+
+/// What is known of a link.
+#[derive(Clone, Copy)]
+enum Mark {
+    /// Nothing yet.
+    New,
+    /// It is on the way that is being followed.
+    OnWay,
+    /// It leads to no circle.
+    Done,
+}
+
+/// A search for a circle of links.
+#[derive(Drop)]
+struct Search<'a> {
+    devices: &'a [NetworkDevice],
+    links: &'a [NamedLink],
+    /// What is known of each link.
+    marks: Vec<Mark>,
+    /// The places of links, each of which may lead on to the next.
+    way: Vec<usize>,
+}
+
+impl<'a> Search<'a> {
+    /// Before any link.
+    fn new(alloc: Global, network: &'a NetworkDocument) -> Result<Search<'a>, AllocError> {
+        let links = network.links.as_slice();
+        let mut marks = Vec::new(alloc);
+        marks.resize(links.len(), Mark::New)?;
+        Ok(Search {
+            devices: network.devices.as_slice(),
+            links,
+            marks,
+            way: Vec::new(alloc),
+        })
+    }
+
+    /// Returns what is known of the link at a place.
+    fn mark(&self, place: usize) -> Mark {
+        match self.marks.as_slice().get(place) {
+            Some(mark) => *mark,
+            None => Mark::Done,
+        }
+    }
+
+    /// Notes what is known of the link at a place.
+    fn set(&mut self, place: usize, mark: Mark) {
+        if let Some(entry) = self.marks.get_mut(place) {
+            *entry = mark;
+        }
+    }
+
+    /// Returns the place of the first link by which what comes by the one at a place may go on, but for those that lead
+    /// to no circle.
+    fn next(&self, place: usize) -> Option<usize> {
+        let link = entry_at(self.links, place)?;
+        for next in 0..self.links.len() {
+            if self.mark(next) != Mark::Done && goes_on(self.devices, link, &self.links[next]) {
+                return Some(next);
+            }
+        }
+        None
+    }
+
+    /// Goes on by the link at a place.
+    fn enter(&mut self, place: usize) -> Result<(), AllocError> {
+        self.set(place, Mark::OnWay);
+        self.way.push(place)?;
+        Ok(())
+    }
+
+    /// Goes back after the last link of the way, which leads to no circle.
+    fn leave(&mut self, place: usize) {
+        self.set(place, Mark::Done);
+        let _left = self.way.pop();
+    }
+
+    /// Goes on from the last link of the way, and answers the place of the link that begins a circle, once the way
+    /// comes back to it.
+    fn step(&mut self, place: usize) -> Result<Option<usize>, AllocError> {
+        let Some(next) = self.next(place) else {
+            self.leave(place);
+            return Ok(None);
+        };
+        if self.mark(next) == Mark::OnWay {
+            return Ok(Some(next));
+        }
+        self.enter(next)?;
+        Ok(None)
+    }
+
+    /// Follows the links from the one at a place, and answers the place of the link that begins a circle.
+    fn follow(&mut self, start: usize) -> Result<Option<usize>, AllocError> {
+        let steps = self.links.len().saturating_mul(2);
+        self.enter(start)?;
+        for _step in 0..steps {
+            let Some(place) = self.way.as_slice().last().copied() else {
+                return Ok(None);
+            };
+            let found = self.step(place)?;
+            if found.is_some() {
+                return Ok(found);
+            }
+        }
+        Ok(None)
+    }
+
+    /// Returns the place of the link that begins a circle; the way ends with that circle.
+    fn run(&mut self) -> Result<Option<usize>, AllocError> {
+        for start in 0..self.links.len() {
+            if self.mark(start) == Mark::New {
+                let found = self.follow(start)?;
+                if found.is_some() {
+                    return Ok(found);
+                }
+            }
+        }
+        Ok(None)
+    }
+}
+
+/// Writes a link by its place in the document and its ends.
+fn write_link(out: &mut Explanation, place: usize, link: &NamedLink) {
+    out.text_number("on the circle: /links/", place as u64);
+    out.text_quoted(", from destination ", link.destination.as_str());
+    out.text_quoted(" of exporting process ", link.exporting_process.as_str());
+    out.text(" of ");
+    out.text(link.device.as_str());
+    out.text(" to ");
+    write_end(out, link);
+    out.end_line();
+}
+
+/// Writes the links of a way from the one at a place on.
+fn write_way(out: &mut Explanation, links: &[NamedLink], way: &[usize], first: usize) {
+    let mut begun = false;
+    for place in way {
+        begun = begun || *place == first;
+        match entry_at(links, *place) {
+            Some(link) if begun => write_link(out, *place, link),
+            _ => {}
+        }
+    }
+}
+
+/// Writes the links of a circle that is there.
+fn write_circle_of(out: &mut Explanation, network: &NetworkDocument) {
+    let begun = Search::new(out.alloc, network);
+    let Some(mut search) = out.unless_short(begun) else {
+        return;
+    };
+    if let Some(Some(first)) = out.unless_short(search.run()) {
+        write_way(out, network.links.as_slice(), search.way.as_slice(), first);
+    }
+}
+
+/// Writes the links of a circle of a network, one after another, by their places in the list of links.
+pub(crate) fn write_cycle_of(out: &mut Explanation, network: &Value) {
+    let read = read_network(out.alloc, network);
+    if let Some(network) = unless_refused(out, read) {
+        write_circle_of(out, &network);
+    }
+}

@@ -1,0 +1,143 @@
+//! Observation points that observe only the other direction than the packets that cross their interfaces.
+use crate::unobserved::is_at;
+use fx_config::{Direction, ObservationPoint};
+use fx_explanation::{Documents, Explanation};
+use fx_plan::Plan;
+use fx_tables::{Crossing, Point};
+use fx_topology::NetworkDevice;
+use fx_traffic::Target;
+use std::alloc::{AllocError, Global};
+
+/// What an observation point has of the crossings of all paths.
+#[derive(Clone, Copy)]
+struct Sight {
+    /// One is at an interface of it.
+    crossed: bool,
+    /// It sees one.
+    seen: bool,
+}
+
+/// What the observation points of each device have, in the order of the document.
+type Sights = Vec<Vec<Sight>>;
+
+/// Before any crossing, for the observation points of a device.
+fn no_sight(alloc: Global, device: &NetworkDevice) -> Result<Vec<Sight>, AllocError> {
+    let mut sights = Vec::new(alloc);
+    for _point in device.config.observation_points.as_slice() {
+        sights.push(Sight {
+            crossed: false,
+            seen: false,
+        })?;
+    }
+    Ok(sights)
+}
+
+/// Before any crossing.
+fn no_sights(alloc: Global, plan: &Plan) -> Result<Sights, AllocError> {
+    let mut sights = Vec::new(alloc);
+    for device in plan.network().devices.as_slice() {
+        sights.push(no_sight(alloc, device)?)?;
+    }
+    Ok(sights)
+}
+
+/// Notes a crossing at the observation points of its device.
+fn note_at(
+    sights: &mut Vec<Sight>,
+    named: &[ObservationPoint],
+    points: &[Point],
+    crossing: &Crossing,
+) {
+    for place in 0..sights.len() {
+        if let (Some(point), Some(watching)) = (named.get(place), points.get(place)) {
+            if let Some(sight) = sights.get_mut(place) {
+                sight.crossed = sight.crossed || is_at(point, &crossing.interface);
+                sight.seen = sight.seen || watching.watches(crossing);
+            }
+        }
+    }
+}
+
+/// Notes a crossing.
+fn note(sights: &mut Sights, plan: &Plan, crossing: &Crossing) {
+    let Some(device) = plan.device(crossing.device) else {
+        return;
+    };
+    let place = crossing.device.saturating_sub(1) as usize;
+    if let Some(sights) = sights.get_mut(place) {
+        let points = plan.net().points_of(crossing.device);
+        note_at(
+            sights,
+            device.observation_points.as_slice(),
+            points,
+            crossing,
+        );
+    }
+}
+
+/// Notes the crossings of a path.
+fn note_path(sights: &mut Sights, plan: &Plan, crossings: &[Crossing]) {
+    for crossing in crossings {
+        note(sights, plan, crossing);
+    }
+}
+
+/// Returns the direction that an observation point observes, and the other one.
+fn direction_words(point: &ObservationPoint) -> (&'static str, &'static str) {
+    match point.direction {
+        Direction::Ingress => ("ingress", "egress"),
+        Direction::Egress => ("egress", "ingress"),
+        Direction::Both => ("both", "neither"),
+    }
+}
+
+/// Writes that an observation point sees nothing of what crosses its interfaces.
+fn write_point<'x>(out: &mut Explanation, device: &'x NetworkDevice, point: &'x ObservationPoint) {
+    let (observed, other) = direction_words(point);
+    out.text_quoted("observation point ", point.name.as_str());
+    out.text(" of ");
+    out.text(device.name.as_str());
+    out.text(" observes ");
+    out.text(observed);
+    out.text(" alone, and paths cross its interfaces ");
+    out.text(other);
+    out.sentence(" alone: it sees none of them");
+}
+
+/// Writes the observation points of a device that see nothing of what crosses their interfaces.
+fn write_device(out: &mut Explanation, device: &NetworkDevice, sights: &[Sight]) {
+    let points = device.config.observation_points.as_slice();
+    for place in 0..points.len() {
+        match sights.get(place) {
+            Some(sight) if sight.crossed && !sight.seen => write_point(out, device, &points[place]),
+            _ => {}
+        }
+    }
+}
+
+/// Writes the observation points of all devices that see nothing of what crosses their interfaces.
+fn write_devices(out: &mut Explanation, plan: &Plan, sights: &[Vec<Sight>]) {
+    let devices = plan.network().devices.as_slice();
+    for place in 0..devices.len() {
+        if let Some(sights) = sights.get(place) {
+            write_device(out, &devices[place], sights.as_slice());
+        }
+    }
+}
+
+/// Writes the observation points that see no crossing of any path, though paths cross their interfaces in the other
+/// direction.
+pub(crate) fn write_directions(
+    out: &mut Explanation,
+    documents: &Documents<'_>,
+    targets: &[Target<'_>],
+) {
+    let none_yet = no_sights(out.alloc, documents.plan);
+    let Some(mut sights) = out.unless_short(none_yet) else {
+        return;
+    };
+    for target in targets {
+        note_path(&mut sights, documents.plan, target.crossings);
+    }
+    write_devices(out, documents.plan, sights.as_slice());
+}

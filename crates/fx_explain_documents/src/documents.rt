@@ -1,0 +1,221 @@
+//! Why a document is refused, in sentences.
+ghost use Rattle.std.specs.Prelude.{◌≡◌, ◌⊎◌, IfErr, OnOk};
+ghost use Rattle.fx_base.specs.Device.{IsWriteFault, KeepsGoing};
+ghost use Rattle.fx_base.specs.Fault.{IsMemory};
+ghost use Rattle.fx_explanation.specs.Explanations.{WritesExplanation};
+
+use crate::allowed::write_unknown_member;
+use crate::counters::{write_counters, write_flow_key};
+use crate::cycles::write_cycle_of;
+use crate::elements::write_value;
+use crate::ends::{
+    write_cycle, write_link_ends, write_linked, write_report_end, write_unknown_device,
+    write_unknown_name,
+};
+use crate::entries::write_entries;
+use crate::json::write_json;
+use crate::kinds::write_kinds;
+use crate::layouts::write_layouts;
+use crate::members::write_lacking;
+use crate::parts::write_list;
+use crate::pointers::last_member;
+use crate::values::{write_allowed, write_wrong};
+use fx_base::{Fault, Place, Sink, put_text, refusals};
+use fx_explanation::{Explanation, value_of_document};
+use fx_plan::Plan;
+use serde_json::Value;
+use std::alloc::Global;
+
+/// Writes what a refusal at a pointer into a network is about: which names name nothing there.
+fn write_names(out: &mut Explanation, network: &Value, value: &Value, pointer: &str, number: u16) {
+    match number {
+        refusals::UNKNOWN_NAME => {
+            if let Some(name) = value.as_str() {
+                write_unknown_name(out, network, pointer, name);
+            }
+        }
+        refusals::UNKNOWN_LINK_END => write_link_ends(out, network, value),
+        refusals::LINKED_TWICE => write_linked(out, network, value),
+        refusals::UNKNOWN_REPORT_PROCESS => write_report_end(out, network, value),
+        _ => {},
+    }
+}
+
+/// A document that is refused.
+#[derive(Clone, Copy, Drop)]
+enum Refused<'a> {
+    /// That of a network.
+    Network(&'a Value),
+    /// That of the traffic of this network.
+    Traffic(&'a Value, &'a Plan),
+}
+
+impl<'a> Refused<'a> {
+    /// Returns its value.
+    fn document(&self) -> &'a Value {
+        match self {
+            Refused::Network(value) | Refused::Traffic(value, _) => value,
+        }
+    }
+}
+
+/// Returns whether a refusal of this number is about a value that is written.
+fn is_of_value(number: u16) -> bool {
+    matches!(
+        number,
+        refusals::WRONG_KIND
+            | refusals::BAD_VALUE
+            | refusals::NAME_TWICE
+            | refusals::CACHE_COUNTER_LENGTH
+            | refusals::TOTAL_COUNTER
+            | refusals::KEY_WITHOUT_AXIS
+            | refusals::REPORT_KEY
+            | refusals::CLASS_TWICE
+            | refusals::TRAFFIC_VALUE
+    )
+}
+
+/// A value that is refused: its document, its pointer there, and whether that is a network's document.
+#[derive(Clone, Copy, Drop)]
+struct ValueAt<'a> {
+    document: &'a Value,
+    pointer: &'a str,
+    value: &'a Value,
+    is_network: bool,
+}
+
+/// Writes of which kind a value is, and which is due there, or as a part of which document it stands in one's place.
+fn write_wrong_kind(out: &mut Explanation, at: &ValueAt<'_>) {
+    write_kinds(out, at.pointer, at.value, at.is_network);
+    write_allowed(out, last_member(at.pointer), at.is_network);
+    if let (Value::Array(items), "") = (at.value, at.pointer) {
+        write_list(out, items.as_slice(), at.is_network);
+    }
+}
+
+/// Writes a value that is refused with this number, and what is wrong with it.
+fn write_value_at(out: &mut Explanation, at: &ValueAt<'_>, number: u16) {
+    write_value(out, at.value);
+    match number {
+        refusals::TOTAL_COUNTER => out.sentence(
+            "it counts since the metering process started; use octetDeltaCount or packetDeltaCount instead",
+        ),
+        refusals::KEY_WITHOUT_AXIS => write_flow_key(out, at.value),
+        refusals::WRONG_KIND => write_wrong_kind(out, at),
+        _ => write_wrong(out, at.document, at.pointer, at.value, at.is_network),
+    }
+}
+
+/// Explains a refusal at a pointer.
+fn write_at(out: &mut Explanation, refused: &Refused<'_>, pointer: &str, number: u16) {
+    let document = refused.document();
+    let Some(value) = document.pointer(pointer) else {
+        return;
+    };
+    let at = ValueAt {
+        document,
+        pointer,
+        value,
+        is_network: matches!(refused, Refused::Network(_)),
+    };
+    match number {
+        refusals::UNKNOWN_MEMBER => {
+            write_unknown_member(out, document, pointer, at.is_network);
+        }
+        refusals::MISSING_MEMBER => {
+            write_lacking(out, value, last_member(pointer), at.is_network);
+        }
+        refusals::MISSING_COUNTER => write_counters(out, value),
+        refusals::TOO_MANY_LAYOUTS => write_layouts(out, value),
+        refusals::TOO_MANY_ENTRIES | refusals::TOO_MUCH_TRAFFIC => {
+            write_entries(out, pointer, value, at.is_network);
+        }
+        _ if is_of_value(number) => write_value_at(out, &at, number),
+        _ => write_names_at(out, refused, value, pointer, number),
+    }
+}
+
+/// Explains which names at a pointer name nothing.
+fn write_names_at(
+    out: &mut Explanation,
+    refused: &Refused<'_>,
+    value: &Value,
+    pointer: &str,
+    number: u16,
+) {
+    match refused {
+        Refused::Network(network) => write_names(out, network, value, pointer, number),
+        Refused::Traffic(_, plan) => {
+            if let Some(name) = value.as_str() {
+                write_unknown_device(out, plan.network().devices.as_slice(), name);
+            }
+        }
+    }
+}
+
+/// Explains a refusal of a document that is JSON.
+fn write_refused(out: &mut Explanation, refused: &Refused<'_>, fault: &Fault) {
+    match (&fault.place, refused) {
+        (Place::Text(text), Refused::Network(network)) if fault.number == refusals::LINK_CYCLE => {
+            write_cycle(out, network, text.as_str());
+            write_cycle_of(out, network);
+        }
+        (Place::Text(text), _) => write_at(out, refused, text.as_str(), fault.number),
+        (Place::None, _) => write_at(out, refused, "", fault.number),
+        _ => {}
+    }
+}
+
+/// Explains in sentences why a network's document is refused, with 101 to 115 or 201 to 207: where a text is no JSON,
+/// the line, the column and what is wrong there, or which other file it is; of a part of a document in its place where
+/// it is found; how many entries a list has, or how many different keys there are, and how many there may be; which
+/// members are missing and which are there; the name for which a misspelled member stands, or the members that are
+/// allowed; a value that isn't allowed, at most 200 octets of its JSON text, with its kind and the kind that is due,
+/// what is wrong in it or with the elements that it names, and the values that are allowed; which counters a cache
+/// lacks; which name names nothing, and the names that there are; which link leads from the same destination; which
+/// collecting processes stand on a circle of links, and the links of one. The text has no control characters but line
+/// feeds.
+///
+/// Fails with 900 where memory runs out, and then nothing is written; with 902 where a write fails.
+pub fn put_refused_network<S: Sink>(
+    alloc: Global,
+    octets: &[u8],
+    fault: &Fault,
+    sink: &mut S,
+) -> Result<(), Fault>
+    ensures ok { OnOk result (WritesExplanation (S.taken sink.old) (S.taken sink.new)) }
+    ensures going { OnOk result (KeepsGoing (S.failed sink.old) (S.failed sink.new)) }
+    ensures err { IfErr result (λ e. (IsMemory e × (sink.new ≡ sink.old))
+        ⊎ IsWriteFault (S.failed sink.new) e) }
+{
+    let mut out = Explanation::new(alloc);
+    match value_of_document(&mut out, octets) {
+        Some(value) => write_refused(&mut out, &Refused::Network(&value), fault),
+        None => write_json(&mut out, octets, true),
+    }
+    put_text(sink, out.octets()?)
+}
+
+/// Explains in sentences why the traffic declaration of a network is refused, with 101 to 104 or 301 to 305, as
+/// [`put_refused_network`] does for a network.
+///
+/// Fails with 900 where memory runs out, and then nothing is written; with 902 where a write fails.
+pub fn put_refused_traffic<S: Sink>(
+    alloc: Global,
+    octets: &[u8],
+    plan: &Plan,
+    fault: &Fault,
+    sink: &mut S,
+) -> Result<(), Fault>
+    ensures ok { OnOk result (WritesExplanation (S.taken sink.old) (S.taken sink.new)) }
+    ensures going { OnOk result (KeepsGoing (S.failed sink.old) (S.failed sink.new)) }
+    ensures err { IfErr result (λ e. (IsMemory e × (sink.new ≡ sink.old))
+        ⊎ IsWriteFault (S.failed sink.new) e) }
+{
+    let mut out = Explanation::new(alloc);
+    match value_of_document(&mut out, octets) {
+        Some(value) => write_refused(&mut out, &Refused::Traffic(&value, plan), fault),
+        None => write_json(&mut out, octets, false),
+    }
+    put_text(sink, out.octets()?)
+}

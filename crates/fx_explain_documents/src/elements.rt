@@ -1,0 +1,209 @@
+//! Values that aren't allowed, and the elements that they name.
+use crate::pointers::{text_member, text_or_none};
+use crate::similar_names::similar_name;
+use fx_elements::{Element, by_id, by_name};
+use fx_explanation::{Explanation, between, element_name};
+use serde_json::Value;
+
+/// How many octets of a value are written.
+const SHOWN: usize = 200;
+
+/// The elements that are distinguished, by name: those that are axes, the prefixes of addresses, then the others.
+const NAMES: [&str; 21] = [
+    "sourceIPv4Address",
+    "destinationIPv4Address",
+    "protocolIdentifier",
+    "sourceTransportPort",
+    "destinationTransportPort",
+    "ipClassOfService",
+    "ipVersion",
+    "sourceIPv6Address",
+    "destinationIPv6Address",
+    "sourceIPv4Prefix",
+    "destinationIPv4Prefix",
+    "sourceIPv6Prefix",
+    "destinationIPv6Prefix",
+    "octetDeltaCount",
+    "packetDeltaCount",
+    "octetTotalCount",
+    "packetTotalCount",
+    "sourceIPv4PrefixLength",
+    "destinationIPv4PrefixLength",
+    "sourceIPv6PrefixLength",
+    "destinationIPv6PrefixLength",
+];
+
+/// How many of these are axes.
+const ON_AXES: usize = 9;
+
+/// How many of these are axes, or prefixes of addresses on one.
+const OF_AXES: usize = 13;
+
+/// Returns whether the element that an object names is one of an enterprise.
+fn is_of_enterprise(object: &Value) -> bool {
+    match object.get("ieEnterpriseNumber") {
+        Some(number) => number.as_u64() != Some(0),
+        None => false,
+    }
+}
+
+/// Returns the element that an object names, by its name or by its number.
+pub(crate) fn element_of(object: &Value) -> Element {
+    if is_of_enterprise(object) {
+        return Element::Other;
+    }
+    if let Some(name) = text_member(object, "ieName") {
+        return by_name(name);
+    }
+    match number_of(object) {
+        Some(number) if number < 0x8000 => by_id(number as u16, 0),
+        _ => Element::Other,
+    }
+}
+
+/// Returns the number of the element that an object names.
+fn number_of(object: &Value) -> Option<u64> {
+    object.get("ieId")?.as_u64()
+}
+
+/// Returns whether packets are distinguished by an element, or by the leading bits of it.
+fn is_of_axis(element: Element) -> bool {
+    matches!(element, Element::OnAxis(_) | Element::Prefix(_))
+}
+
+/// Writes the name of the element that a misspelled one stands for.
+fn write_near<'x>(out: &mut Explanation, name: &'x str, known: &'x str) {
+    out.text_quoted("no element is named ", name);
+    out.text("; the nearest name is ");
+    out.sentence(known);
+}
+
+/// Writes that packets aren't distinguished by the element of this name.
+fn write_named(out: &mut Explanation, name: &str) {
+    match by_name(name) {
+        Element::Other => {
+            out.text_quoted("no element that is read is named ", name);
+            out.end_line();
+        },
+        _ => {
+            out.text(name);
+            out.sentence(" is no field by which packets are distinguished");
+        },
+    }
+}
+
+/// Writes that packets aren't distinguished by the element of this number.
+fn write_numbered(out: &mut Explanation, number: u64) {
+    out.text_number("element ", number);
+    out.sentence(" is no field by which packets are distinguished");
+}
+
+/// Writes that packets aren't distinguished by the element that an object names.
+fn write_no_axis(out: &mut Explanation, object: &Value) {
+    if is_of_enterprise(object) {
+        out.sentence("packets are distinguished by no element of an enterprise");
+        return;
+    }
+    if let Some(name) = text_member(object, "ieName") {
+        write_named(out, name);
+        return;
+    }
+    if let Some(number) = number_of(object) {
+        write_numbered(out, number);
+    }
+}
+
+/// Writes the elements that may be named where packets are distinguished, those that are axes or their prefixes too.
+fn write_choice(out: &mut Explanation, prefixes: bool) {
+    let count = if prefixes { OF_AXES } else { ON_AXES };
+    out.text("elements that are allowed there: ");
+    for place in 0..count {
+        out.text(between(place > 0, ", "));
+        out.text(NAMES[place]);
+    }
+    out.end_line();
+}
+
+/// Returns the nearest name to that which an object gives to its element, where no element has that name.
+fn near_name(out: &mut Explanation, object: &Value) -> Option<&'static str> {
+    match text_member(object, "ieName") {
+        Some(name) if by_name(name) == Element::Other => similar_name(out, name, &NAMES),
+        _ => None,
+    }
+}
+
+/// Writes a field of a cache whose element is misspelled.
+fn write_misspelled<'x>(
+    out: &mut Explanation,
+    device: &'x str,
+    cache: &'x str,
+    field: &'x Value,
+    known: &'x str,
+) {
+    out.text_quoted("field ", text_or_none(field, "name"));
+    out.text_quoted(" of cache ", cache);
+    out.text(" of ");
+    out.text(device);
+    out.text_quoted(
+        " names no element that is read: ",
+        text_or_none(field, "ieName"),
+    );
+    out.text("; the nearest name is ");
+    out.sentence(known);
+}
+
+/// Returns whether an element that isn't distinguished has this name.
+fn is_registered(name: &str) -> bool {
+    for number in 0..256 {
+        if element_name(number) == name {
+            return true;
+        }
+    }
+    false
+}
+
+/// Writes the fields of a layout whose elements are misspelled, of a cache of a device.
+pub(crate) fn write_misspelled_fields(
+    out: &mut Explanation,
+    device: &str,
+    cache: &str,
+    fields: &[Value],
+) {
+    for field in fields {
+        if let Some(known) = near_name(out, field) {
+            if !is_of_enterprise(field) && !is_registered(text_or_none(field, "ieName")) {
+                write_misspelled(out, device, cache, field, known);
+            }
+        }
+    }
+}
+
+/// Writes what is wrong with the element that an object names, where packets aren't distinguished by it: the nearest
+/// name, or the elements by which they are, those of prefixes only where these may stand there. Answers whether packets
+/// are distinguished by it.
+pub(crate) fn write_element(out: &mut Explanation, object: &Value, prefixes: bool) -> bool {
+    if is_of_axis(element_of(object)) {
+        return true;
+    }
+    match near_name(out, object) {
+        Some(known) => write_near(out, text_or_none(object, "ieName"), known),
+        None => {
+            write_no_axis(out, object);
+            write_choice(out, prefixes);
+        }
+    }
+    false
+}
+
+/// Writes a value that isn't allowed, as far as it is short.
+pub(crate) fn write_value(out: &mut Explanation, value: &Value) {
+    let text = value.to_string(out.alloc);
+    let Some(text) = out.unless_short(text) else {
+        return;
+    };
+    let octets = text.as_bytes();
+    let end = octets.len().min(SHOWN);
+    out.text("the value there: ");
+    out.octets_of(&octets[..end]);
+    out.end_line();
+}

@@ -1,0 +1,313 @@
+//! What becomes of records after the devices at which a path's packets are metered.
+use crate::holders::leads_to_report;
+use crate::matches::{Taken, write_untaken};
+use crate::missing_fields::Arriving;
+use fx_base::{Name, entry_at, entry_numbered};
+use fx_boxes::Region;
+use fx_config::{Aggregation, CollectingProcess};
+use fx_explanation::{Explanation, write_end, write_sending};
+use fx_leaf::{Overlap, selection_overlap};
+use fx_plan::Plan;
+use fx_tables::{Crossing, HolderName, Point};
+use fx_topology::{NamedLink, NetworkDevice};
+use fx_walk::place_of;
+
+/// How many ways to collecting processes are written.
+const SHOWN: usize = 64;
+
+/// Ways by which records come to different collecting processes, or with different keys, as many as are written.
+#[derive(Drop)]
+struct Found<'a> {
+    plan: &'a Plan,
+    /// The places of their links.
+    places: [usize; SHOWN],
+    /// The cache or the aggregation that the records of each left last.
+    holders: [HolderName; SHOWN],
+    count: usize,
+}
+
+/// Returns whether two links lead to the same collecting process.
+fn is_same_end(one: &NamedLink, other: &NamedLink) -> bool {
+    one.to_device == other.to_device && one.to_process == other.to_process
+}
+
+/// Returns whether the records of two caches or aggregations have the same key.
+fn is_same_key(plan: &Plan, one: HolderName, other: HolderName) -> bool {
+    let net = plan.net();
+    match (net.holder_place(one), net.holder_place(other)) {
+        (Some(one), Some(other)) => net.layout_at(one).same(&net.layout_at(other)),
+        _ => false,
+    }
+}
+
+impl Found<'_> {
+    /// Returns whether the way at a place leads to the collecting process of a link.
+    fn ends_at(&self, place: usize, link: &NamedLink) -> bool {
+        let links = self.plan.network().links.as_slice();
+        match entry_at(links, place) {
+            Some(other) => is_same_end(other, link),
+            None => false,
+        }
+    }
+
+    /// Returns whether one of the first so many ways leads to the collecting process of a link.
+    fn has_end(&self, link: &NamedLink, before: usize) -> bool {
+        for place in self.places.iter().take(before) {
+            if self.ends_at(*place, link) {
+                return true;
+            }
+        }
+        false
+    }
+
+    /// Returns whether records with the same key come to the collecting process of a link already.
+    fn has(&self, link: &NamedLink, holder: HolderName) -> bool {
+        for known in 0..SHOWN {
+            if known < self.count
+                && self.ends_at(self.places[known], link)
+                && is_same_key(self.plan, self.holders[known], holder)
+            {
+                return true;
+            }
+        }
+        false
+    }
+
+    /// Adds the link at a place, by which records of a cache or an aggregation come.
+    fn add(&mut self, place: usize, link: &NamedLink, holder: HolderName) {
+        if self.count < SHOWN && !self.has(link, holder) {
+            self.places[self.count] = place;
+            self.holders[self.count] = holder;
+            self.count += 1;
+        }
+    }
+}
+
+/// Adds the links by which exporting processes of a device send the records of a cache or an aggregation.
+fn add_links(
+    found: &mut Found<'_>,
+    device: &NetworkDevice,
+    exporters: &[Name],
+    holder: HolderName,
+) {
+    let links = found.plan.network().links.as_slice();
+    for place in 0..links.len() {
+        let link = &links[place];
+        if link.device == device.name && exporters.contains(&link.exporting_process) {
+            found.add(place, link, holder);
+        }
+    }
+}
+
+/// Returns whether a point hands packets of a region to the cache at a place of the network's table.
+fn is_selected(point: &Point, region: &Region, holder: Option<usize>) -> bool {
+    for selection in point.selections() {
+        if selection.holder == holder
+            && !matches!(
+                selection_overlap(region, &selection.region),
+                Overlap::Nothing
+            )
+        {
+            return true;
+        }
+    }
+    false
+}
+
+/// Returns whether a cache meters packets of a region that make a crossing.
+fn is_metered(plan: &Plan, region: &Region, crossing: &Crossing, cache: HolderName) -> bool {
+    let holder = plan.net().holder_place(cache);
+    for point in plan.net().points_of(crossing.device) {
+        if point.watches(crossing) && is_selected(point, region, holder) {
+            return holder.is_some();
+        }
+    }
+    false
+}
+
+/// Adds the links by which those caches of a crossing's device send that meter packets of a region there.
+fn add_first(found: &mut Found<'_>, region: &Region, crossing: &Crossing) {
+    let plan = found.plan;
+    let devices = plan.network().devices.as_slice();
+    let Some(device) = entry_numbered(devices, crossing.device) else {
+        return;
+    };
+    let caches = device.config.caches.as_slice();
+    for place in 0..caches.len() {
+        let cache = HolderName::Cache {
+            device: crossing.device,
+            cache: place as u64 + 1,
+        };
+        if is_metered(plan, region, crossing, cache) {
+            let exporters = caches[place].exporting_processes.as_slice();
+            add_links(found, device, exporters, cache);
+        }
+    }
+}
+
+/// Adds the links by which a collecting process sends records on, those of aggregations too. The places of its device
+/// and of itself count from 0.
+fn add_onward(
+    found: &mut Found<'_>,
+    device: &NetworkDevice,
+    process: &CollectingProcess,
+    places: (usize, usize),
+    holder: HolderName,
+) {
+    add_links(
+        found,
+        device,
+        process.exporting_processes.as_slice(),
+        holder,
+    );
+    let aggregations = process.aggregations.as_slice();
+    for place in 0..aggregations.len() {
+        let aggregation = HolderName::Aggregation {
+            device: (places.0 as u64).saturating_add(1),
+            process: (places.1 as u64).saturating_add(1),
+            aggregation: place as u64 + 1,
+        };
+        let exporters = aggregations[place].exporting_processes.as_slice();
+        add_links(found, device, exporters, aggregation);
+    }
+}
+
+/// Writes where an aggregation's records go.
+fn write_aggregation(
+    out: &mut Explanation,
+    plan: &Plan,
+    device: &NetworkDevice,
+    aggregation: &Aggregation,
+) {
+    let exporters = aggregation.exporting_processes.as_slice();
+    out.text_quoted("; aggregation ", aggregation.name.as_str());
+    out.text(if exporters.is_empty() {
+        ": it has no exporting process, so its records are lost"
+    } else {
+        ": "
+    });
+    let _choices = write_sending(out, plan, device, exporters, &[]);
+}
+
+/// Writes the collecting process to which a link leads, and where it sends records on.
+fn write_process(
+    out: &mut Explanation,
+    plan: &Plan,
+    link: &NamedLink,
+    device: &NetworkDevice,
+    process: &CollectingProcess,
+) {
+    let exporters = process.exporting_processes.as_slice();
+    write_end(out, link);
+    if leads_to_report(&plan.network().report, link) {
+        out.text(" is the report's");
+    }
+    if !exporters.is_empty() {
+        out.text("; it forwards: ");
+        let _choices = write_sending(out, plan, device, exporters, &[]);
+    }
+    for aggregation in process.aggregations.as_slice() {
+        write_aggregation(out, plan, device, aggregation);
+    }
+    out.end_line();
+}
+
+/// Writes why the records of a cache or an aggregation stay unassigned that come by the link at a place, or aren't
+/// taken in by aggregations of a collecting process.
+fn write_lacking<'x>(
+    out: &mut Explanation,
+    plan: &'x Plan,
+    region: &'x Region,
+    place: usize,
+    holder: HolderName,
+    device: &'x NetworkDevice,
+    process: &'x CollectingProcess,
+) {
+    let net = plan.net();
+    let Some(end) = entry_at(net.links(), place).copied() else {
+        return;
+    };
+    let fields = region.corner();
+    let arriving = Arriving {
+        plan,
+        origin: net.holder_place(holder).unwrap_or(usize::MAX),
+        fields: &fields,
+    };
+    if end == net.report() {
+        arriving.write_unassigned_of(out, holder);
+    }
+    if let Some(handled) = entry_at(net.processes(), end) {
+        let taken = Taken {
+            region,
+            arriving,
+            holder,
+            device,
+            process,
+        };
+        write_untaken(out, &taken, handled.aggregations());
+    }
+}
+
+/// Writes what becomes of records at the end of the way of this number from 0, which is written where no way before
+/// leads there, and adds those by which they are sent on.
+fn write_way(
+    out: &mut Explanation,
+    found: &mut Found<'_>,
+    region: &Region,
+    place: usize,
+    next: usize,
+    holder: HolderName,
+) {
+    let plan = found.plan;
+    let Some(link) = entry_at(plan.network().links.as_slice(), place) else {
+        return;
+    };
+    let devices = plan.network().devices.as_slice();
+    let Some(at) = place_of(devices, &link.to_device) else {
+        return;
+    };
+    let Some(device) = entry_at(devices, at) else {
+        return;
+    };
+    let processes = device.config.collecting_processes.as_slice();
+    let Some(of) = place_of(processes, &link.to_process) else {
+        return;
+    };
+    if let Some(process) = entry_at(processes, of) {
+        if !found.has_end(link, next) {
+            write_process(out, plan, link, device, process);
+        }
+        write_lacking(out, plan, region, place, holder, device, process);
+        add_onward(found, device, process, (at, of), holder);
+    }
+}
+
+/// Writes the collecting processes to which the records of a region's packets may come that take a path, each once and
+/// 64 at most, where each sends them, what their key lacks for the report, and which aggregations don't take all of
+/// them in, and why.
+pub(crate) fn write_following(
+    out: &mut Explanation,
+    plan: &Plan,
+    region: &Region,
+    crossings: &[Crossing],
+) {
+    let nothing = HolderName::Cache {
+        device: 0,
+        cache: 0,
+    };
+    let mut found = Found {
+        plan,
+        places: [0; SHOWN],
+        holders: [nothing; SHOWN],
+        count: 0,
+    };
+    for crossing in crossings {
+        add_first(&mut found, region, crossing);
+    }
+    for next in 0..SHOWN {
+        if next < found.count {
+            let (place, holder) = (found.places[next], found.holders[next]);
+            write_way(out, &mut found, region, place, next, holder);
+        }
+    }
+}

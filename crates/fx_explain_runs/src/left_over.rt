@@ -1,0 +1,169 @@
+//! What is left at the end of a run that isn't complete.
+use fx_config::CollectingProcess;
+use fx_explanation::{Documents, Explanation, write_numbered};
+use fx_machine::State;
+use fx_plan::Plan;
+use fx_tables::{Crossing, HolderName};
+use fx_topology::{NamedLink, NetworkDevice};
+
+/// How many crossings are written.
+const SHOWN: u64 = 20;
+
+/// The end of a run.
+#[derive(Drop)]
+struct End<'a, 'b> {
+    state: &'a State<'b>,
+    /// How many crossings are to come.
+    to_come: u64,
+}
+
+impl End<'_, '_> {
+    /// Writes which crossings of the packet of this number are to come, unless many were written, with a text before
+    /// each.
+    fn write_to_come(
+        &mut self,
+        out: &mut Explanation,
+        plan: &Plan,
+        packet: u64,
+        crossings: &[Crossing],
+        is_numbered: bool,
+    ) {
+        for place in 0..crossings.len() {
+            let number = place as u64 + 1;
+            if self.state.is_to_come(packet, number) {
+                self.to_come = self.to_come.saturating_add(1);
+                if self.to_come <= SHOWN {
+                    if is_numbered {
+                        out.text_number("packet ", packet);
+                        out.text(": ");
+                    }
+                    write_numbered(out, plan, number, &crossings[place]);
+                    out.sentence(" is still to come");
+                }
+            }
+        }
+    }
+
+    /// Writes which crossings of packets are to come.
+    fn write_all_to_come(&mut self, out: &mut Explanation, documents: &Documents<'_>) {
+        let packets = self.state.packets();
+        let is_numbered = packets.len() > 1;
+        for place in 0..packets.len() {
+            let crossings = documents.traffic.classes().path_of(&packets[place]);
+            self.write_to_come(
+                out,
+                documents.plan,
+                place as u64 + 1,
+                crossings,
+                is_numbered,
+            );
+        }
+        if self.to_come > SHOWN {
+            out.text_number(
+                "other crossings that are still to come: ",
+                self.to_come.saturating_sub(SHOWN),
+            );
+            out.end_line();
+        }
+    }
+
+    /// Returns how many records a cache or an aggregation still has.
+    fn held(&self, name: HolderName) -> u64 {
+        let place = self.state.net().holder_place(name);
+        self.state.records_held(place.unwrap_or(usize::MAX))
+    }
+
+    /// Writes the records that are left in the caches of a device, which is of this number.
+    fn write_caches(&self, out: &mut Explanation, device: &NetworkDevice, number: u64) {
+        let caches = device.config.caches.as_slice();
+        for place in 0..caches.len() {
+            let cache = place as u64 + 1;
+            let count = self.held(HolderName::Cache {
+                device: number,
+                cache,
+            });
+            if count > 0 {
+                out.text_quoted("cache ", caches[place].name.as_str());
+                out.text(" of ");
+                out.text(device.name.as_str());
+                out.text_number(" still holds records: ", count);
+                out.text_number("; the first leaves by a line expire cache ", number);
+                out.text_number(" ", cache);
+                out.sentence(" 1 CHOICES");
+            }
+        }
+    }
+
+    /// Writes the records that are left in the aggregations of a collecting process, which is of this number on its
+    /// device.
+    fn write_aggregations(
+        &self,
+        out: &mut Explanation,
+        process: &CollectingProcess,
+        device: u64,
+        number: u64,
+    ) {
+        let aggregations = process.aggregations.as_slice();
+        for place in 0..aggregations.len() {
+            let aggregation = place as u64 + 1;
+            let count = self.held(HolderName::Aggregation {
+                device,
+                process: number,
+                aggregation,
+            });
+            if count > 0 {
+                out.text_quoted("aggregation ", aggregations[place].name.as_str());
+                out.text_quoted(" of collecting process ", process.name.as_str());
+                out.text_number(" still holds records: ", count);
+                out.text_number("; the first leaves by a line expire aggregation ", device);
+                out.text_number(" ", number);
+                out.text_number(" ", aggregation);
+                out.sentence(" 1 CHOICES");
+            }
+        }
+    }
+
+    /// Writes the records that are left in the aggregations of a device, which is of this number.
+    fn write_processes(&self, out: &mut Explanation, device: &NetworkDevice, number: u64) {
+        let processes = device.config.collecting_processes.as_slice();
+        for place in 0..processes.len() {
+            self.write_aggregations(out, &processes[place], number, place as u64 + 1);
+        }
+    }
+
+    /// Writes the records that are left on links.
+    fn write_links(&self, out: &mut Explanation, links: &[NamedLink]) {
+        for place in 0..links.len() {
+            let count = self.state.records_on(place);
+            if count > 0 {
+                out.text_quoted(
+                    "on the link to collecting process ",
+                    links[place].to_process.as_str(),
+                );
+                out.text(" of ");
+                out.text(links[place].to_device.as_str());
+                out.text_number(" are still records: ", count);
+                out.text_number("; the first arrives by a line arrive ", place as u64 + 1);
+                out.sentence(" 1 CHOICES");
+            }
+        }
+    }
+}
+
+/// Writes what a run leaves undone of which this is the last state: which crossings are to come, the first 20 of them,
+/// and which records are held or on links.
+pub(crate) fn write_undone(out: &mut Explanation, documents: &Documents<'_>, last: &State<'_>) {
+    let mut end = End {
+        state: last,
+        to_come: 0,
+    };
+    end.write_all_to_come(out, documents);
+    let network = documents.plan.network();
+    let devices = network.devices.as_slice();
+    for place in 0..devices.len() {
+        let number = place as u64 + 1;
+        end.write_caches(out, &devices[place], number);
+        end.write_processes(out, &devices[place], number);
+    }
+    end.write_links(out, network.links.as_slice());
+}

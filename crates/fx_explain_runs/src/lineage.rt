@@ -1,0 +1,297 @@
+//! What becomes of the records of a packet that is alone in a run, step by step.
+use crate::ways::{Event, Ways, is_some_at};
+use fx_base::entry_numbered;
+use fx_explanation::{Documents, Explanation, unless_refused};
+use fx_machine::{Effects, State, TakenIn, Tally};
+use fx_run_text::Step;
+use fx_tables::{Crossing, HolderName, Net, Occurrence, Packet};
+use std::alloc::{AllocError, Global};
+
+/// A packet is metered at a crossing, and goes into a record.
+#[derive(Clone, Copy)]
+pub(crate) struct Sighting {
+    /// The number of the crossing on the packet's path, from 1.
+    pub(crate) crossing: u64,
+    /// Where it is metered there.
+    pub(crate) occurrence: Occurrence,
+    /// The number of the record, from 0.
+    pub(crate) record: usize,
+}
+
+/// A record that a step handled: the step's place, from 0, and the cache or the aggregation that the record left last.
+#[derive(Clone, Copy)]
+pub(crate) struct Handled {
+    pub(crate) step: usize,
+    pub(crate) holder: HolderName,
+}
+
+/// The records that are held and on links, by the effects of the steps so far.
+struct Places {
+    /// The numbers of the records of each holder, from 0, by position.
+    held: Vec<Vec<usize>>,
+    /// The records on each link, by position: the steps that sent them.
+    carried: Vec<Vec<Handled>>,
+    /// How many records were held so far.
+    count: usize,
+}
+
+impl Drop for Places {
+    /// Takes it apart in one place.
+    fn drop(self) {
+        let Self {
+            held: _,
+            carried: _,
+            count: _,
+        } = self;
+    }
+}
+
+/// Returns so many empty lists.
+fn empty_lists<T: Drop>(alloc: Global, count: usize) -> Result<Vec<Vec<T>>, AllocError> {
+    let mut lists = Vec::new(alloc);
+    for _place in 0..count {
+        lists.push(Vec::new(alloc))?;
+    }
+    Ok(lists)
+}
+
+/// Takes the entry at a position, from 1, out of the list at a place, from 0, if it is there.
+fn take_out<T: Copy + Drop>(lists: &mut [Vec<T>], place: usize, position: u64) -> Option<T> {
+    let list = lists.get_mut(place)?;
+    let entry = entry_numbered(list.as_slice(), position).copied()?;
+    let _entry = list.remove(position.saturating_sub(1) as usize);
+    Some(entry)
+}
+
+impl Places {
+    /// Returns the number of the record that takes something in, which is a new one or joined.
+    fn take_in(&mut self, taken: &TakenIn) -> Result<usize, AllocError> {
+        let record = self.count;
+        let Some(records) = self.held.get_mut(taken.holder) else {
+            return Ok(record);
+        };
+        if let Some(joined) = entry_numbered(records.as_slice(), taken.joined.unwrap_or(0)) {
+            return Ok(*joined);
+        }
+        records.push(record)?;
+        self.count = record.saturating_add(1);
+        Ok(record)
+    }
+
+    /// Adds a record to each of these links.
+    fn send(&mut self, links: &[usize], sent: Handled) -> Result<(), AllocError> {
+        for link in links {
+            if let Some(records) = self.carried.get_mut(*link) {
+                records.push(sent)?;
+            }
+        }
+        Ok(())
+    }
+}
+
+/// The run of a packet that is alone in it, and what became of its records so far.
+pub(crate) struct Lineage<'a> {
+    alloc: Global,
+    net: &'a Net,
+    packet: &'a Packet,
+    path: &'a [Crossing],
+    state: State<'a>,
+    places: Places,
+    events: Vec<Event>,
+    /// Where the packet was metered.
+    pub(crate) sightings: Vec<Sighting>,
+    /// What the records left last that came to the report.
+    pub(crate) reported: Vec<HolderName>,
+    /// The steps after which its records were nowhere.
+    pub(crate) lost: Vec<Handled>,
+    /// How many steps were made.
+    made: usize,
+}
+
+impl Drop for Lineage<'_> {
+    /// Takes it apart in one place.
+    fn drop(self) {
+        let Self {
+            alloc: _,
+            net: _,
+            packet: _,
+            path: _,
+            state: _,
+            places: _,
+            events: _,
+            sightings: _,
+            reported: _,
+            lost: _,
+            made: _,
+        } = self;
+    }
+}
+
+/// Returns the places of a network that holds and carries nothing.
+fn no_records(alloc: Global, net: &Net) -> Result<Places, AllocError> {
+    Ok(Places {
+        held: empty_lists(alloc, net.holders().len())?,
+        carried: empty_lists(alloc, net.links().len())?,
+        count: 0,
+    })
+}
+
+impl<'a> Lineage<'a> {
+    /// Returns the lineage before the first step of a run of this packet, or none if it isn't of its class or out of
+    /// memory, which the explanation notes.
+    pub(crate) fn new(
+        out: &mut Explanation,
+        documents: &Documents<'a>,
+        packet: &'a Packet,
+    ) -> Option<Lineage<'a>> {
+        let alloc = out.alloc;
+        let net = documents.plan.net();
+        let classes = documents.traffic.classes();
+        let packets = out.unless_short(Vec::from_slice(alloc, &[*packet]))?;
+        let opened = State::open(alloc, net, classes, packets);
+        let state = unless_refused(out, opened)?;
+        let places = out.unless_short(no_records(alloc, net))?;
+        Some(Lineage {
+            alloc,
+            net,
+            packet,
+            path: classes.path_of(packet),
+            state,
+            places,
+            events: Vec::new(alloc),
+            sightings: Vec::new(alloc),
+            reported: Vec::new(alloc),
+            lost: Vec::new(alloc),
+            made: 0,
+        })
+    }
+
+    /// Returns the record at a position, from 1, of the link of this number, from 1.
+    pub(crate) fn sent(&self, link: u64, position: u64) -> Option<Handled> {
+        let records = entry_numbered(self.places.carried.as_slice(), link)?;
+        entry_numbered(records.as_slice(), position).copied()
+    }
+
+    /// Notes where the packet is metered at the crossing of this number, from 1.
+    fn cross(&mut self, number: u64, effects: &Effects) -> Result<(), AllocError> {
+        let Some(crossing) = entry_numbered(self.path, number) else {
+            return Ok(());
+        };
+        let occurrences = self
+            .net
+            .occurrences(self.alloc, crossing, &self.packet.fields)?;
+        let taken = effects.taken();
+        for place in 0..occurrences.len().min(taken.len()) {
+            let record = self.places.take_in(&taken[place])?;
+            self.sightings.push(Sighting {
+                crossing: number,
+                occurrence: occurrences[place],
+                record,
+            })?;
+        }
+        Ok(())
+    }
+
+    /// Notes a step after which a record is nowhere.
+    fn note_lost(&mut self, effects: &Effects, handled: Handled) -> Result<(), AllocError> {
+        if effects.links().is_empty()
+            && effects.taken().is_empty()
+            && effects.tally() == Tally::Untallied
+        {
+            self.lost.push(handled)?;
+        }
+        Ok(())
+    }
+
+    /// Notes what becomes of a record that leaves a holder.
+    fn expire(
+        &mut self,
+        holder: HolderName,
+        position: u64,
+        effects: &Effects,
+    ) -> Result<(), AllocError> {
+        let step = self.made;
+        let place = self.net.holder_place(holder).unwrap_or(usize::MAX);
+        if let Some(record) = take_out(self.places.held.as_mut_slice(), place, position) {
+            let handled = Handled { step, holder };
+            self.events.push(Event::Left { step, record })?;
+            self.places.send(effects.links(), handled)?;
+            self.note_lost(effects, handled)?;
+        }
+        Ok(())
+    }
+
+    /// Notes what becomes of a record that arrives by the link of this number, from 1.
+    fn arrive(&mut self, link: u64, position: u64, effects: &Effects) -> Result<(), AllocError> {
+        let step = self.made;
+        let place = link.saturating_sub(1) as usize;
+        let Some(sent) = take_out(self.places.carried.as_mut_slice(), place, position) else {
+            return Ok(());
+        };
+        let is_reported = effects.tally() != Tally::Untallied;
+        self.events.push(Event::Arrived {
+            step,
+            sent: sent.step,
+            is_reported,
+        })?;
+        if is_reported {
+            self.reported.push(sent.holder)?;
+        }
+        let handled = Handled {
+            step,
+            holder: sent.holder,
+        };
+        self.places.send(effects.links(), handled)?;
+        for taken in effects.taken() {
+            let into = self.places.take_in(taken)?;
+            self.events.push(Event::Taken { step, into })?;
+        }
+        self.note_lost(effects, handled)
+    }
+
+    /// Notes the effects of a step.
+    fn note(&mut self, step: &Step, effects: &Effects) -> Result<(), AllocError> {
+        match step {
+            Step::Cross { crossing, .. } => self.cross(*crossing, effects),
+            Step::Expire {
+                holder,
+                position,
+                ..
+            } => self.expire(*holder, *position, effects),
+            Step::Arrive { link, position, .. } => self.arrive(*link, *position, effects),
+        }
+    }
+
+    /// Makes a step, if it isn't refused.
+    pub(crate) fn take(&mut self, out: &mut Explanation, step: &Step) {
+        let read = self.state.effects(step);
+        if let Some(effects) = unless_refused(out, read) {
+            let noted = self.note(step, &effects);
+            let _noted = out.unless_short(noted);
+            let made = self.state.step(step);
+            let _made = unless_refused(out, made);
+        }
+        self.made = self.made.saturating_add(1);
+    }
+
+    /// Returns in which ways records came to the report.
+    pub(crate) fn ways(&self) -> Result<Ways, AllocError> {
+        Ways::of(
+            self.alloc,
+            self.events.as_slice(),
+            self.made,
+            self.places.count,
+        )
+    }
+
+    /// Returns where the packet was metered, of records that came to the report.
+    pub(crate) fn reported_sightings(&self, ways: &Ways) -> Result<Vec<Sighting>, AllocError> {
+        let mut found = Vec::new(self.alloc);
+        for sighting in self.sightings.as_slice() {
+            if is_some_at(ways.records.as_slice(), sighting.record) {
+                found.push(*sighting)?;
+            }
+        }
+        Ok(found)
+    }
+}

@@ -1,0 +1,383 @@
+//! Why a step of a run can't be made.
+use crate::choosing::Choosers;
+use crate::lines::write_line;
+use crate::steps::write_step;
+use fx_base::{Fault, Line, Room, entry_at, entry_numbered, refusals};
+use fx_explanation::{Documents, Explanation, unless_refused};
+use fx_machine::{State, StepActs};
+use fx_run_text::{Step, put_step_line};
+use fx_tables::{HolderName, Net};
+
+/// How many choices are written.
+const FEW: usize = 20;
+
+/// What records wait in.
+#[derive(Clone, Copy, PartialEq, Eq)]
+enum Waiting {
+    /// A cache or an aggregation.
+    Holder(HolderName),
+    /// The link of this number, from 1.
+    Link(u64),
+}
+
+impl Waiting {
+    /// Returns what a step takes a record from, and its position there.
+    fn of(step: &Step) -> Option<(Waiting, u64)> {
+        match step {
+            Step::Cross { .. } => None,
+            Step::Expire {
+                holder,
+                position,
+                ..
+            } => Some((Waiting::Holder(*holder), *position)),
+            Step::Arrive { link, position, .. } => Some((Waiting::Link(*link), *position)),
+        }
+    }
+
+    /// Returns how many records wait there.
+    fn count(self, state: &State<'_>) -> u64 {
+        match self {
+            Waiting::Holder(holder) => {
+                let place = state.net().holder_place(holder);
+                state.records_held(place.unwrap_or(usize::MAX))
+            }
+            Waiting::Link(link) => state.records_on(link.saturating_sub(1) as usize),
+        }
+    }
+}
+
+/// A step that can't be made, and the state before it.
+#[derive(Drop)]
+pub(crate) struct Unmade<'a, 'b> {
+    pub(crate) documents: &'a Documents<'a>,
+    pub(crate) state: &'a State<'b>,
+    /// The last steps before it, as far as they are known.
+    pub(crate) before: &'a [Step],
+    /// The number of its line, from 1.
+    pub(crate) line: u64,
+    pub(crate) step: &'a Step,
+    /// Why it is refused.
+    pub(crate) fault: &'a Fault,
+}
+
+/// Returns whether a step makes this crossing of this packet.
+fn makes(step: &Step, packet: u64, crossing: u64) -> bool {
+    match step {
+        Step::Cross {
+            packet: made,
+            crossing: there,
+            ..
+        } => *made == packet && *there == crossing,
+        _ => false,
+    }
+}
+
+/// Returns whether a step takes a record from there.
+fn takes(step: &Step, waiting: Waiting) -> bool {
+    match Waiting::of(step) {
+        Some((taken, _)) => taken == waiting,
+        None => false,
+    }
+}
+
+/// Returns the choices of a step.
+fn choices_of(step: &Step) -> &[Option<u64>] {
+    match step {
+        Step::Cross { choices, .. } | Step::Expire { choices, .. } | Step::Arrive { choices, .. } =>
+            { choices.as_slice() }
+    }
+}
+
+/// Returns which choices a step has, in words.
+fn rule_words(step: &Step) -> &'static str {
+    match step {
+        Step::Cross { .. } => {
+            "; one for each selection process with a cache that meters the packet there"
+        }
+        Step::Expire { .. } => "; one for each exporting process that isn't parallel",
+        Step::Arrive { .. } => {
+            "; one for each exporting process of the collecting process that isn't parallel, then one for each of its \
+aggregations that takes the record in"
+        }
+    }
+}
+
+/// Choices that holders take for records, one for each holding.
+#[derive(Drop)]
+struct Taking<'a, 'b> {
+    state: &'a State<'b>,
+    acts: &'a StepActs<'a>,
+    choices: &'a [Option<u64>],
+}
+
+impl Taking<'_, '_> {
+    /// Returns whether the holding at a place, from 0, has the key of the record at a position of its holder, from 1:
+    /// one that was held before the step, or else one that is new by a choice before.
+    fn has_key_at(&self, place: usize, position: u64) -> bool {
+        let holdings = self.acts.holdings.as_slice();
+        let Some(holding) = entry_at(holdings, place) else {
+            return false;
+        };
+        if let Some(record) = self.state.record_held(holding.holder, position) {
+            return record.key.same(&holding.key);
+        }
+        let mut last = self.state.records_held(holding.holder);
+        for at in 0..place.min(holdings.len()) {
+            let is_new = matches!(entry_at(self.choices, at), Some(None));
+            if is_new && holdings[at].holder == holding.holder {
+                last = last.saturating_add(1);
+                if last == position {
+                    return holdings[at].key.same(&holding.key);
+                }
+            }
+        }
+        false
+    }
+
+    /// Returns the first position of a record with the key of the holding at a place, from 0, if there is one.
+    fn same_key(&self, place: usize) -> Option<u64> {
+        let holding = entry_at(self.acts.holdings.as_slice(), place)?;
+        let most = self
+            .state
+            .records_held(holding.holder)
+            .saturating_add(place as u64);
+        for position in 1..=most {
+            if self.has_key_at(place, position) {
+                return Some(position);
+            }
+        }
+        None
+    }
+
+    /// Returns the place of the first choice, from 0, that its holder can't take, if there is one.
+    fn wrong(&self) -> Option<usize> {
+        for place in 0..self.choices.len() {
+            if let Some(position) = self.choices[place] {
+                if !self.has_key_at(place, position) {
+                    return Some(place);
+                }
+            }
+        }
+        None
+    }
+}
+
+/// Returns the place of the first choice that names no destination of the exporting process that takes it, and how many
+/// choices exporting processes take.
+fn wrong_destination(
+    net: &Net,
+    acts: &StepActs<'_>,
+    choices: &[Option<u64>],
+) -> (Option<usize>, usize) {
+    let mut used: usize = 0;
+    let mut wrong = None;
+    for at in acts.exporters {
+        if let Some(exporter) = entry_at(net.exporters(), *at) {
+            if !exporter.parallel() {
+                let chosen = entry_at(choices, used).copied().flatten().unwrap_or(0);
+                if wrong.is_none() && entry_numbered(exporter.destinations(), chosen).is_none() {
+                    wrong = Some(used);
+                }
+                used = used.saturating_add(1);
+            }
+        }
+    }
+    (wrong, used)
+}
+
+impl Unmade<'_, '_> {
+    /// Returns the number of the line of the step at a place among those before.
+    fn line_of(&self, place: usize) -> u64 {
+        self.line
+            .saturating_sub(self.before.len() as u64)
+            .saturating_add(place as u64)
+    }
+
+    /// Returns whether the packet of this number has a crossing of this number on its path, both from 1.
+    fn has_crossing(&self, packet: u64, crossing: u64) -> bool {
+        match entry_numbered(self.state.packets(), packet) {
+            Some(packet) => {
+                let crossings = self.state.classes().path_of(packet);
+                entry_numbered(crossings, crossing).is_some()
+            }
+            None => false,
+        }
+    }
+
+    /// Writes that a step before makes this crossing, and its line, if it is known.
+    fn write_made(&self, out: &mut Explanation, packet: u64, crossing: u64) {
+        for place in 0..self.before.len() {
+            if makes(&self.before[place], packet, crossing) {
+                out.text_number("line ", self.line_of(place));
+                out.sentence(" makes this crossing of it already; each crossing is made once");
+                return;
+            }
+        }
+        if self.has_crossing(packet, crossing) {
+            out.sentence(
+                "a line before makes this crossing of it already; each crossing is made once",
+            );
+        }
+    }
+
+    /// Writes the line of the last step before that takes a record from there, if it is known.
+    fn write_taken(&self, out: &mut Explanation, waiting: Waiting) {
+        for after in 0..self.before.len() {
+            let place = self.before.len() - 1 - after;
+            if takes(&self.before[place], waiting) {
+                out.text_number("; line ", self.line_of(place));
+                out.text(" took the last one that was there");
+                return;
+            }
+        }
+    }
+
+    /// Writes at which positions records are.
+    fn write_positions(&self, out: &mut Explanation, waiting: Waiting, position: u64) {
+        let count = waiting.count(self.state);
+        if count == 0 {
+            out.text("before this step no record is there");
+            self.write_taken(out, waiting);
+        } else {
+            out.text_number("before this step the number of records there is ", count);
+            out.text_number("; positions count from 1, and none is at ", position);
+        }
+        out.end_line();
+    }
+
+    /// Writes how many choices a step has, and how many it should have.
+    fn write_count(&self, out: &mut Explanation, choosers: &Choosers<'_>, written: usize) {
+        let wanted = choosers.count();
+        out.text_number("choices of the step: ", written as u64);
+        out.text_number("; it takes ", wanted as u64);
+        out.sentence(rule_words(self.step));
+        write_choices_due(out, choosers, written, wanted);
+    }
+
+    /// Writes which choice is wrong, or how many the step should have.
+    fn write_wrong(&self, out: &mut Explanation, choosers: &Choosers<'_>) {
+        let choices = choices_of(self.step);
+        if choices.len() != choosers.count() {
+            self.write_count(out, choosers, choices.len());
+            return;
+        }
+        let (destination, used) = wrong_destination(self.state.net(), choosers.acts, choices);
+        if let Some(place) = destination {
+            write_wrong_choice(out, choosers, place, choices);
+            return;
+        }
+        let taking = Taking {
+            state: self.state,
+            acts: choosers.acts,
+            choices: choices.get(used..).unwrap_or(&[]),
+        };
+        if let Some(place) = taking.wrong() {
+            write_wrong_choice(out, choosers, used.saturating_add(place), choices);
+            write_same_key(out, taking.same_key(place));
+        }
+    }
+
+    /// Writes which choice of the step is wrong, or how many it should have.
+    fn write_choices(&self, out: &mut Explanation) {
+        let asked = self.state.acts(self.step);
+        if let Some(acts) = unless_refused(out, asked) {
+            let choosers = Choosers {
+                documents: self.documents,
+                acts: &acts,
+                step: self.step,
+            };
+            self.write_wrong(out, &choosers);
+        }
+    }
+
+    /// Writes why the step can't be made.
+    fn write_why(&self, out: &mut Explanation) {
+        match (self.step, self.fault.number) {
+            (
+                Step::Cross {
+                    packet,
+                    crossing,
+                    ..
+                },
+                refusals::STEP_NOT_ENABLED,
+            ) => self.write_made(out, *packet, *crossing),
+            (_, refusals::WRONG_CHOICES) => self.write_choices(out),
+            (step, refusals::NO_RECORD_THERE) => {
+                if let Some((waiting, position)) = Waiting::of(step) {
+                    self.write_positions(out, waiting, position);
+                }
+            }
+            _ => {}
+        }
+    }
+
+    /// Writes the step's line, what it is to do, and why it can't be made.
+    pub(crate) fn write(&self, out: &mut Explanation) {
+        write_step_line(out, self.line, self.step);
+        out.text("this step is impossible; it asks for: ");
+        write_step(out, self.documents, self.state.packets(), self.step);
+        self.write_why(out);
+    }
+}
+
+/// Writes a step as its line has it, which is of this number.
+fn write_step_line(out: &mut Explanation, number: u64, step: &Step) {
+    let mut octets = [0; 200];
+    let mut room = Room::new(&mut octets);
+    // What has no room there is left out.
+    let _written = put_step_line(&mut room, step);
+    let shown = room.octets();
+    let end = shown.len().saturating_sub(1);
+    let line = Line {
+        bytes: &shown[..end],
+        number,
+        ended: true,
+    };
+    write_line(out, &line);
+}
+
+/// Writes what is wrong with the choice at a place, from 0.
+fn write_wrong_choice(
+    out: &mut Explanation,
+    choosers: &Choosers<'_>,
+    place: usize,
+    choices: &[Option<u64>],
+) {
+    out.text_number("choice ", (place as u64).saturating_add(1));
+    match entry_at(choices, place).copied().flatten() {
+        Some(number) => out.text_number(" is ", number),
+        None => out.text(" is n"),
+    }
+    out.text("; ");
+    choosers.write_due(out, place);
+}
+
+/// Writes at which position the first record with the same key is.
+fn write_same_key(out: &mut Explanation, position: Option<u64>) {
+    if let Some(position) = position {
+        out.text_number(
+            "the first record there with the same key is at position ",
+            position,
+        );
+        out.end_line();
+    }
+}
+
+/// Writes what is due as each of so many choices, and which exporting processes take none.
+fn write_choices_due(
+    out: &mut Explanation,
+    choosers: &Choosers<'_>,
+    written: usize,
+    wanted: usize,
+) {
+    for place in 0..wanted.min(FEW) {
+        out.text_number("choice ", place as u64 + 1);
+        out.text(": ");
+        choosers.write_due(out, place);
+    }
+    if written > wanted {
+        choosers.write_parallel(out);
+        out.text_number("choices to remove: ", (written - wanted) as u64);
+        out.end_line();
+    }
+}

@@ -1,7 +1,0 @@
-use denote.Text.{Utf8}
-use denote.Shadow.{shadow}
-use Rattle.fx_stories.proofs.pointers.last_member.Given as goal
-
--- the last member is text at each turn
-abbrev pub invariant-loop-segment : goal.invariant-loop-segment
-invariant-loop-segment l = shadow (Utf8 l.last)

@@ -1,5 +1,0 @@
-use Rattle.fx_base.specs.Lines.{line_budget}
-use Rattle.fx_stories.proofs.runs.find_line.Given as goal
-
-abbrev pub decreases-lines : goal.decreases-lines
-decreases-lines l = line_budget l.lines
