@@ -24,7 +24,7 @@ GROUPS = {
     "model": "fx_tables fx_run_text fx_machine fx_leaf fx_collect fx_runs",
     "formats": "fx_cert fx_wire fx_session fx_link fx_pcap",
     "documents": "fx_walk fx_config fx_ranks fx_selectors fx_topology fx_plan fx_traffic",
-    "deciders": "fx_check fx_refute fx_steps fx_search",
+    "deciders": "fx_check fx_parts fx_refute fx_steps fx_search",
     "simulation": "fx_store fx_net fx_conform fx_sums",
     "explaining": "fx_words fx_explanation fx_explain_documents fx_explain_runs fx_explain_streams fx_drawings",
     "program": "fx_audit fx_command_line fx_cli once",

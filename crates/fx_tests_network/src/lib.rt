@@ -6,6 +6,8 @@ mod answers;
 #[cfg(test)]
 mod collect;
 #[cfg(test)]
+mod covered;
+#[cfg(test)]
 mod leaf;
 #[cfg(test)]
 mod leaf_chain;

@@ -1,0 +1,30 @@
+use Rattle.std.proofs.Common.{◌∙◌, ap, sym, ◌++◌, List, take, append_assoc}
+use Rattle.std.specs.Prelude.{flat_map}
+use Rattle.std.proofs.lemmas.List.{append-nil, take_all}
+use Rattle.std.proofs.lemmas.Result.{err_from_is_err_and}
+use Rattle.fx_tables.specs.declared.observation.Selection.{Selection}
+use Rattle.fx_parts.specs.Meters.{cached}
+use Rattle.fx_parts.proofs.Metered.{flat_step}
+use Rattle.fx_parts.proofs.meters.push_all_cached.Goals as goal
+
+pub loop-place-preserved : goal.loop-place-preserved
+loop-place-preserved c =
+    let x = c.index-selections-place.result in
+    let k = c.loop-place.place in
+    let front = c.args.found.now.items in
+    let xs = c.args.selections.now in
+    let new = cached x in
+    c.in_ok-push_cached.ensures ∙ ap (λ (ys : List Selection). ys ++ new) c.loop-place.invariant ∙ append_assoc front (flat_map cached (take k xs)) new ∙ ap (λ (ys : List Selection). front ++ ys) (sym (flat_step cached xs k x c.loop-place-test.true c.index-selections-place.is))
+
+pub loop-place-init : goal.loop-place-init
+loop-place-init c = sym (append-nil c.args.found.now.items)
+
+pub returns-in_err-push_cached : goal.returns-in_err-push_cached
+returns-in_err-push_cached c =
+    let p = err_from_is_err_and c.from_residual.result c.from_residual.ensures.1 in
+    rw (p.1) tt
+
+pub returns : goal.returns
+returns c =
+    let front = c.args.found.now.items in
+    c.loop-place.invariant ∙ ap (λ ys. front ++ flat_map cached ys) (take_all c.loop-place.place c.args.selections.now c.loop-place-test.false)

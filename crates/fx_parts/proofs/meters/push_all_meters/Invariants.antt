@@ -1,0 +1,7 @@
+use Rattle.std.proofs.Common.{◌≡◌, ◌++◌, take}
+use Rattle.std.specs.Prelude.{flat_map}
+use Rattle.fx_parts.specs.Meters.{meters_of}
+use Rattle.fx_parts.proofs.meters.push_all_meters.Given as goal
+
+abbrev pub invariant-loop-place : goal.invariant-loop-place
+invariant-loop-place l = l.found.items ≡ l.initial.found.items ++ flat_map (meters_of l.net) (take l.place l.path)

@@ -1,0 +1,30 @@
+use Rattle.std.proofs.Common.{◌∙◌, ap, sym, ◌++◌, List, take, append_assoc}
+use Rattle.std.specs.Prelude.{flat_map}
+use Rattle.std.proofs.lemmas.List.{append-nil, take_all}
+use Rattle.std.proofs.lemmas.Result.{err_from_is_err_and}
+use Rattle.fx_tables.specs.declared.observation.Selection.{Selection}
+use Rattle.fx_parts.specs.Meters.{meters_at}
+use Rattle.fx_parts.proofs.Metered.{flat_step}
+use Rattle.fx_parts.proofs.meters.push_meters_of.Goals as goal
+
+pub loop-place-preserved : goal.loop-place-preserved
+loop-place-preserved c =
+    let x = c.index-points-place.result in
+    let k = c.loop-place.place in
+    let front = c.args.found.now.items in
+    let xs = c.args.points.now in
+    let new = (meters_at c.args.crossing.now) x in
+    c.in_ok-push_meters_at.ensures ∙ ap (λ (ys : List Selection). ys ++ new) c.loop-place.invariant ∙ append_assoc front (flat_map (meters_at c.args.crossing.now) (take k xs)) new ∙ ap (λ (ys : List Selection). front ++ ys) (sym (flat_step (meters_at c.args.crossing.now) xs k x c.loop-place-test.true c.index-points-place.is))
+
+pub loop-place-init : goal.loop-place-init
+loop-place-init c = sym (append-nil c.args.found.now.items)
+
+pub returns-in_err-push_meters_at : goal.returns-in_err-push_meters_at
+returns-in_err-push_meters_at c =
+    let p = err_from_is_err_and c.from_residual.result c.from_residual.ensures.1 in
+    rw (p.1) tt
+
+pub returns : goal.returns
+returns c =
+    let front = c.args.found.now.items in
+    c.loop-place.invariant ∙ ap (λ ys. front ++ flat_map (meters_at c.args.crossing.now) ys) (take_all c.loop-place.place c.args.points.now c.loop-place-test.false)

@@ -1,0 +1,5 @@
+pub mod Meaning
+pub mod Parts
+pub mod Trees
+pub mod Checks
+pub mod Meters
