@@ -65,7 +65,7 @@ def test_a_collector_that_was_taken_down_is_asked_about(once: str, tmp_path: Pat
     names the line of the destination."""
     joined(TESTS / "mistakes" / "04-decommissioned-collector", tmp_path)
     text = proposed(tmp_path)
-    assert '# edge-1 (edge-1.cfg:2) sends here. Is this yours? If not, take it out.\n[[collectors]]\nname = "collector-1"\n' \
+    assert '# edge-1 (edge-1.cfg:2) sends here. Is this yours? If not, remove it.\n[[collectors]]\nname = "collector-1"\n' \
         'listen = ["192.0.2.99:9996"]\n' in text
     assert audited(once, tmp_path).returncode == 0
     (tmp_path / "project.toml").write_text(text.replace("192.0.2.99:9996", "192.0.2.10:4739"))

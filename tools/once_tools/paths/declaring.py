@@ -143,7 +143,7 @@ class _Declaring:
             if (device, name) not in ends:
                 self.findings.append(Finding(Grade.NOT_CARRIED_OVER, one.place, f"'{one.name}' names {device} {name}, and no "
                                              "path begins or ends there: its packets are not declared",
-                                             "give the links of its device, or take it out of the role"))
+                                             "give the links of its device, or remove it of the role"))
 
     def nodes(self, texts: tuple[str, ...], place: Place) -> list[Node]:
         """Returns the interfaces that roles and `DEVICE:INTERFACE` stand for."""

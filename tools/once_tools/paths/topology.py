@@ -131,7 +131,7 @@ class Topology:
             return []
         interface = self.interface(device, name, place)
         if interface is not None and self.interfaces[device][interface].is_shut:
-            self.wrong(place, f"interface '{interface}' of {device} is shut", "take it out, or open it")
+            self.wrong(place, f"interface '{interface}' of {device} is shut", "remove it, or open it")
             return []
         return [] if interface is None else [(device, interface)]
 

@@ -156,7 +156,7 @@ def sent_by(one: Candidate) -> str:
 def collector_lines(one: Candidate, folder: Folder, guess: bool) -> list[str]:
     """Returns the table of a collector."""
     if one.found is None:
-        return [*comment(f"{sent_by(one)}. Is this yours? If not, take it out."), "[[collectors]]",
+        return [*comment(f"{sent_by(one)}. Is this yours? If not, remove it."), "[[collectors]]",
                 f"name = {quoted(one.name)}", f"listen = {listed([str(end) for end in one.listens])}", ""]
     lines = comment(f"{sent_by(one)}.") if one.senders else comment("No device of this folder sends here.")
     files = [folder.spelled(path) for path in [*([one.found.path] if one.found.path else []), *one.found.named]]

@@ -69,7 +69,7 @@ def joined_lines(source: Source) -> Iterator[tuple[int, str]]:
 
 
 def commands_of(source: Source) -> Iterator[Line]:
-    """Yields the commands of an export; the menu stands in the line, or in a line before."""
+    """Yields the commands of an export; the menu is in the line, or in a line before."""
     menu: list[str] = []
     for number, text in joined_lines(source):
         place = Place(source.name, number, text)

@@ -214,10 +214,10 @@ class _Reading:
             elif one.key in LEAVING_OUT:
                 self.lost_filter(one.place)
             elif is_networks_filter(one):
-                self.log.lost(one.place, NETWORKS_FILTER, "take it out", Topic.MASK)
+                self.log.lost(one.place, NETWORKS_FILTER, "remove it", Topic.MASK)
             elif one.key.endswith("_preprocess"):
                 self.log.lost(one.place, "the plugin may leave out totals before it stores them, but the document counts "
-                              "all of them", "take it out", Topic.FILTER)
+                              "all of them", "remove it", Topic.FILTER)
             elif one.key in QUEUES:
                 self.log.lost(one.place, "records do not come in over the network, so no exporter is linked to this "
                               "collector",

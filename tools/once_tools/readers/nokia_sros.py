@@ -169,7 +169,7 @@ class _Reading:
             self.is_on = words[0] == "no"
         elif words in (["analyze-gre-payload"], ["analyze-gre-payload", "true"]):
             self.log.lost(place, "packets of GRE are metered by the headers of the packets inside, but the document has "
-                          "the outer ones", "take it out, or accept this", Topic.OTHER)
+                          "the outer ones", "remove it, or accept this", Topic.OTHER)
         elif words == ["export-mode", "manual"]:
             self.log.premise(place, "records are exported when an operator has them exported: the audit speaks of totals "
                              "after that", "set export-mode automatic")
@@ -284,7 +284,7 @@ class _Reading:
                             one.version)
         self.device.exporters.append(Exporter(name, [where], one.place))
         if one.aggregation and one.version != 8:
-            self.log.premise(one.aggregation, "aggregation is taken to bear on collectors of version 8 alone", "take it out",
+            self.log.premise(one.aggregation, "aggregation is taken to bear on collectors of version 8 alone", "remove it",
                              Topic.MASK, None, (name,))
         if not one.has_version:
             self.log.premise(one.place, "no version is given: NetFlow 9 is taken to be sent", "set version 10", Topic.OTHER, None,

@@ -34,7 +34,7 @@ class Notes:
     def unknown(self, place: Place, section: str) -> None:
         """Adds that a statement of a section is not known."""
         self.lost(place, f"this statement of {section} is not known here, and the document does not have it",
-                  "take it out if it is not needed, or accept it under [accept] unknown if it does not bear on what is "
+                  "remove it if it is not needed, or accept it under [accept] unknown if it does not bear on what is "
                   "metered", Topic.UNKNOWN)
 
     def bearing_on(self, exporters: tuple[str, ...], used: bool = True) -> list[Finding]:

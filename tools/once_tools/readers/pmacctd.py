@@ -242,7 +242,7 @@ class _Reading:
             if one.key in SAMPLING and one.value not in ("0", "1"):
                 self.log.sampler(one.place, one.value if one.value.isdigit() else "N", exporters)
             elif is_networks_filter(one):
-                self.log.lost(one.place, NETWORKS_FILTER, "take it out", Topic.MASK, None, exporters)
+                self.log.lost(one.place, NETWORKS_FILTER, "remove it", Topic.MASK, None, exporters)
             elif one.key == "pcap_savefile" and (self.settings.last("pcap_interface") or self.settings.last("pcap_interfaces_map")):
                 self.log.lost(one.place, "packets come from this file, and not from the interface that the document has",
                               "take one of them out", Topic.OTHER, None, exporters)
