@@ -1,0 +1,131 @@
+"""`once-part`: a network beyond the limits of `once`, audited in parts."""
+from __future__ import annotations
+
+import argparse
+import gc
+import os
+import sys
+from pathlib import Path
+from typing import NoReturn, Sequence
+
+from once_tools.import_main import fault_of
+from once_tools.model import Failed, Unusable
+from once_tools.once_program import find_once
+from once_tools.parts.auditing import Answer, audit_all, status_of
+from once_tools.parts.cutting import Sources, cut
+from once_tools.parts.manifest import read_manifest
+from once_tools.parts.verifying import verify
+from once_tools.report import line_of, printable
+
+NO, REFUSED, FAILED, WRONG_ARGUMENTS = 1, 2, 5, 6
+PROVED = """Each part's `yes` is proved: `once check` says it of the part's documents and its certificate. That the parts speak of the whole is not
+proved: `cut` and `verify` are tested. `verify` was written apart from `cut`, and trusts no part."""
+STATUSES = """Exit statuses: 0 the parts are written, all parts have a certificate, or `verify` says yes; 1 a part is refuted, or `verify` says no; 2 a
+document is malformed or refused, or a class alone exceeds a limit; 3 a part is undecided (601), and none refuted or refused before it; 5 a file or
+program failed; 6 wrong arguments."""
+
+
+class Parser(argparse.ArgumentParser):
+    def error(self, message: str) -> NoReturn:
+        self.print_usage(sys.stderr)
+        self.exit(WRONG_ARGUMENTS, f"{self.prog}: {printable(message)}\n")
+
+
+def jobs(text: str) -> int:
+    if not (text.isascii() and text.isdigit() and len(text) < 4 and int(text) >= 1):
+        raise argparse.ArgumentTypeError("a number from 1 to 999 is due")
+    return int(text)
+
+
+def add_documents(parser: argparse.ArgumentParser) -> None:
+    parser.add_argument("network", type=Path, metavar="NETWORK", help="the network document of the whole")
+    parser.add_argument("traffic", type=Path, metavar="TRAFFIC", help="the traffic declaration of the whole")
+
+
+def add_running(parser: argparse.ArgumentParser) -> None:
+    parser.add_argument("--jobs", type=jobs, default=1, metavar="N", help="run N programs at the same time (1)")
+    parser.add_argument("--once", metavar="PROGRAM", help="the program `once`")
+
+
+def make_parser() -> Parser:
+    parser = Parser(prog="once-part", description=f"Audits a network of any size in parts that `once` can read. {PROVED}", epilog=STATUSES)
+    commands = parser.add_subparsers(dest="command", required=True, metavar="COMMAND")
+    one = commands.add_parser("cut", help="write the parts of a network", epilog=f"{PROVED} {STATUSES}", description="""Writes a folder for each part,
+        with network.json and traffic.json, and manifest.json. A part has the report's device, the devices with an observation point that sees a crossing of one of
+        its classes, and all devices that links lead to from these. Other devices are left out with their links and crossings.""")
+    add_documents(one)
+    one.add_argument("--to", type=Path, required=True, metavar="FOLDER", help="a new or empty folder for the parts")
+    one.add_argument("--filters", action="store_true", help="also leave out selection processes that select no packet of the part's classes")
+    one = commands.add_parser("audit", help="audit each part, and check each certificate", epilog=f"{PROVED} {STATUSES}", description="""Has `once` audit each part
+        in a folder, check the certificates and confirm the refutations, which are written beside the parts' documents as certificate.txt or refutation.txt. Prints a
+        line for each part and one for all.""")
+    one.add_argument("folder", type=Path, metavar="FOLDER", help="the folder that `once-part cut` wrote")
+    add_running(one)
+    one = commands.add_parser("verify", help="judge whether the parts speak of every path of the whole", epilog=f"{PROVED} {STATUSES}", description="""Judges whether
+        each part is a part of the whole, whether some part speaks of each path of each class of the whole, and whether `once check` says yes of each certificate.
+        Prints what is wrong, line by line, and last yes or no.""")
+    one.add_argument("folder", type=Path, metavar="FOLDER", help="the folder that `once-part cut` wrote")
+    add_documents(one)
+    add_running(one)
+    return parser
+
+
+def counted(number: int, one: str, more: str) -> str:
+    """Returns a number with its noun."""
+    return f"{number} {one if number == 1 else more}"
+
+
+def run_cut(arguments: argparse.Namespace) -> int:
+    parts = cut(Sources(arguments.network, arguments.traffic, arguments.to, arguments.filters))
+    classes = sum(len(one.classes) for one in parts)
+    print(f"{counted(len(parts), 'part', 'parts')} of {counted(classes, 'class', 'classes')} in {printable(str(arguments.to))}")
+    return 0
+
+
+def run_audit(arguments: argparse.Namespace) -> int:
+    program, answers = find_once(arguments.once), []
+    for one in audit_all(program, read_manifest(arguments.folder).parts, arguments.jobs):
+        answers.append(one.answer)
+        size = f"{counted(len(one.part.classes), 'class', 'classes')}, {counted(len(one.part.devices), 'device', 'devices')}"
+        print(f"part {one.part.name}: {size}: {one.answer.name.lower()}", flush=True)
+        for line in one.says:
+            print(f"  {printable(line)}", flush=True)
+    counts = [f"{answers.count(one)} {one.name.lower()}" for one in Answer if one in answers]
+    print(f"{counted(len(answers), 'part', 'parts')}: {', '.join(counts) or 'nothing to audit'}")
+    return status_of(answers).value
+
+
+def run_verify(arguments: argparse.Namespace) -> int:
+    verdict = verify(find_once(arguments.once), arguments.folder, arguments.network, arguments.traffic, arguments.jobs)
+    for line in verdict.notes:
+        print(f"note: {printable(line)}", file=sys.stderr)
+    for line in verdict.faults:
+        print(printable(line))
+    if verdict.faults:
+        print("no")
+        return NO
+    print(f"yes: {counted(verdict.parts, 'part', 'parts')}, each with a certificate, speak of all paths of {counted(verdict.classes, 'class', 'classes')}")
+    return 0
+
+
+COMMANDS = {"cut": run_cut, "audit": run_audit, "verify": run_verify}
+
+
+def main(words: Sequence[str] | None = None) -> int:
+    """Runs the program; returns its exit status."""
+    arguments = make_parser().parse_args(words)
+    gc.disable()  # a document has a million values and no circle: looking for one takes half of the time
+    try:
+        return COMMANDS[arguments.command](arguments)
+    except Unusable as why:
+        print(line_of(why.finding), file=sys.stderr)
+        return FAILED if isinstance(why, Failed) else REFUSED
+    except BrokenPipeError:
+        os.dup2(os.open(os.devnull, os.O_WRONLY), sys.stdout.fileno())
+        return FAILED
+    except OSError as error:
+        print(f"{printable(str(error.filename or 'a file'))}: {error.strerror}", file=sys.stderr)
+        return FAILED
+    except Exception as error:  # a fault of this program must not end with the status of an answer
+        print(f"once-part has a fault: {printable(fault_of(error))}; please report it", file=sys.stderr)
+        return FAILED

@@ -1,0 +1,1 @@
+"""`once-part`: networks beyond the limits of `once`, in parts."""
