@@ -24,7 +24,7 @@ help:
 	@echo 'make shown             runs the rows that mutants name over one program that has all mutants'
 	@echo 'make rows              proves and builds the program, and runs the steps of the gate over it'
 	@echo 'make examples          the same for the examples alone'
-	@echo 'make tools             checks the types of once-import, once-mend and once-report and runs their tests, over ./once or ONCE=PROGRAM'
+	@echo 'make tools             checks the types of once-import, once-mend, once-part and once-report and runs their tests, over ./once or ONCE=PROGRAM'
 	@echo 'make lab               compares ./once with running exporters and collectors, as root (docs/LAB.md); ALL=1 for all scenarios'
 	@echo 'make pictures          draws the pictures of the examples anew (needs Graphviz)'
 	@echo 'make torture           the same over inputs that are made to do harm, for an hour or more'
@@ -157,14 +157,14 @@ install:
 	install -D -m 644 -t $(SHARE)/doc/once/docs $(DOCUMENTS) docs/report-certificate.png docs/report-refutation.png
 	install -D -m 644 -t $(SHARE)/doc/once/docs/schemas docs/schemas/*
 	cd examples && find . -type f ! -name '*.pyc' -exec install -D -m 644 {} "$(abspath $(SHARE))/doc/once/examples/{}" \;
-	install -D -m 755 -t $(BIN) tools/once-import tools/once-mend tools/once-report
+	install -D -m 755 -t $(BIN) tools/once-import tools/once-mend tools/once-part tools/once-report
 	cd tools && find once_tools \( -name '*.py' -o -name '*.j2' -o -name '*.css' \) -exec install -D -m 644 {} "$(abspath $(SHARE))/once/{}" \;
-	install -D -m 644 -t $(SHARE)/man/man1 packaging/once-import.1 packaging/once-mend.1 packaging/once-report.1
+	install -D -m 644 -t $(SHARE)/man/man1 packaging/once-import.1 packaging/once-mend.1 packaging/once-part.1 packaging/once-report.1
 	install -D -m 644 -t $(SHARE)/doc/once/tools tools/README.md
 	install -D -m 644 -t $(SHARE)/doc/once/tools/examples tools/examples/*
 
 uninstall:
-	rm -f $(addprefix $(BIN)/,once-import once-mend once-report) $(addprefix $(SHARE)/man/man1/,once-import.1 once-mend.1 once-report.1)
+	rm -f $(addprefix $(BIN)/,once-import once-mend once-part once-report) $(addprefix $(SHARE)/man/man1/,once-import.1 once-mend.1 once-part.1 once-report.1)
 	rm -rf $(SHARE)/once
 	rm -f $(BIN)/once $(SHARE)/man/man1/once.1 $(SHARE)/bash-completion/completions/once $(ZSH)/_once
 	rm -rf $(SHARE)/doc/once

@@ -19,7 +19,7 @@ export SOURCE_DATE_EPOCH
 
 strip --strip-unneeded --remove-section=.comment --remove-section=.note "$tree/usr/bin/once"
 gzip -9n "$tree"/usr/share/man/man1/*.1
-sed -i '1s,.*,#!/usr/bin/python3,' "$tree/usr/bin/once-import" "$tree/usr/bin/once-mend" "$tree/usr/bin/once-report"
+sed -i '1s,.*,#!/usr/bin/python3,' "$tree/usr/bin/once-import" "$tree/usr/bin/once-mend" "$tree/usr/bin/once-part" "$tree/usr/bin/once-report"
 gzip -9nc "$here/changelog" > "$doc/changelog.gz"
 cp "$here/copyright" "$doc/copyright"
 

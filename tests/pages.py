@@ -2,7 +2,7 @@
 """pages.py PROGRAM: runs the commands of pages for users as they are written, and compares what they print.
 
 Blocks that are indented by four spaces and begin with `$ ` are run, those of one heading in one session from the top of the
-repository: each line after `$ `, with PROGRAM as `once`, tools/once-import, once-mend and once-report; what it prints must be the lines that follow. Blocks
+repository: each line after `$ `, with PROGRAM as `once`, tools/once-import, once-mend, once-part and once-report; what it prints must be the lines that follow. Blocks
 without `$ ` are about a network of the reader's. Prints a line for each that differs, and last how many passed.
 """
 import os
@@ -49,7 +49,7 @@ def main(program):
     passed = failed = 0
     with tempfile.TemporaryDirectory() as made:
         os.symlink(os.path.abspath(program), made + "/once")
-        for name in ("once-import", "once-mend", "once-report"):
+        for name in ("once-import", "once-mend", "once-part", "once-report"):
             os.symlink(os.path.join(TOP, "tools", name), f"{made}/{name}")
         os.mkdir(made + "/tmp")
         for page in PAGES:

@@ -103,10 +103,26 @@ try_faults() {
   so "where packets of a class are counted twice, its part is refuted, and so are all"
 }
 
+try_provider() {
+  local part=$here/../../tools/once-part status=0
+  [ -x "$part" ] || part=$(command -v once-part) || { echo "not run: a provider in parts: there is no once-part"; return; }
+  python3 "$here/make_provider.py" provider --routers 100
+  "$part" cut provider/network.json provider/traffic.json --to provider/parts > provider/said
+  "$part" audit provider/parts --once "$program" >> provider/said
+  "$part" verify provider/parts provider/network.json provider/traffic.json --once "$program" >> provider/said ||
+    differs "the parts of a provider are certified, and speak of all its paths"
+  python3 "$here/make_provider.py" wrong --routers 100 --mistake
+  "$part" cut wrong/network.json wrong/traffic.json --to wrong/parts > wrong/said
+  "$part" audit wrong/parts --once "$program" >> wrong/said || status=$?
+  { [ "$status" -eq 1 ] && grep -q 'crossing 4 (edge-01-22 ge' wrong/said; } || differs "a router's mistake is found and named"
+  so "the parts of a provider are certified and speak of all its paths, and a router's mistake is named"
+}
+
 if [ "$engine" = slurm ]; then
   eval "$(bash "$here/slurm_here.sh" start "$work/slurm" 2)"
 fi
 try_streams
+try_provider
 if command -v jq > /dev/null; then
   try_classes
   try_faults

@@ -55,7 +55,7 @@ def make_parser() -> Parser:
         its classes, and all devices that links lead to from these. Other devices are left out with their links and crossings.""")
     add_documents(one)
     one.add_argument("--to", type=Path, required=True, metavar="FOLDER", help="a new or empty folder for the parts")
-    one.add_argument("--filters", action="store_true", help="also leave out selection processes that select no packet of the part's classes")
+    one.add_argument("--filters", action="store_true", help="also leave out selection processes that select no packet of the part's classes, and devices where none is left")
     one = commands.add_parser("audit", help="audit each part, and check each certificate", epilog=f"{PROVED} {STATUSES}", description="""Has `once` audit each part
         in a folder, check the certificates and confirm the refutations, which are written beside the parts' documents as certificate.txt or refutation.txt. Prints a
         line for each part and one for all.""")

@@ -204,6 +204,7 @@ WRONG: dict[str, tuple[Callable[[Any, Any], object], str, str]] = {
     "a crossing of no device": (lambda n, t: t["classes"][1]["paths"][0][1].update(device="r9"), "traffic.json /classes/1/paths/0/1/device:", "names no device"),
     "a direction that is none": (lambda n, t: t["classes"][1]["paths"][0][1].update(direction="in"), "traffic.json /classes/1/paths/0/1/direction:",
                                  "is no direction: 'in'"),
+    "no path": (lambda n, t: t["classes"][3].update(paths=[]), "traffic.json /classes/3:", "class 'none' has no path"),
     "a region that is none": (lambda n, t: t["classes"][0]["region"].update(sourceIPv4Address="10/8"), "traffic.json /classes/0/region/sourceIPv4Address:",
                               "is no set of values"),
     "an axis that is none": (lambda n, t: t["classes"][0]["region"].update({"a/b": "1"}), "traffic.json /classes/0/region/a~1b:", "this is no axis"),

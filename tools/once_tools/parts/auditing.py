@@ -5,7 +5,7 @@ import json
 from concurrent.futures import ThreadPoolExecutor
 from dataclasses import dataclass
 from enum import Enum
-from typing import Iterable, Iterator
+from typing import Iterable, Iterator, Sequence
 
 from once_tools.model import Failed, Place
 from once_tools.once_program import Run, run_once
@@ -50,9 +50,10 @@ def answer_file_of(part: PartEntry, run: Run) -> Answer:
     return answer
 
 
-def quoted(names: Iterable[str]) -> str:
-    """Returns names in quotation marks."""
-    return ", ".join(json.dumps(one, ensure_ascii=False) for one in names)
+def quoted(names: Sequence[str], most: int = 8) -> str:
+    """Returns names in quotation marks, of many the first ones and how many more there are."""
+    more = f" and {len(names) - most} more (see manifest.json)" if len(names) > most else ""
+    return ", ".join(json.dumps(one, ensure_ascii=False) for one in names[:most]) + more
 
 
 def refuted(part: PartEntry, run: Run) -> tuple[str, ...]:
@@ -61,8 +62,7 @@ def refuted(part: PartEntry, run: Run) -> tuple[str, ...]:
         story = story_in(run.output)
     except (ValueError, IndexError) as error:
         raise failure(part, "confirm", run) from error
-    others = f"classes of the part, of which the first that is wrong is refuted: {quoted(part.classes)}"
-    return story.verdict, f"what to do: {story.todo}", others
+    return story.verdict, f"what to do: {story.todo}", f"the part's classes, of which the first that is counted wrongly is refuted: {quoted(part.classes)}"
 
 
 def refused(part: PartEntry, run: Run) -> tuple[str, ...]:

@@ -53,6 +53,8 @@ class Group:
 
 def check_class(network: Network, one: TrafficClass) -> None:
     """Raises `Unusable` if a class fits into no part."""
+    if not one.paths:
+        raise one.entry.wrong(f"class '{one.name}' has no path", "name the crossings that its packets make, or [] if they pass no meter")
     found = excess(joined(network, Contents(layouts=frozenset([network.layout])), one.mask, [one]))
     longest = max((len(path) for path in one.paths), default=0)
     if found is None and len(one.paths) > PATHS:
