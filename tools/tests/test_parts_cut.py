@@ -3,17 +3,20 @@ from __future__ import annotations
 
 import hashlib
 import json
+import subprocess
+import sys
 from pathlib import Path
 from typing import Any, Callable
 
 import pytest
 from conftest import TOP
 from once_tools import part_main
+from once_tools.elements import AXES
 from once_tools.model import Unusable
 from once_tools.once_program import run_once
 from once_tools.parts import packing
 from once_tools.parts.cutting import Sources, cut
-from part_networks import Json, crossing, device, host, link, meter, network, point, provider, read, selection, traffic_class, write
+from part_networks import COUNTERS, Json, crossing, device, host, link, meter, network, point, provider, read, selection, traffic_class, write
 
 EXAMPLES = sorted(it.parent for it in (TOP / "examples").glob("*/network.json"))
 
@@ -171,6 +174,43 @@ def test_a_class_beyond_a_limit(what: str, tmp_path: Path, monkeypatch: pytest.M
     assert not (tmp_path / "parts").exists()
 
 
+@pytest.mark.parametrize("count", [63, 64])
+def test_layouts_are_counted_as_once_counts_them(count: int, once: str, tmp_path: Path) -> None:
+    """The report has a layout of its own. Fields in another order, twice, or on no axis make none; in an immediate cache all fields on axes are keys."""
+    subsets = [tuple(axis for bit, axis in enumerate(AXES) if number >> bit & 1) for number in range(1, count + 1)]
+    caches = [{**cache_by(keys), "name": f"{number}"} for number, keys in enumerate(subsets)]
+    first = caches[4]["timeoutCache"]["cacheLayout"]["cacheField"]
+    first += [{"name": "again", "ieId": 8, "isFlowKey": [None]}, {"name": "other", "ieName": "sourceTransportPort"}]
+    immediate = [{key: value for key, value in field.items() if key != "isFlowKey"} for field in reversed(caches[6]["timeoutCache"]["cacheLayout"]["cacheField"])]
+    caches.append({"name": "immediate", "immediateCache": {"cacheLayout": {"cacheField": immediate}}})
+    for one in caches:
+        next(value for value in one.values() if isinstance(value, dict))["cacheLayout"]["cacheField"] += COUNTERS
+    router = device("r", observationPoint=[point("in", ["eth0"], "ingress", [])], cache=caches)
+    documents = network([router, host("billing")], []), {"classes": [traffic_class("c", {}, ["r eth0 ingress"])]}
+    found = run_once(once, "lint", *write(tmp_path / "whole", *documents)).output
+    if count == 63:
+        assert found == "ok\n" and cut_of(tmp_path, documents) == [documents]
+        return
+    assert found.startswith("refused 207")
+    with pytest.raises(Unusable, match="65 layouts, 64 are allowed"):
+        cut_of(tmp_path, documents)
+
+
+def test_the_provider_of_the_examples(tmp_path: Path, capsys: pytest.CaptureFixture[str]) -> None:
+    maker = TOP / "examples/scale/make_provider.py"
+    subprocess.run([sys.executable, "-B", str(maker), str(tmp_path), "--routers", "100", "--mistake"], check=True)
+    words = [str(tmp_path / name) for name in ("network.json", "traffic.json")]
+    assert part_main.main(["cut", *words, "--to", str(tmp_path / "parts")]) == 0
+    parts = read(tmp_path / "parts/manifest.json")["parts"]
+    assert [one["sizes"]["classes"] for one in parts][0] <= 256 and sum(one["sizes"]["classes"] for one in parts) == 500
+    assert all(one["sizes"]["devices"] == len(one["devices"]) <= 64 and "billing-host" in one["devices"] for one in parts) and 3 <= len(parts) <= 6
+    assert sum("edge-01-22" in one["devices"] for one in parts) >= 1
+    capsys.readouterr()
+    assert part_main.main(["verify", str(tmp_path / "parts"), *words, "--once", "/bin/true"]) == 1
+    said = capsys.readouterr().out.splitlines()
+    assert said == [*(f"part {one['folder']}: there is no certificate: run `once-part audit`" for one in parts), "no"]
+
+
 def test_the_limits_are_those_of_once() -> None:
     assert packing.LIMITS == {"devices": 64, "collecting processes": 256, "links": 1024, "layouts": 64, "classes": 256}
 
@@ -187,6 +227,7 @@ def ipfix(network_document: Any, number: int) -> Any:
 
 WRONG: dict[str, tuple[Callable[[Any, Any], object], str, str]] = {
     "no devices": (lambda n, t: n.pop("devices"), "network.json:", "has no member 'devices'"),
+    "an empty list of devices": (lambda n, t: n["devices"].clear(), "network.json /report/device:", "names no device of the network: 'billing'"),
     "devices as an object": (lambda n, t: n.update(devices={}), "network.json /devices:", "is no list"),
     "a device without a name": (lambda n, t: n["devices"][1].pop("name"), "network.json /devices/1:", "has no member 'name'"),
     "two devices of a name": (lambda n, t: n["devices"][2].update(name="r1"), "network.json /devices/2:", "is a second device named 'r1'"),

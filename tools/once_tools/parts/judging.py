@@ -170,6 +170,8 @@ class Judge:
     def faults_of_classes(self) -> Iterator[str]:
         """Yields the classes of the whole, with their paths, that no part speaks of."""
         for name, one in self.whole.classes.items():
+            if not one.paths:
+                yield f"class '{name}' has no path"
             for number in range(len(one.paths)):
                 heard = self.spoken.get((name, number), ["no part has it"])
                 if "" not in heard:

@@ -77,10 +77,15 @@ class Network:
 
     def device(self, place: Value) -> Device:
         """Returns the device that a text names."""
-        found = self.by_name.get(place.text())
-        if found is None:
-            raise place.wrong(f"names no device of the network: '{place.text()}'", "correct the name, or add the device")
-        return found
+        return device_in(self.by_name, place)
+
+
+def device_in(by_name: dict[str, Device], place: Value) -> Device:
+    """Returns the device that a text names."""
+    found = by_name.get(place.text())
+    if found is None:
+        raise place.wrong(f"names no device of the network: '{place.text()}'", "correct the name, or add the device")
+    return found
 
 
 def read_network(document: Document) -> Network:
@@ -92,8 +97,8 @@ def read_network(document: Document) -> Network:
         if by_name.setdefault(one.name, one) is not one:
             raise one.entry.wrong(f"is a second device named '{one.name}'", "give it another name")
     report = root.member("report")
-    network = Network(root, devices, by_name, root.member("links").entries(), devices[0] if devices else Device(0, root), frozenset())
-    network.report, network.layout = network.device(report.member("device")), key_layout(report.member("key").entries())
+    layout = key_layout(report.member("key").entries())
+    network = Network(root, devices, by_name, root.member("links").entries(), device_in(by_name, report.member("device")), layout)
     join(network)
     return network
 
