@@ -16,9 +16,11 @@ from once_tools import part_main
 from once_tools.once_program import run_once
 from once_tools.parts import packing
 from once_tools.parts.cutting import Sources, cut
+from once_tools.parts.judging import Judge, judged
+from once_tools.parts.loading import Value
 from once_tools.parts.manifest import read_manifest
 from once_tools.parts.verifying import Verdict, verify
-from part_networks import Json, crossing, exporter, link, mediator, provider, read, traffic_class, write
+from part_networks import Json, crossing, exporter, host, link, mediator, meter, network, provider, read, selection, traffic_class, write
 
 # Random networks by their seeds: the first ones, most of which are refuted, and some with more devices or classes that are certified.
 SEEDS = [*range(25), 30, 37, 55, 60, 61, 67, 92, 113, 117, 143, 145, 156, 159, 162, 171, 172, 174, 186, 192, 225, 227, 239, 249, 264, 399]
@@ -252,6 +254,73 @@ def test_a_refused_part_names_the_device(once: str, tmp_path: Path, capsys: pyte
     assert part_main.main(["audit", str(tmp_path / "parts"), "--once", once]) == 2
     printed = capsys.readouterr().out
     assert "  refused 114 /devices/4/config/" in printed and '(devices "r3")' in printed and "  what to do: " in printed
+
+
+def faults(whole: tuple[Json, Json], part: tuple[Json, Json]) -> list[str]:
+    """Returns what the judge says of one part."""
+    meant = judged("whole", *(Value(one, "whole") for one in whole))
+    judge = Judge(meant)
+    return [*judge.faults_of(judged("1", *(Value(one, "part") for one in part), meant.network)), *judge.faults_of_classes()]
+
+
+@pytest.mark.parametrize(("filters", "region", "is_compared"), [
+    ([("sourceIPv4Prefix", "10.0.0.0/8")], {"sourceIPv4Address": "10.255.255.255-11.0.0.0"}, True),
+    ([("sourceIPv4Prefix", "10.0.0.0/8")], {"sourceIPv4Address": "9.0.0.0-10.0.0.0"}, True),
+    ([("sourceIPv4Prefix", "10.0.0.0/8")], {"sourceIPv4Address": "11.0.0.0-12.0.0.0"}, False),
+    ([("sourceIPv4Prefix", "10.0.0.0/8")], {"sourceIPv4Address": "9.0.0.0/8"}, False),
+    ([("sourceIPv4Prefix", "10.0.0.0/8")], {"sourceIPv6Address": "::1"}, True),
+    ([("sourceIPv4Prefix", "10.0.0.0/8"), ("protocolIdentifier", "6")], {"sourceIPv4Address": "10.0.0.0/8", "protocolIdentifier": "7-17"}, False),
+    ([("protocolIdentifier", "6"), ("protocolIdentifier", "7")], {}, False),
+    ([("sourceIPv4Prefix", "10.0.0.0/9"), ("sourceIPv4Prefix", "10.0.0.0/8")], {"sourceIPv4Address": "10.128.0.0/9"}, False),
+    ([("sourceIPv6Prefix", "2001:db8::/32")], {"sourceIPv6Address": "2001:db8:ffff:ffff::-2001:dba::"}, True),
+    ([], {"sourceIPv6Address": "2001:db8::"}, True),
+], ids=["last", "first", "beyond", "before", "other axis", "second filter", "contradiction", "narrower", "ipv6", "all"])
+def test_selection_processes_that_select_nothing_are_not_compared(filters: list[tuple[str, str]], region: dict[str, str], is_compared: bool) -> None:
+    traffic = {"classes": [traffic_class("c", region, ["r1 eth0 ingress"])]}
+    more = [selection("more", *filters), selection("other")]
+    whole = network([meter("r1", *more), host("billing")], [link("r1", "billing")])
+    part = network([meter("r1", more[1]), host("billing")], [link("r1", "billing")])
+    assert bool(faults((whole, traffic), (part, traffic))) == is_compared == bool(faults((part, traffic), (whole, traffic)))
+
+
+# All fields that are axes are keys, though none is marked: here the keys of the other caches and a protocol.
+IMMEDIATE = {"immediateCache": {"cacheLayout": {"cacheField": [{"name": it, "ieName": it} for it in (
+    "sourceIPv4Address", "destinationIPv4Address", "protocolIdentifier", "octetDeltaCount", "packetDeltaCount")]}}}
+
+
+def changed(change: Callable[[Json], object]) -> Json:
+    """Returns the network of `provider`, changed."""
+    found = provider()[0]
+    change(found)
+    return found
+
+
+@pytest.mark.parametrize("change", [
+    lambda n: lists(n, 1)["collectingProcess"][0]["once-audit:aggregation"][0].update(key=[]),
+    lambda n: lists(n, 1)["collectingProcess"][0]["once-audit:aggregation"].append({"name": "more"}),
+    lambda n: lists(n, 1)["collectingProcess"][0]["once-audit:aggregation"][0].update(exportingProcess=[]),
+    lambda n: lists(n, 1)["collectingProcess"][0].update(exportingProcess=["out"]),
+    lambda n: lists(n, 1)["exportingProcess"][0].update(exportMode="loadBalancing"),
+    lambda n: lists(n, 0)["observationPoint"][0].update(direction="both", ifName=["eth0", "eth1"]),
+    lambda n: lists(n, 0)["observationPoint"].append({**lists(n, 0)["observationPoint"][0], "name": "again"}),
+    lambda n: lists(n, 0)["cache"][0].update(exportingProcess=[]),
+    lambda n: lists(n, 0)["cache"].__setitem__(0, {**IMMEDIATE, "name": "flows", "exportingProcess": ["out"]}),
+    lambda n: lists(n, 0)["selectionProcess"][0].pop("cache"),
+], ids=["key", "aggregation", "aggregation sends", "forwards", "mode", "observes more", "observes twice", "sends nothing", "other cache", "no cache"])
+def test_each_difference_between_networks_is_seen_from_both_sides(change: Callable[[Json], object]) -> None:
+    whole, other = provider(), (changed(change), provider()[1])
+    assert faults(whole, whole) == [] and faults(other, other) == []
+    assert faults(whole, other) and faults(other, whole)
+
+
+def test_what_makes_no_difference() -> None:
+    """Names of what is inside devices, settings of caches, the order of filters, and what no class touches."""
+    whole, other = provider(), provider()
+    text = json.dumps(other[0]).replace('"low"', '"lower"').replace('"flows"', '"stored"').replace('"name": "out"', '"name": "away"').replace('["out"]', '["away"]')
+    other[0].update(json.loads(text.replace('"exportingProcess": "out"', '"exportingProcess": "away"')))
+    lists(other[0], 0)["cache"][0]["timeoutCache"]["activeTimeout"] = 60
+    lists(other[0], 6)["observationPoint"].append({"name": "other", "observationDomainId": 2, "ifName": ["eth7"], "selectionProcess": ["all"]})
+    assert faults(whole, (other[0], whole[1])) == []
 
 
 def test_the_judge_shares_the_loading_alone() -> None:
