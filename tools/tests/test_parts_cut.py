@@ -130,6 +130,36 @@ def test_classes_are_joined_where_they_add_the_fewest_devices(tmp_path: Path, mo
     assert [names(traffic) for _, traffic in parts] == [["01", "12", "02"], ["23", "34"], ["45"]]
 
 
+def test_one_part_has_all_in_its_order(tmp_path: Path) -> None:
+    documents = provider()
+    assert cut_of(tmp_path, documents) == [documents]
+
+
+def test_all_that_records_can_reach_is_kept(tmp_path: Path) -> None:
+    """r1 leads to m1 and m2, m1 to m3, and m2 to the report; r2 leads to m4, and the report's host to an archive."""
+    names_of = ["m4", "m3", "r1", "m1", "billing", "m2", "archive", "r2"]
+    leads = [("r2", "m4"), ("m1", "m3"), ("r1", "m2"), ("r1", "m1"), ("billing", "archive"), ("m2", "billing"), ("m4", "billing")]
+    devices = [meter(one) if one[0] == "r" else host(one) for one in names_of]
+    links = [link(one, other, destination=f"{number}") for number, (one, other) in enumerate(leads)]
+    [(part, _)] = cut_of(tmp_path, (network(devices, links), {"classes": [traffic_class("c", {}, ["r1 eth0 ingress", "r2 eth1 ingress"])]}))
+    assert names(part) == ["m3", "r1", "m1", "billing", "m2", "archive"]
+    assert part["links"] == links[1:6]
+
+
+@pytest.mark.parametrize(("limit", "most", "wanted"), [("links", 2, [["0", "1"], ["2", "3"]]), ("collecting processes", 4, [["0", "1", "2"], ["3"]]), ("layouts", 4, [["0", "2"], ["1", "3"]])])
+def test_parts_keep_within_each_limit(limit: str, most: int, wanted: list[list[str]], tmp_path: Path, monkeypatch: pytest.MonkeyPatch) -> None:
+    """Router 0 and 2 have the same two layouts, and so have 1 and 3; each has a collecting process and a link."""
+    monkeypatch.setitem(packing.LIMITS, limit, most)
+    devices = [meter(f"r{number}") for number in range(4)]
+    for number, one in enumerate(devices):
+        lists = one["config"]["ietf-ipfix-psamp:ipfix"]
+        lists["collectingProcess"] = [{"name": "in"}]
+        lists["cache"] += [cache_by((AXES[3 + number % 2],)), cache_by((AXES[5 + number % 2],))]
+    documents = network([*devices, host("billing")], [link(f"r{number}", "billing") for number in range(4)])
+    classes = [traffic_class(f"{number}", {}, [f"r{number} eth0 ingress"]) for number in range(4)]
+    assert [names(traffic) for _, traffic in cut_of(tmp_path, (documents, {"classes": classes}))] == wanted
+
+
 def limited(what: str) -> tuple[Json, Json, str]:
     """Returns documents whose class is beyond a limit, and what must be said."""
     path, devices, said = ["r eth0 ingress"], [host("billing")], ""

@@ -235,6 +235,7 @@ def test_a_refuted_part_names_class_and_device(once: str, tmp_path: Path, capsys
     whole[1]["classes"].append(traffic_class("five", {}, ["r2 eth0 ingress", "r2 eth0 egress"]))
     files = [str(it) for it in write(tmp_path, *whole)]
     assert part_main.main(["cut", *files, "--to", str(tmp_path / "parts")]) == 0
+    (tmp_path / "parts/0001/certificate.txt").write_text("of an earlier audit", encoding="utf-8")
     capsys.readouterr()
     assert part_main.main(["audit", str(tmp_path / "parts"), "--once", once, "--jobs", "2"]) == 1
     first, verdict, advice, others, last = capsys.readouterr().out.splitlines()
@@ -321,6 +322,25 @@ def test_what_makes_no_difference() -> None:
     lists(other[0], 0)["cache"][0]["timeoutCache"]["activeTimeout"] = 60
     lists(other[0], 6)["observationPoint"].append({"name": "other", "observationDomainId": 2, "ifName": ["eth7"], "selectionProcess": ["all"]})
     assert faults(whole, (other[0], whole[1])) == []
+
+
+@pytest.mark.parametrize(("script", "status", "said"), [
+    ("[ $1 = audit ] && printf 'once-certificate 1\\nend\\n' || { echo no 401 line 1; exit 1; }", 5,
+     "wrong part 0001: `once check` does not accept the certificate of `once audit`: `once check` answers no 401 line 1; report this fault of `once`"),
+    ("echo out of memory >&2; exit 4", 5, "wrong part 0001: `once audit` answered: out of memory; "),
+    ("[ $1 = audit ] && { echo once-refutation 2; exit 1; } || echo no 505", 5, "wrong part 0001: `once confirm` answered: no 505; "),
+    ("echo unknown 601; exit 3", 3, ""),
+    ("echo nothing; exit 2", 5, "wrong part 0001: `once audit` answered: nothing; "),
+], ids=["certificate", "memory", "refutation", "unknown", "refusal"])
+def test_answers_that_once_should_not_give(script: str, status: int, said: str, parts: Path, tmp_path: Path, capsys: pytest.CaptureFixture[str]) -> None:
+    shutil.copytree(parts, tmp_path, dirs_exist_ok=True)
+    program = tmp_path / "once"
+    program.write_text(f"#!/bin/sh\n{script}\n", encoding="utf-8")
+    program.chmod(0o755)
+    assert part_main.main(["audit", str(tmp_path / "parts"), "--once", str(program)]) == status
+    printed = capsys.readouterr()
+    assert printed.err.startswith(said)
+    assert status != 3 or printed.out.endswith("part 0003: 1 class, 3 devices: undecided\n  unknown 601\n3 parts: 3 undecided\n")
 
 
 def test_the_judge_shares_the_loading_alone() -> None:

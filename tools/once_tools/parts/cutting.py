@@ -50,7 +50,7 @@ def network_of(network: Network, part: Contents, filters: bool) -> Json:
     """Returns the network document of a part."""
     kept = [network.devices[number] for number in bits(part.mask)]
     taken = taken_in(part)
-    devices = [with_processes(one, taken.get(one.number, set())) if filters and one.selections else one.entry.members() for one in kept]
+    devices = [with_processes(one, taken.get(one.number, set())) if filters else one.entry.members() for one in kept]
     links = [network.links[number].value for number in sorted(number for one in kept for number in one.links)]
     return {**network.root.members(), "devices": devices, "links": links}
 

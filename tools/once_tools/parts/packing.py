@@ -125,10 +125,7 @@ class Packer:
     def take_neighbours(self) -> None:
         """Puts groups that share devices with the part into it, those that add the fewest devices first."""
         while self.heap:
-            added, number = heapq.heappop(self.heap)
-            group = self.waiting.get(number)
-            if group is not None and added == self.added(group):
-                self.take(number)
+            self.take(heapq.heappop(self.heap)[1])
 
 
 def pack(network: Network, classes: list[TrafficClass]) -> list[Contents]:
