@@ -212,6 +212,7 @@ def test_layouts_are_counted_as_once_counts_them(count: int, once: str, tmp_path
     first = caches[4]["timeoutCache"]["cacheLayout"]["cacheField"]
     first += [{"name": "again", "ieId": 8, "isFlowKey": [None]}, {"name": "other", "ieName": "sourceTransportPort"}]
     immediate = [{key: value for key, value in field.items() if key != "isFlowKey"} for field in reversed(caches[6]["timeoutCache"]["cacheLayout"]["cacheField"])]
+    immediate.append({"name": "enterprise", "ieName": "ipVersion", "ieEnterpriseNumber": 9})
     caches.append({"name": "immediate", "immediateCache": {"cacheLayout": {"cacheField": immediate}}})
     for one in caches:
         next(value for value in one.values() if isinstance(value, dict))["cacheLayout"]["cacheField"] += COUNTERS

@@ -18,6 +18,7 @@ from once_tools.parts import packing
 from once_tools.parts.cutting import Sources, cut
 from once_tools.parts.judging import Judge, judged
 from once_tools.parts.loading import Value
+from once_tools.parts.meaning import NetworkMeaning
 from once_tools.parts.manifest import read_manifest
 from once_tools.parts.verifying import Verdict, verify
 from part_networks import Json, crossing, exporter, host, link, mediator, meter, network, provider, read, selection, traffic_class, write
@@ -79,6 +80,12 @@ DAMAGES: dict[str, tuple[str, Damage, str]] = {
                                      "class 'three', path 1: part 0001: device 'r1', observation point 'in', selection process 'high' meters it in the whole, and not in the part"),
     "a cache of other keys": ("0001", lambda n, t: lists(n, 0)["cache"][0]["timeoutCache"]["cacheLayout"]["cacheField"].pop(1),
                               "class 'one', path 1: part 0001: device 'r1', observation point 'in', selection process 'low': its cache has other flow keys than in the whole"),
+    "a cache without its first key": ("0001", lambda n, t: lists(n, 0)["cache"][0]["timeoutCache"]["cacheLayout"]["cacheField"].pop(0),
+                                      "class 'one', path 1: part 0001: device 'r1', observation point 'in', selection process 'low': its cache has other flow keys than in the "
+                                      "whole"),
+    "a cache that sends nothing": ("0001", lambda n, t: lists(n, 0)["cache"][0].update(exportingProcess=[]),
+                                   "class 'one', path 1: part 0001: device 'r1', observation point 'in', selection process 'low': there is another number of exporting processes "
+                                   "than in the whole"),
     "an exporting process that chooses": ("0001", lambda n, t: lists(n, 0)["exportingProcess"][0].update(exportMode="fallback"),
                                           "class 'one', path 1: part 0001: device 'r1', observation point 'in', selection process 'low': an exporting process has another mode or "
                                           "number of destinations than in the whole"),
@@ -320,6 +327,8 @@ def test_what_makes_no_difference() -> None:
     text = json.dumps(other[0]).replace('"low"', '"lower"').replace('"flows"', '"stored"').replace('"name": "out"', '"name": "away"').replace('["out"]', '["away"]')
     other[0].update(json.loads(text.replace('"exportingProcess": "out"', '"exportingProcess": "away"')))
     lists(other[0], 0)["cache"][0]["timeoutCache"]["activeTimeout"] = 60
+    lists(other[0], 2)["cache"][0] = {"name": "stored", "immediateCache": {"cacheLayout": {"cacheField": [
+        {"name": it, "ieName": it} for it in ("octetDeltaCount", "destinationIPv4Address", "sourceIPv4Address")]}}, "exportingProcess": ["away"]}
     lists(other[0], 6)["observationPoint"].append({"name": "other", "observationDomainId": 2, "ifName": ["eth7"], "selectionProcess": ["all"]})
     assert faults(whole, (other[0], whole[1])) == []
 
@@ -341,6 +350,15 @@ def test_answers_that_once_should_not_give(script: str, status: int, said: str, 
     printed = capsys.readouterr()
     assert printed.err.startswith(said)
     assert status != 3 or printed.out.endswith("part 0003: 1 class, 3 devices: undecided\n  unknown 601\n3 parts: 3 undecided\n")
+
+
+def test_records_that_come_together_twice_go_in_no_circle() -> None:
+    devices = [meter("r1"), *(mediator(f"m{number}") for number in range(6)), host("billing")]
+    for one in (1, 4):
+        lists({"devices": devices}, one)["exportingProcess"][0] = exporter("out", "next", "more")
+    pairs = [("r1", "m0"), ("m0", "m1"), ("m1", "m3"), ("m2", "m3"), ("m3", "m4"), ("m4", "billing"), ("m5", "billing")]
+    links = [link(*pair) for pair in pairs] + [link("m0", "m2", destination="more"), link("m3", "m5", destination="more")]
+    NetworkMeaning(Value(network(devices, links), "whole")).check_order()
 
 
 def test_the_judge_shares_the_loading_alone() -> None:
