@@ -110,12 +110,12 @@ try_provider() {
   "$part" cut provider/network.json provider/traffic.json --to provider/parts > provider/said
   "$part" audit provider/parts --once "$program" >> provider/said
   "$part" verify provider/parts provider/network.json provider/traffic.json --once "$program" >> provider/said ||
-    differs "the parts of a provider are certified, and speak of all its paths"
+    differs "the parts of a provider are certified, and cover all its paths"
   python3 "$here/make_provider.py" wrong --routers 100 --mistake
   "$part" cut wrong/network.json wrong/traffic.json --to wrong/parts > wrong/said
   "$part" audit wrong/parts --once "$program" >> wrong/said || status=$?
   { [ "$status" -eq 1 ] && grep -q 'crossing 4 (edge-01-22 ge' wrong/said; } || differs "a router's mistake is found and named"
-  so "the parts of a provider are certified and speak of all its paths, and a router's mistake is named"
+  so "the parts of a provider are certified and cover all its paths, and a router's mistake is named"
 }
 
 if [ "$engine" = slurm ]; then

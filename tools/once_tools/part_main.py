@@ -18,7 +18,7 @@ from once_tools.parts.verifying import verify
 from once_tools.report import line_of, printable
 
 NO, REFUSED, FAILED, WRONG_ARGUMENTS = 1, 2, 5, 6
-PROVED = """Each part's `yes` is proved: `once check` says it of the part's documents and its certificate. That the parts speak of the whole is not
+PROVED = """Each part's `yes` is proved: `once check` says it of the part's documents and its certificate. That the parts cover the whole is not
 proved: `cut` and `verify` are tested. `verify` was written apart from `cut`, and trusts no part."""
 STATUSES = """Exit statuses: 0 the parts are written, all parts have a certificate, or `verify` says yes; 1 a part is refuted, or `verify` says no; 2 a
 document is malformed or refused, or a class alone exceeds a limit; 3 a part is undecided (601), and none refuted or refused before it; 5 a file or
@@ -61,8 +61,8 @@ def make_parser() -> Parser:
         line for each part and one for all.""")
     one.add_argument("folder", type=Path, metavar="FOLDER", help="the folder that `once-part cut` wrote")
     add_running(one)
-    one = commands.add_parser("verify", help="judge whether the parts speak of every path of the whole", epilog=f"{PROVED} {STATUSES}", description="""Judges whether
-        each part is a part of the whole, whether some part speaks of each path of each class of the whole, and whether `once check` says yes of each certificate.
+    one = commands.add_parser("verify", help="judge whether the parts cover every path of the whole", epilog=f"{PROVED} {STATUSES}", description="""Judges whether
+        each part is a part of the whole, whether some part covers each path of each class of the whole, and whether `once check` says yes of each certificate.
         Prints what is wrong, line by line, and last yes or no.""")
     one.add_argument("folder", type=Path, metavar="FOLDER", help="the folder that `once-part cut` wrote")
     add_documents(one)
@@ -104,7 +104,7 @@ def run_verify(arguments: argparse.Namespace) -> int:
     if verdict.faults:
         print("no")
         return NO
-    print(f"yes: {counted(verdict.parts, 'part', 'parts')}, each with a certificate, speak of all paths of {counted(verdict.classes, 'class', 'classes')}")
+    print(f"yes: {counted(verdict.parts, 'part', 'parts')}, each with a certificate, cover all paths of {counted(verdict.classes, 'class', 'classes')}")
     return 0
 
 

@@ -46,7 +46,7 @@ def verified(once: str, folder: Path) -> Verdict:
 def test_parts_with_certificates(parts: Path, once: str, capsys: pytest.CaptureFixture[str]) -> None:
     words = ["verify", *(str(parts / name) for name in ("parts", "network.json", "traffic.json")), "--once", once, "--jobs", "2"]
     assert part_main.main(words) == 0
-    assert capsys.readouterr().out == "yes: 3 parts, each with a certificate, speak of all paths of 4 classes\n"
+    assert capsys.readouterr().out == "yes: 3 parts, each with a certificate, cover all paths of 4 classes\n"
 
 
 def lists(document: Json, number: int) -> Any:

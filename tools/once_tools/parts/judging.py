@@ -1,7 +1,7 @@
-"""The judge of parts: whether parts with their certificates speak of every path of a whole. It is written apart from the cutter.
+"""The judge of parts: whether parts with their certificates cover every path of a whole. It is written apart from the cutter.
 
 A part is a part of the whole if each of its collecting processes does the same with records as the one of the same names in the whole, and
-the report is the same. It speaks of a path of a class if it has a class of that name with the same region, as exempt as that, and a path
+the report is the same. It covers a path of a class if it has a class of that name with the same region, as exempt as that, and a path
 along which the same caches take the packets in. Selection processes that select no packet of the class are not compared.
 """
 from __future__ import annotations
@@ -135,20 +135,20 @@ class Judge:
     def __init__(self, whole: Judged) -> None:
         self.whole = whole
         self.metered: dict[tuple[str, int], list[Metering]] = {}
-        self.spoken: dict[tuple[str, int], list[str]] = {}
+        self.covered: dict[tuple[str, int], list[str]] = {}
 
     def faults_of(self, part: Judged) -> Iterator[str]:
-        """Yields why a part is no part of the whole, and notes the paths that it speaks of."""
+        """Yields why a part is no part of the whole, and notes the paths that it covers."""
         yield from faults_of_part(self.whole.network, part)
         for name, one in part.classes.items():
             of_whole = self.whole.classes.get(name)
             if of_whole is None:
                 yield f"part {part.name}: the whole has no class '{name}'"
             else:
-                self.hear(part, of_whole, one)
+                self.compare(part, of_whole, one)
 
-    def hear(self, part: Judged, of_whole: ClassMeaning, one: ClassMeaning) -> None:
-        """Notes for each path of a class that a part speaks of it, with an empty text, or why it does not."""
+    def compare(self, part: Judged, of_whole: ClassMeaning, one: ClassMeaning) -> None:
+        """Notes for each path of a class of the whole why a part does not cover it; an empty text if it does."""
         said = ""
         if one.region != of_whole.region:
             said = "it has another region there"
@@ -159,7 +159,7 @@ class Judge:
             there = self.metered_along(of_whole, number)
             reasons = [meterings_differ(there, it) for it in found]
             reason = said or ("" if "" in reasons else reasons[min(number, len(reasons) - 1)] if reasons else "it has no path there")
-            self.spoken.setdefault((one.name, number), []).append(f"part {part.name}: {reason}" if reason else "")
+            self.covered.setdefault((one.name, number), []).append(f"part {part.name}: {reason}" if reason else "")
 
     def metered_along(self, one: ClassMeaning, number: int) -> list[Metering]:
         """Returns what may take packets in along a path of the whole."""
@@ -168,11 +168,11 @@ class Judge:
         return self.metered[(one.name, number)]
 
     def faults_of_classes(self) -> Iterator[str]:
-        """Yields the classes of the whole, with their paths, that no part speaks of."""
+        """Yields the classes of the whole, with their paths, that no part covers."""
         for name, one in self.whole.classes.items():
             if not one.paths:
                 yield f"class '{name}' has no path"
             for number in range(len(one.paths)):
-                heard = self.spoken.get((name, number), ["no part has it"])
-                if "" not in heard:
-                    yield f"class '{name}', path {number + 1}: {'; '.join(heard)}"
+                reasons = self.covered.get((name, number), ["no part has it"])
+                if "" not in reasons:
+                    yield f"class '{name}', path {number + 1}: {'; '.join(reasons)}"

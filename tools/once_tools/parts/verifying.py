@@ -37,7 +37,7 @@ def faults_of_part(judge: Judge, part: PartEntry) -> Iterator[str]:
 
 
 def verify(program: str, folder: Path, network: Path, traffic: Path, jobs: int) -> Verdict:
-    """Returns whether parts speak of every path of the whole, and `once check` says yes of each. Raises `Unusable` if the whole is malformed."""
+    """Returns whether parts cover every path of the whole, and `once check` says yes of each. Raises `Unusable` if the whole is malformed."""
     manifest = read_manifest(folder)
     documents = read_document(network), read_document(traffic)
     whole = judged("of the whole", documents[0].root, documents[1].root)
