@@ -18,7 +18,7 @@ from verdict import report_named
 
 TOP = os.path.dirname(os.path.dirname(os.path.abspath(__file__)))
 STRANGE = "zzzzzzzz"
-BEGIN = 'no member "%s" may be there; those that may, and aren\'t there yet: ' % STRANGE
+BEGIN = 'member "%s" is not allowed there; allowed, and not there yet: ' % STRANGE
 
 
 def document(*names):
