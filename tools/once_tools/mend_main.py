@@ -5,25 +5,20 @@ import argparse
 import json
 import sys
 from pathlib import Path
-from typing import NoReturn, Sequence
+from typing import Sequence
 
+from once_tools.ending import FAILED, Parser, exit_status
 from once_tools.mending.changes import Change
 from once_tools.mending.patches import Document, Operation
 from once_tools.mending.search import Limits, Proposal, mend
 from once_tools.model import Failed, Place, Unusable
 from once_tools.once_program import find_once
-from once_tools.report import line_of, where
+from once_tools.report import where
 
-MENDED, NONE_FOUND, WRONG_ARGUMENTS, FAILED = 0, 1, 6, 5
+MENDED, NONE_FOUND = 0, 1
 EPILOG = """Each proposal was audited and its certificate checked by `once`, so it holds whatever this program does wrong; whether it is what
 you want is for you to say. Exit statuses: 0 there are proposals, or nothing is to be mended; 1 none was found within the limits; 5 a file
 or program failed, or once refuses the documents; 6 wrong arguments."""
-
-
-class Parser(argparse.ArgumentParser):
-    def error(self, message: str) -> NoReturn:
-        self.print_usage(sys.stderr)
-        self.exit(WRONG_ARGUMENTS, f"{self.prog}: {message}\n")
 
 
 def natural(text: str) -> int:
@@ -117,11 +112,4 @@ def run(arguments: argparse.Namespace) -> int:
 def main(words: Sequence[str] | None = None) -> int:
     """Runs the program; returns its exit status."""
     arguments = make_parser().parse_args(words)
-    try:
-        return run(arguments)
-    except Unusable as why:
-        print(line_of(why.finding), file=sys.stderr)
-        return FAILED
-    except OSError as error:
-        print(f"{error.filename or 'a file'}: {error.strerror}", file=sys.stderr)
-        return FAILED
+    return exit_status("once-mend", lambda: run(arguments), FAILED)

@@ -3,32 +3,24 @@ from __future__ import annotations
 
 import argparse
 import gc
-import os
 import sys
 from pathlib import Path
-from typing import NoReturn, Sequence
+from typing import Sequence
 
-from once_tools.import_main import fault_of
-from once_tools.model import Failed, Unusable
+from once_tools.ending import Parser, exit_status
 from once_tools.once_program import find_once
 from once_tools.parts.auditing import Answer, audit_all, status_of
 from once_tools.parts.cutting import Sources, cut
 from once_tools.parts.manifest import read_manifest
 from once_tools.parts.verifying import verify
-from once_tools.report import line_of, printable
+from once_tools.report import printable
 
-NO, REFUSED, FAILED, WRONG_ARGUMENTS = 1, 2, 5, 6
+NO, REFUSED = 1, 2
 PROVED = """Each part's `yes` is proved: `once check` says it of the part's documents and its certificate. That the parts cover the whole is not
 proved: `cut` and `verify` are tested. `verify` was written apart from `cut`, and trusts no part."""
 STATUSES = """Exit statuses: 0 the parts are written, all parts have a certificate, or `verify` says yes; 1 a part is refuted, or `verify` says no; 2 a
 document is malformed or refused, or a class alone exceeds a limit; 3 a part is undecided (601), and none refuted or refused before it; 5 a file or
 program failed; 6 wrong arguments."""
-
-
-class Parser(argparse.ArgumentParser):
-    def error(self, message: str) -> NoReturn:
-        self.print_usage(sys.stderr)
-        self.exit(WRONG_ARGUMENTS, f"{self.prog}: {printable(message)}\n")
 
 
 def jobs(text: str) -> int:
@@ -115,17 +107,4 @@ def main(words: Sequence[str] | None = None) -> int:
     """Runs the program; returns its exit status."""
     arguments = make_parser().parse_args(words)
     gc.disable()  # a document has a million values and no circle: looking for one takes half of the time
-    try:
-        return COMMANDS[arguments.command](arguments)
-    except Unusable as why:
-        print(line_of(why.finding), file=sys.stderr)
-        return FAILED if isinstance(why, Failed) else REFUSED
-    except BrokenPipeError:
-        os.dup2(os.open(os.devnull, os.O_WRONLY), sys.stdout.fileno())
-        return FAILED
-    except OSError as error:
-        print(f"{printable(str(error.filename or 'a file'))}: {error.strerror}", file=sys.stderr)
-        return FAILED
-    except Exception as error:  # a fault of this program must not end with the status of an answer
-        print(f"once-part has a fault: {printable(fault_of(error))}; please report it", file=sys.stderr)
-        return FAILED
+    return exit_status("once-part", lambda: COMMANDS[arguments.command](arguments), REFUSED)

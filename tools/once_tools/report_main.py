@@ -2,34 +2,25 @@
 from __future__ import annotations
 
 import argparse
-import os
 import sys
 from pathlib import Path
-from typing import NoReturn, Sequence
+from typing import Sequence
 
-from once_tools.import_main import fault_of
-from once_tools.model import Failed, Unusable
+from once_tools.ending import Parser, exit_status
 from once_tools.once_program import find_once
-from once_tools.report import line_of, printable
 from once_tools.reporting.answer import Status
 from once_tools.reporting.asking import Question
 from once_tools.reporting.demo import build_demo
 from once_tools.reporting.making import Wanted, make
 from once_tools.reporting.page import encoded, html_of, templates
 
-NOT_SHOWN, WRONG, FAILED = 1, 2, 5
+NOT_SHOWN, WRONG = 1, 2
 STATUSES = {Status.ONCE: 0, Status.WRONG: NOT_SHOWN, Status.UNDECIDED: NOT_SHOWN, Status.REFUSED: WRONG, Status.NOT_ACCEPTED: WRONG}
 MOST = 1_000_000
 EPILOG = """Without --answer, `once audit` searches for one. A certificate is checked by `once check` and a refutation confirmed by `once
 confirm` before the report is written. Exit statuses: 0 a certificate; 1 a refutation, or undecided; 2 a document or an answer is refused, or
 the arguments are wrong, or Jinja2 is missing; 5 a file or program failed. A report is written for 0 and 1, and also if something is
 refused. --demo ends with 0 if all reports were written."""
-
-
-class Parser(argparse.ArgumentParser):
-    def error(self, message: str) -> NoReturn:
-        self.print_usage(sys.stderr)
-        self.exit(WRONG, f"{self.prog}: {printable(message)}\n")
 
 
 def limit(text: str) -> int:
@@ -40,6 +31,7 @@ def limit(text: str) -> int:
 
 def make_parser() -> Parser:
     parser = Parser(prog="once-report", description=__doc__.partition(": ")[2] if __doc__ else "", epilog=EPILOG)
+    parser.status = WRONG
     parser.add_argument("network", type=Path, nargs="?", help="the network document")
     parser.add_argument("traffic", type=Path, nargs="?", help="the traffic declaration")
     parser.add_argument("--answer", type=Path, metavar="FILE", help="report on this certificate or refutation instead of an audit")
@@ -97,17 +89,4 @@ def main(words: Sequence[str] | None = None) -> int:
     fault = fault_in(arguments)
     if fault:
         parser.error(fault)
-    try:
-        return run(arguments)
-    except Unusable as why:
-        print(line_of(why.finding), file=sys.stderr)
-        return FAILED if isinstance(why, Failed) else WRONG
-    except BrokenPipeError:
-        os.dup2(os.open(os.devnull, os.O_WRONLY), sys.stdout.fileno())
-        return FAILED
-    except OSError as error:
-        print(f"{printable(str(error.filename or 'a file'))}: {error.strerror}", file=sys.stderr)
-        return FAILED
-    except Exception as error:  # a fault of this program must not end with the status of an answer
-        print(f"once-report has a fault: {printable(fault_of(error))}; please report it", file=sys.stderr)
-        return FAILED
+    return exit_status("once-report", lambda: run(arguments), WRONG)
