@@ -3,7 +3,6 @@ from __future__ import annotations
 
 import argparse
 import json
-import sys
 from pathlib import Path
 from typing import Sequence
 
@@ -11,7 +10,7 @@ from once_tools.ending import FAILED, Parser, exit_status
 from once_tools.mending.changes import Change
 from once_tools.mending.patches import Document, Operation
 from once_tools.mending.search import Limits, Proposal, mend
-from once_tools.model import Failed, Place, Unusable
+from once_tools.model import Failed, Place
 from once_tools.once_program import find_once
 from once_tools.report import where
 
