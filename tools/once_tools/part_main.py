@@ -13,7 +13,7 @@ from once_tools.parts.auditing import Answer, audit_all, status_of
 from once_tools.parts.cutting import Sources, cut
 from once_tools.parts.manifest import read_manifest
 from once_tools.parts.verifying import verify
-from once_tools.report import printable
+from once_tools.report import counted, printable
 
 NO, REFUSED = 1, 2
 PROVED = """Each part's `yes` is proved: `once check` says it of the part's documents and its certificate. That the parts cover the whole is not
@@ -60,11 +60,6 @@ def make_parser() -> Parser:
     add_documents(one)
     add_running(one)
     return parser
-
-
-def counted(number: int, one: str, more: str) -> str:
-    """Returns a number with its noun."""
-    return f"{number} {one if number == 1 else more}"
 
 
 def run_cut(arguments: argparse.Namespace) -> int:

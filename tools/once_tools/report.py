@@ -18,6 +18,11 @@ def printable(text: str) -> str:
     return "".join(one if one.isprintable() else one.encode("unicode_escape").decode() for one in text)
 
 
+def counted(number: int, one: str, more: str) -> str:
+    """Returns a number with its noun."""
+    return f"{number} {one if number == 1 else more}"
+
+
 def cited(text: str) -> str:
     """Returns the words of a line as a report cites them; a long line is cut."""
     text = printable(text)

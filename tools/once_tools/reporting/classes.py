@@ -65,6 +65,12 @@ def paths_of(one: Json) -> list[list[Json]]:
     return [entries(path) for path in paths] if isinstance(paths, list) else []
 
 
+def devices_crossed(traffic: Json) -> dict[tuple[int, int], set[str]]:
+    """Returns the devices that each path crosses, by the numbers of its class and of itself."""
+    classes = enumerate(entries(traffic.get("classes")), 1)
+    return {(number, at): {str(one.get("device", "")) for one in path} for number, found in classes for at, path in enumerate(paths_of(found), 1)}
+
+
 def counted_at(network: Json, path: list[Json], leaf: Leaf, leaves: int) -> Counted:
     """Returns where the packets of a leaf are counted."""
     crossing = path[leaf.crossing - 1]

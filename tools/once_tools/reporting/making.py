@@ -14,8 +14,9 @@ from once_tools.once_program import run_once
 from once_tools.report import line_of, printable, where
 from once_tools.reporting.answer import Explained, Status, line_in
 from once_tools.reporting.asking import Asked, Question, argument, ask
-from once_tools.reporting.classes import classes_in
+from once_tools.reporting.classes import classes_in, devices_crossed
 from once_tools.reporting.imported import read_report
+from once_tools.reporting.overview import FEW_DEVICES, overview_of
 from once_tools.reporting.page import (
     Drawing, File, Page, causes_of, commands_of, digest, documents_of, now, packet_words, report_key, total_rows)
 from once_tools.reporting.picture import NoPicture, picture_of, run_in
@@ -79,14 +80,24 @@ def network_title(network: Json) -> str:
     return printable(f"The network of {names}; records go from {', '.join(links) or 'no device to another'}. The report is that of {report_key(network)[0]}.")
 
 
-def with_pictures(program: str, wanted: Wanted, asked: Asked, refutation: Refutation | None, page: Page, network: Json) -> Page:
+def overview_drawing(network: Json, traffic: Json, refutation: Refutation | None) -> Drawing | None:
+    """Returns the overview of a network with many devices; None of one with few. Devices of a refutation's path are boxes of their own."""
+    if len(entries(network.get("devices"))) <= FEW_DEVICES:
+        return None
+    crossed = devices_crossed(traffic)
+    apart = crossed.get((refutation.number_of_class, refutation.path), set()) if refutation else set()
+    made = overview_of(network, set().union(*crossed.values()), apart)
+    return drawing_of(made.drawing, "overview-picture", printable(made.words))
+
+
+def with_pictures(program: str, wanted: Wanted, asked: Asked, refutation: Refutation | None, page: Page, network: Json, traffic: Json) -> Page:
     """Returns the page with its pictures."""
     files = [wanted.question.network, wanted.question.traffic, *([asked.file] if asked.file else [])]
     drawn = run_once(program, "draw", *map(argument, files))
     if drawn.status:
         nothing = Drawing(reason=f"`once draw` answered {drawn.output.strip()}")
         return replace(page, network=nothing, run=nothing if page.story else None)
-    page = replace(page, network=drawing_of(drawn.output, "network-picture", network_title(network)))
+    page = replace(page, network=drawing_of(drawn.output, "network-picture", network_title(network)), overview=overview_drawing(network, traffic, refutation))
     if refutation is None:
         return page
     part = run_in(drawn.output, refutation.number_of_class, refutation.path)
@@ -136,7 +147,7 @@ def page_of(program: str, wanted: Wanted, asked: Asked, page: Page) -> Made:
         refutation = refutation_of(asked.text) if asked.status is Status.WRONG else None
         collector, key = report_key(network)
         page = with_answer(replace(page, collector=collector, key=key), asked, refutation, network, traffic)
-        page = with_pictures(program, wanted, asked, refutation, page, network)
+        page = with_pictures(program, wanted, asked, refutation, page, network, traffic)
     missing = dict.fromkeys(one.reason for one in (page.network, page.run) if one and one.reason)
     return Made(page, (*remarks, *(f"no picture: {reason}" for reason in missing)))
 

@@ -88,6 +88,7 @@ class Page:
     totals: list[TotalRow] = field(default_factory=list)
     causes: list[Cause] = field(default_factory=list)
     network: Drawing | None = None
+    overview: Drawing | None = None
     run: Drawing | None = None
     imported: ImportReport | None = None
     answer: str = ""
