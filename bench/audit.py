@@ -36,7 +36,7 @@ def per_line(program, work):
 
 
 def filter_lists(program, work):
-    """Whether paths of meters with lists of filters are audited and checked, in whatever order the filters stand."""
+    """Whether paths of meters with lists of filters are audited and checked, in whatever order the filters are listed."""
     right = True
     for meters, filters in ((1, 64), (32, 256), (62, 256)):
         times = []

@@ -42,7 +42,7 @@ def checked(words, wanted="yes\n"):
 
 
 def least_in_turns(rounds, ways):
-    """The least of so many figures that each way gives, the ways in turns."""
+    """Returns the least figure of each way, of this many runs of each, interleaved."""
     found = [[] for _ in ways]
     for _ in range(rounds):
         for figures, way in zip(found, ways):
@@ -87,7 +87,7 @@ def collector(place, layouts):
 
 
 def chain(processes, layouts=0, ways=1, mode="parallel", first=0):
-    """A meter and so many collecting processes, four to a device. Each sends on to the next in so many ways; the last one
+    """A meter and this many collecting processes, four to a device. Each sends on to the next in this many ways; the last one
     reports. The meter sends to the one at this place."""
     devices = []
     for number in range((processes + 3) // 4):
@@ -120,7 +120,7 @@ class Checker:
         self.words, self.work = [program, "check", network, traffic], work
 
     def of(self, splits):
-        """The words of a check of a certificate with so many splits."""
+        """The arguments of a check of a certificate with this many splits."""
         path = os.path.join(self.work, "certificate-%d.txt" % splits)
         if not os.path.exists(path):
             write_certificate(path, splits)
@@ -167,7 +167,7 @@ def per_line(checker):
 
 
 def per_leaf(program, work, traffic, processes, layouts, reached):
-    """The processor time of a leaf, where the path's records reach the last so many of the processes."""
+    """The processor time of a leaf, where the path's records reach this many of the processes, the last ones."""
     first = processes - reached
     network = document(work, "chain-%d-%d-%d.json" % (processes, layouts, first), chain(processes, layouts, first=first))
     checker, leaves = Checker(program, network, traffic, work), 10_001

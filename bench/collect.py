@@ -13,7 +13,7 @@ TEMPLATE = struct.pack(">10H", 2, 20, 256, 3, 8, 4, 1, 8, 2, 8)
 
 
 def messages(records, each):
-    """Records over the keys in turn, at most so many to a message; in the first one the template takes the room of one."""
+    """Records over the keys in turn, at most this many to a message; the first one has a template instead of one of them."""
     done = 0
     while done < records:
         head = b"" if done else TEMPLATE

@@ -143,7 +143,7 @@ def by_nfcapd(work, records):
 # ---- what is measured
 
 def compared(program, work):
-    """Rows: the work, a unit, and the nanoseconds of a unit by us and by another, in turns."""
+    """Rows: the work, a unit, and the nanoseconds of a unit by us and by another program, interleaved."""
     size = 999_999
     words = of_check(work, size)
     ours, theirs = least_in_turns(ROUNDS, [lambda: seconds([program, *words]), lambda: seconds(by_mawk(words))])

@@ -10,7 +10,7 @@ EACH = 100
 
 
 def one_record(steps):
-    """A run of so many steps, and the totals that it comes to."""
+    """A run of this many steps, and the totals after it."""
     packets = steps - 2
     return one_record_text(packets), "keys 1\n10.0.0.1 packets %d octets %d\nunassigned 0\ncomplete yes\n" % (packets, 100 * packets)
 
@@ -62,7 +62,7 @@ def address(source):
 
 
 def chain(packets):
-    """A run of so many packets, each hundred of which come from one source, and the totals that it comes to."""
+    """A run of this many packets, each hundred of which have one source, and the totals after it."""
     sources = packets // EACH
     lines = "".join("%s packets %d octets %d\n" % (address(source), EACH, 100 * EACH) for source in range(sources))
     return chain_text(packets, sources), "keys %d\n%sunassigned 0\ncomplete yes\n" % (sources, lines)

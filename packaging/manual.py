@@ -2,7 +2,7 @@
 """manual.py ONCE [--compare]: writes the man page and the completion of bash and zsh from the help that ONCE prints.
 
 Beside this script: once.1, once.bash, _once. What the help doesn't have comes from one place each: exit statuses from
-docs/GUIDE.md, examples from README.md, the date and the version (where ONCE tells none) from changelog. With --compare
+docs/GUIDE.md, examples from README.md, the date and the version (if ONCE is not given) from changelog. With --compare
 nothing is written, and the exit status is 1 where a file isn't what it would be.
 """
 import email.utils
@@ -108,7 +108,7 @@ def read(name):
 # The man page.
 
 def roff(text):
-    """A text as roff reads it, with what stands between backticks bold."""
+    """A text as roff reads it, with the text between backticks in bold."""
     text = text.replace("\\", "\\e").replace("-", "\\-").replace("'", "\\(aq").replace("^", "\\(ha").replace("~", "\\(ti")
     text = re.sub(r"`([^`]*)`", r"\\fB\1\\fR", text).replace("`", "\\(ga")
     return re.sub(r"^\.", r"\\&.", text)
@@ -147,7 +147,7 @@ def listed(entries):
 
 
 def sections(lines):
-    """A help's own sections behind its lists."""
+    """The sections of a help that follow its lists."""
     for heading, body in lines:
         if heading:
             yield from [".PP", "\\fI%s\\fR" % roff(heading)]
@@ -296,7 +296,7 @@ def zsh(program):
 
 
 def arguments(options):
-    """What `_arguments` of zsh wants of each option."""
+    """What `_arguments` of zsh needs for each option."""
     for names, value, text in options:
         rest = "[%s]%s" % (quoted(text), ":%s:%s" % (value, action(value)) if value else "")
         if len(names) > 1:

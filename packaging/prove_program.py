@@ -40,7 +40,7 @@ LEAST_MEMORY, SHARE_OF_MEMORY = 1_700_000_000, 0.27
 # The share of that for each further process, which has most of its memory in common with the first.
 MORE_MEMORY = 0.15
 
-# How many processes prove the crate with the longest chain of others behind it, and how many one whose chain has at least this
+# How many processes prove the crate with the longest chain of crates that wait for it, and how many one whose chain has at least this
 # share of that length. Any other is proved by one.
 LONGEST_JOBS, NEAR_JOBS, NEAR = 3, 2, 0.8
 

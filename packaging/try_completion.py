@@ -42,7 +42,7 @@ def bash(words, folder):
     return sorted(line for line in run.stdout.split("\n") if line), run.stderr
 
 
-# What zsh adds as matches is printed by `compadd`, which stands before the one of zsh: folders on the way to a file too,
+# What zsh adds as matches is printed by `compadd`, which is found before the one of zsh: folders on the way to a file too,
 # and options where no file is left to name. Both are left out.
 ZSH = r"""
 zmodload zsh/zpty

@@ -112,7 +112,7 @@ def main():
         (passed := passed + 1) if (status, said) == (2, "refused 856 line 2\n") else failed.append(f"{text}: {written(other)} is in it")
     for text in wrong:
         status, said = replayed(words.program, [text], [])
-        # a hyphen stands between two values, a slash before a length
+        # a hyphen separates two values, a slash comes before a length
         if any(mark in text for mark in "-/"):
             continue
         if (status, said) == (2, "refused 302 /classes/0/region/sourceIPv6Address\n"):

@@ -18,7 +18,7 @@ OPERATORS = ["⊎", "→", "↔", "×", "≡", "≢", "≤", "<", "==", "&&", "|
 
 
 def clause_at(lines, start):
-    """The number of the line behind the clause that begins at this one, or None where its term doesn't close."""
+    """The number of the line after the clause that begins at this one, or None where its term doesn't close."""
     depth = 0
     for number in range(start, len(lines)):
         for character in lines[number]:
@@ -32,7 +32,7 @@ def clause_at(lines, start):
 
 
 def clauses(lines):
-    """Each clause, as the numbers of its first line and of the line behind it."""
+    """Each clause, as the numbers of its first line and of the line after it."""
     number = 0
     while number < len(lines):
         if HEAD.match(lines[number]):
@@ -57,7 +57,7 @@ def depths(text):
 
 
 def break_of(text, room):
-    """Where to break a text so that its first part has at most so many characters: the place of a space."""
+    """Where to break a text so that its first part has at most this many characters: the index of a space."""
     depth = depths(text)
     best = None
     for place in range(1, min(room + 1, len(text))):

@@ -28,7 +28,7 @@ MOST = 20_000
 
 
 def frame_ends(octets):
-    """Behind the header of a capture, and behind each of its frames."""
+    """After the header of a capture, and after each of its frames."""
     order = "<" if octets[:1] in (b"\xd4", b"\x4d") else ">"
     at = 24
     while at <= len(octets):
@@ -39,7 +39,7 @@ def frame_ends(octets):
 
 
 def message_ends(octets):
-    """Before the messages of a stream, and behind each."""
+    """Before the messages of a stream, and after each."""
     at = 0
     yield at
     while at + 4 <= len(octets):

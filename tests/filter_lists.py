@@ -21,16 +21,16 @@ import tempfile
 from program import run
 from verdict import report_named
 
-# How many meters, how many filters each has, and how they stand.
+# How many meters, how many filters each has, and their order.
 LISTS = [(1, 64, "ascending"), (9, 64, "ascending"), (4, 250, "ascending"), (4, 250, "descending"), (4, 250, "shuffled"), (2, 3, "shuffled")]
-# How many collecting processes a mediator has, how many aggregations each has, and how they stand.
+# How many collecting processes a mediator has, how many aggregations each has, and their order.
 MATCHES = [(1, 256, "ascending"), (1, 256, "descending"), (1, 256, "shuffled"), (3, 200, "ascending"), (3, 200, "descending"), (3, 200, "shuffled")]
 FIRST = int(ipaddress.ip_address("10.0.0.0"))
 SIZE = 256
 
 
 def networks_of(count, order):
-    """Returns the numbers of the networks in the order in which filters stand."""
+    """Returns the numbers of the networks in the order of their filters."""
     numbers = list(range(count))
     if order == "descending":
         numbers.reverse()

@@ -20,7 +20,7 @@ from refused_growth import ROWS, SWEPT, is_right, octets_of, wrong_links
 
 
 def limited(most):
-    """What is done before a program runs so that its files have at most so many octets."""
+    """What is done before a program runs so that its files have at most this many octets."""
     def limit():
         signal.signal(signal.SIGXFSZ, signal.SIG_IGN)
         resource.setrlimit(resource.RLIMIT_FSIZE, (most, most))
@@ -28,7 +28,7 @@ def limited(most):
 
 
 def run_row(program, row, folder, most, answer):
-    """What stands in the answer's file, or on a pipe where there is none, and the status."""
+    """What the answer's file has, or a pipe where there is none, and the status."""
     words, given = octets_of(row, "words").decode().split(), octets_of(row, "stdin")
     how = {"given": given, "preexec_fn": limited(most)}
     if answer is None:

@@ -63,7 +63,7 @@ def filter_match(draw):
 
 
 def exporter(draw, name, most=3):
-    """An exporting process with up to so many destinations."""
+    """An exporting process with up to this many destinations."""
     made = {"name": name, "destination": [{"name": f"d{k}", "udpExporter": {}} for k in range(draw.randint(1, most))]}
     mode = draw.choice(["parallel", "parallel", "loadBalancing", "fallback"])
     return made if mode == "parallel" else {**made, "exportMode": mode}

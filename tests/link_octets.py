@@ -34,7 +34,7 @@ NETWORKS = [
 
 
 def messages(octets):
-    """The messages of a stream (RFC 7011, section 3.1: the length stands behind the version)."""
+    """The messages of a stream (RFC 7011, section 3.1: the length follows the version)."""
     while octets:
         length = struct.unpack(">H", octets[2:4])[0]
         yield octets[:length]

@@ -24,7 +24,7 @@ WANTED = (
 
 
 def balanced_tree(splits, low, high):
-    """The lines of a tree of so many splits of the sources from one to another, half of them on either side."""
+    """The lines of a tree of this many splits of the sources from one to another, half of them on either side."""
     waiting = [(splits, low, high)]
     while waiting:
         splits, low, high = waiting.pop()
@@ -38,7 +38,7 @@ def balanced_tree(splits, low, high):
 
 
 def certificate(splits):
-    """The lines of the certificate whose one tree has so many splits."""
+    """The lines of the certificate whose one tree has this many splits."""
     yield "once-certificate 1\nclass 1 path 1\n"
     yield from balanced_tree(splits, *SOURCES)
     yield "end\n"

@@ -31,7 +31,7 @@ def documents(folder):
 
 
 def capture(folder):
-    """A capture's header, and one round of frames over all flows, which can stand behind itself."""
+    """A capture's header, and one round of frames over all flows, which can be repeated."""
     path = os.path.join(folder, "round.pcap")
     write_capture(path, FLOWS, FLOWS)
     with open(path, "rb") as file:
@@ -45,7 +45,7 @@ def begin(program, folder, *more, **how):
 
 
 def feed(ongoing, octets, rounds):
-    """Hands so many rounds of frames to a run; whether it took them all."""
+    """Gives a run this many rounds of frames; returns whether it took them all."""
     try:
         ongoing.stdin.write(octets[0])
         for _ in range(rounds):

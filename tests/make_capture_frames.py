@@ -196,7 +196,7 @@ def cut4():
 
 
 def captured(frame, count=None, before=0):
-    """A frame's octets, of which so many were captured behind the link's header, and its length."""
+    """A frame's octets, of which this many were captured after the link's header, and its length."""
     octets = bytes(frame)
     return octets[:None if count is None else before + count], len(octets)
 
@@ -268,7 +268,7 @@ def raw_frames_too():
     yield from raw_of("IPv6: TCP", "IPv6: the same with", "IPv6: IPv4 in", "IPv6: payload", "IPv6: segm", "IPv6: four")
 
 
-# ---- what tshark tells of them
+# ---- what tshark prints of them
 
 # what is read of a header that is passed over: the next header, and the length or the offset
 PASSED_OVER = {0: ["ipv6.hopopts.nxt", "ipv6.hopopts.len"], 43: ["ipv6.routing.nxt", "ipv6.routing.len"],

@@ -2,7 +2,7 @@
 """memory_refusals.py: holds the sources against the list of all places that say that memory ran out.
 
 No contract can say when a growth is refused, so `memory 900` could be answered anywhere without a proof that notices. This
-script makes it a rule of the code: the number 900 stands in one file; each place in crates/*/src that makes a refusal or an error
+script makes it a rule of the code: the number 900 occurs in one file; each place in crates/*/src that makes a refusal or an error
 of it is listed in memory_refusals.txt, with the function that it stands in and the reason; and no row of rows/ expects it, where
 no growth is refused. Crates of tests are left out. Run at the top of the repository. Prints what differs, and a last line with
 the number of places; the exit status is 1 if anything differs.

@@ -62,7 +62,7 @@ from mutation.store import Digests, Store, store_folder
 from shown import faults_of
 
 FOLDER = "mutants"
-# The seconds by the clock from which a mutant's time is shown.
+# The elapsed seconds from which a mutant's time is shown.
 LONG = 20
 # How often it is looked for crates that `rt ci` has proved meanwhile.
 FOLLOW_SECONDS = 5

@@ -125,7 +125,7 @@ def line_moved(chance, octets):
 
 
 def word_changed(chance, octets):
-    """A word of the text in place of another of its words."""
+    """A word of the text instead of another of its words."""
     words = list(re.finditer(rb"\"[^\"]*\"|[A-Za-z0-9_.:/-]+|[{}\[\],]", octets))
     if not words:
         return octets_changed(chance, octets)

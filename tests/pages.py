@@ -14,7 +14,7 @@ from program import WITH_OUTPUT, run
 
 TOP = os.path.dirname(os.path.dirname(os.path.abspath(__file__)))
 PAGES = ["README.md", "docs/GUIDE.md", "tools/README.md"]
-# What a reader does by hand behind a sentence, as a command.
+# What a reader does by hand after a sentence, as a command.
 BY_HAND = {
     "Or remove the second observation point": """python3 - <<'END'
 import json

@@ -54,7 +54,7 @@ def main(arguments):
         text = said.read()
         print(text, end="", flush=True)
     if UNTRIED in text and not status:
-        # (where `rt ci` keeps nothing, its libraries lie in out/ now)
+        # (where `rt ci` keeps nothing, its libraries are in out/ now)
         tried = run([sys.executable, f"{HERE}/mutants.py", "--as-built"], seconds=None, stdout=None, stderr=None).returncode
     return 1 if status or tried else 0
 

@@ -48,7 +48,7 @@ def octets_of(row, name, default=b""):
 
 
 class Shim:
-    """The program with a library of this folder in front of the C library, which `cc` builds and which tells what it
+    """The program with a library of this folder in front of the C library, which `cc` builds and which writes what it
     counted in a file that the variable `tells` names."""
 
     def __init__(self, program, folder, name, tells):
@@ -58,7 +58,7 @@ class Shim:
         succeed(["cc", "-O2", "-Wall", "-shared", "-fPIC", "-o", self.library, source])
 
     def run(self, words, given=b"", folder=None, **asked):
-        """What is printed, the status, and the numbers that the library tells; what is asked of it are its variables."""
+        """What is printed, the status, and the numbers that the library wrote; its variables say what it shall do."""
         asked = {name: str(value) for name, value in asked.items() if value}
         how = {**os.environ, **asked, "LD_PRELOAD": self.library, self.tells: self.told}
         if os.path.exists(self.told):
@@ -73,7 +73,7 @@ class Shim:
 
 
 def has_whole_messages(octets):
-    """Whether these are whole messages (RFC 7011, section 3.1: the length stands behind the version)."""
+    """Whether these are whole messages (RFC 7011, section 3.1: the length follows the version)."""
     while octets:
         length = int.from_bytes(octets[2:4], "big")
         if not 16 <= length <= len(octets):
@@ -117,7 +117,7 @@ def sweep(shim, row, behind):
 
 
 def lengths(shim, folder):
-    """Whether growths stand before the first read of the certificate, whatever its length, and what to say of it."""
+    """Whether memory grows before the first read of the certificate, whatever its length, and what to say of it."""
     counts = []
     for splits in (0, 499_999):
         path = os.path.join(folder, "certificate-%d.txt" % splits)

@@ -96,7 +96,7 @@ def faults_in(program, row):
 
 
 def unconfirmed(program, row, documents, refutation, steps):
-    """Says why the printed refutation isn't what is wanted: the lines of its steps stand between two lines and `end`."""
+    """Says why the printed refutation isn't what is wanted: the lines of its steps are between its first two and `end`."""
     lines = refutation.decode().splitlines()
     if steps and len(lines) - 3 != int(steps):
         yield "printed %d steps instead of %s" % (len(lines) - 3, steps)

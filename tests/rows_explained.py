@@ -24,7 +24,7 @@ PASSED_OVER = ("output", "cuts")
 
 
 def ways(words):
-    """The words with the flag in front of all and behind all; behind `--` it would be a file's name."""
+    """The arguments with the flag before all and after all; after `--` it would be a file's name."""
     yield ["--explain"] + words
     if "--" not in words:
         yield words + ["--explain"]

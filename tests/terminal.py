@@ -42,7 +42,7 @@ MISSING = "Write what is missing, in the order of the usage line; `once help COM
 # A run over a capture that puts octets on link 1.
 RUN_WITH_LINKS = "run-over-a-packet-of-ipv6"
 
-# Words that don't parse, with what is told to be done about them.
+# Arguments that are not accepted, with the advice that is printed for them.
 ADVICE = {
     "--explain --explain check n t c": WORDS,
     "check n t c --explain --explain": WORDS,
@@ -175,7 +175,7 @@ def printed_by(program, folder, *words):
 
 
 def faults_of_help_documents(program):
-    """The documents that the help of `lint` shows must be accepted as they stand there, and counted once."""
+    """The documents that the help of `lint` shows must be accepted as they are printed there, and counted once."""
     found = help_documents(program)
     if len(found) != 4:
         yield "the help has %d documents instead of 4" % len(found)
@@ -185,7 +185,7 @@ def faults_of_help_documents(program):
             write(folder, "network", network)
             write(folder, "traffic", traffic)
             said = printed_by(program, folder, "lint", "network", "traffic", "--explain")
-            # Of the second traffic it is told that a class is exempt, and that one of its paths has no crossing.
+            # Of the second traffic it is printed that a class is exempt, and that one of its paths has no crossing.
             if said != "ok\n" and (network is found[0] or said.split("\n")[0] != "ok"):
                 yield "printed %r of the documents in the help" % said
             said = printed_by(program, folder, "audit", "network", "traffic")

@@ -24,7 +24,7 @@ IMPORTED = "ietf-ipfix-psamp"
 TRANSCRIBED = os.path.join(TOP, "tests", "yang")
 AGGREGATED = "~1/collectingProcess/0/once-audit:aggregation/0"
 FEATURES = ["-F", IMPORTED + ":*"]
-# Faults that a YANG module can tell: names twice, and names that stand for nothing.
+# Faults that a YANG module can show: names that are defined twice, and names that are not defined.
 WRONG = [
     ("network", "/devices/2/name", '"router"'),
     ("network", "/links/-", "@/links/0"),

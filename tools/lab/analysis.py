@@ -21,7 +21,7 @@ VERIFIED = {CERTIFICATE: ("check", "yes"), REFUTATION: ("confirm", "refuted")}
 
 @dataclass
 class Result:
-    """What came of a scenario. `lost_before` has, for each earlier attempt at it, what was lost in it."""
+    """The outcome of a scenario. `lost_before` has, for each earlier attempt at it, what was lost in it."""
 
     scenario: Scenario
     measured: Measured
@@ -41,7 +41,7 @@ def ask(session: Session, *words: str | Path) -> tuple[str, int]:
 
 
 def prepare(session: Session) -> Path:
-    """Writes the project of a scenario, while its network stands."""
+    """Writes the project of a scenario, while its network is up."""
     declared = session.scenario.declared
     paths = declared.paths(session) if declared.paths else []
     return documents.write_project(session.scenario, session.meters, session.state, session.folder, paths)
@@ -135,7 +135,7 @@ def due_of(session: Session, plain: Totals) -> Totals:
 
 
 def measure(session: Session, project: Path) -> Result:
-    """Returns what came of a scenario that has run."""
+    """Returns the outcome of a scenario that has run."""
     scenario = session.scenario
     made = make_documents(session, project)
     session.end_collectors()

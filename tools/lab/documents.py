@@ -1,5 +1,5 @@
 """The documents of a scenario: a project for once-import, which names the files that the programs were started with and what
-stands in the routers, and what once-import and `once` make of it."""
+is in the routers, and what once-import and `once` make of it."""
 from __future__ import annotations
 
 import ipaddress

@@ -12,7 +12,7 @@ from lab.programs import run
 from lab.verdicts import Loss
 
 SWITCHING = ("sw", "edge", "c3")
-# Counters of /proc/net/snmp and snmp6 that rise when something is lost for want of room. Packets that die are not among them.
+# Counters of /proc/net/snmp and snmp6 that rise when something is lost because a buffer is full. Packets that die are not among them.
 COUNTERS = {"Udp": ("RcvbufErrors", "SndbufErrors"), "Ip": ("InDiscards", "OutDiscards")}
 # Discarded packets of IPv6 are left out: reports of multicast listeners are discarded when IPv6 is switched off at an interface.
 COUNTERS_OF_IPV6 = ("Udp6RcvbufErrors", "Udp6SndbufErrors")

@@ -80,7 +80,7 @@ def end_by_signal(number: int, _: object) -> NoReturn:
 
 
 def finish(arguments: argparse.Namespace, results: Results) -> int:
-    """Writes what came of a run, and returns the exit status."""
+    """Writes the outcome of a run, and returns the exit status."""
     path = arguments.out / "results.json"
     earlier = read(arguments.agree) if arguments.agree else None
     write(results, path)

@@ -83,7 +83,7 @@ def may_use_namespaces() -> str:
 
 
 def there() -> list[str]:
-    """Returns the hosts of a lab that stands."""
+    """Returns the hosts of a lab that is up."""
     names = [line.split()[0] for line in run(["ip", "netns", "list"]).output.splitlines() if line.strip()]
     return [host for host in HOSTS if namespace_of(host) in names]
 

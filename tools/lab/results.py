@@ -17,7 +17,7 @@ Entry = dict[str, Any]
 
 @dataclass
 class Results:
-    """What came of a run: versions, seconds, and an entry for each scenario that was measured."""
+    """The outcome of a run: versions, seconds, and an entry for each scenario that was measured."""
 
     date: str
     versions: dict[str, str]

@@ -38,7 +38,7 @@ class Ran:
 
 
 def bring_up(folder: Path, out: Path, once: str) -> Lab:
-    """Brings the lab up, and saves what stands in it."""
+    """Brings the lab up, and saves its state."""
     namespaces.up()
     routing.start(folder / "frr")
     switch = Switch(folder / "ovs")
@@ -58,7 +58,7 @@ def take_down(switch: Switch) -> None:
 
 
 def run_scenario(lab: Lab, scenario: Scenario) -> Ran:
-    """Runs a scenario, and saves what stood in the network for the analysis."""
+    """Runs a scenario, and saves the state of the network for the analysis."""
     began = time.monotonic()
     with scenario.network(lab.switch):
         session = running.begin(lab, scenario)
@@ -68,7 +68,7 @@ def run_scenario(lab: Lab, scenario: Scenario) -> Ran:
 
 
 def measure(ran: Ran) -> Result:
-    """Returns what came of a scenario that has run."""
+    """Returns the outcome of a scenario that has run."""
     began = time.monotonic()
     try:
         result = analysis.measure(ran.session, ran.project)

@@ -1,4 +1,4 @@
-"""FRR in the routers: zebra and ospfd, started without a service manager, with what is left behind taken away at the end."""
+"""FRR in the routers: zebra and ospfd, started without a service manager, with what they leave removed at the end."""
 from __future__ import annotations
 
 import json
@@ -89,7 +89,7 @@ def show(host: str, command: str) -> str:
 
 
 def set_second_uplink(is_used: bool) -> None:
-    """Makes the second uplink as cheap as the first, or dearer, and returns when the routers' kernels have it so."""
+    """Makes the second uplink as cheap as the first, or more expensive, and returns when the routers' kernels have it so."""
     for host in ROUTERS:
         run(["vtysh", "-N", namespace_of(host), "-c", "configure terminal", "-c", f"interface {UPLINKS[host][1]}", "-c",
              f"ip ospf cost {COST if is_used else MORE}"], host)

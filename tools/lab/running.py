@@ -21,7 +21,7 @@ from lab.verdicts import Loss
 PORTS = (4739, 4740, 4741)
 # Open vSwitch's cache is exported within its timeout of 2 seconds.
 SWITCH_FLUSH = 0.5
-# The last messages reach the collectors, and dumpcap hands on what it holds each quarter of a second.
+# The last messages reach the collectors, and dumpcap passes on what it holds each quarter of a second.
 SETTLED = 0.6
 # How long packets and the answers to them may take on a busy machine.
 ARRIVAL = 10.0
@@ -29,7 +29,7 @@ ARRIVAL = 10.0
 
 @dataclass
 class Lab:
-    """The lab that stands: its switch, what stood in the routers when it came up, and the folder of results."""
+    """The lab that is up: its switch, the state of the routers when it came up, and the folder of results."""
 
     switch: Switch
     base: State
@@ -62,7 +62,7 @@ class Session:
         return self.group.folder
 
     def run(self) -> None:
-        """Runs the scenario. At its end the collectors alone still run, and have been told to end; if it fails, nothing does."""
+        """Runs the scenario. At its end the collectors alone still run, and have been asked to end; if it fails, nothing does."""
         try:
             before = losses.all_counters()
             self._start()

@@ -1,4 +1,4 @@
-"""What a scenario is: the meters and collectors that run, what is sent, what the documents say, and what must come of it."""
+"""What a scenario is: the meters and collectors that run, what is sent, what the documents say, and what the outcome must be."""
 from __future__ import annotations
 
 from contextlib import AbstractContextManager, nullcontext
@@ -67,7 +67,7 @@ class Scenario:
     `network` changes the lab for its time; `during` is called while packets are sent, and `after_meters` when all meters and
     captures of what is sent have ended. `schedule` writes a schedule for `once run` from the traffic document and the merged
     captures, with the packets at the interfaces that are `watched`; `predicts` is false where documents do not say what a run
-    does. `settle` is the time between the arrival of the last packet and the end of the meters: libpcap hands packets on within
+    does. `settle` is the time between the arrival of the last packet and the end of the meters: libpcap passes packets on within
     a second. With `ends_early` the time begins when the last packet is sent, whether it has come or not.
     `other_keys` are keys that no declared host has and that must be expected; `others_are_wrong` says that their packets are
     declared as exempt. `gaps` are those that an exporter makes in sequence numbers though nothing is lost. `is_random` says

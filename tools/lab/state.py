@@ -1,4 +1,4 @@
-"""What stands in the lab: addresses, routing tables and cables, saved as once-import reads them."""
+"""The state of the lab: addresses, routing tables and cables, saved as once-import reads them."""
 from __future__ import annotations
 
 import json

@@ -31,7 +31,7 @@ class TooManyBoxes(Exception):
 
 @dataclass(frozen=True)
 class Box:
-    """The packets whose value on each axis of AXES lies in the interval with the same index."""
+    """The packets whose value on each axis of AXES is in the interval with the same index."""
 
     sides: tuple[Interval, ...] = ALL
 

@@ -28,7 +28,7 @@ def make_parser(commands: Sequence[str]) -> Parser:
 
 
 def with_command(words: Sequence[str]) -> list[str]:
-    """Returns the arguments with the command `import` before a project that stands without one."""
+    """Returns the arguments with the command `import` before a project that has none."""
     first = next((word for word in words if not word.startswith("-")), None)
     if first is None or first in COMMANDS or words[0] in ("-h", "--help"):
         return list(words)

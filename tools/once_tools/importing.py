@@ -47,7 +47,7 @@ class Pair:
 
 @dataclass
 class Imported:
-    """What came of a project: no pairs if something is wrong."""
+    """The outcome of a project: no pairs if something is wrong."""
 
     pairs: list[Pair]
     report: Report

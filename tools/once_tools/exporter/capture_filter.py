@@ -1,4 +1,4 @@
-"""A filter of libpcap (pcap-filter(7)) as properties of packets, as far as it is one: parts that all must hold."""
+"""A filter of libpcap (pcap-filter(7)) as properties of packets, if it is a conjunction: parts that must all hold."""
 from __future__ import annotations
 
 import ipaddress

@@ -17,7 +17,7 @@ VERSIONS = (4, 6)
 
 @dataclasses.dataclass
 class Plugin:
-    """What exports: the axes that its flows are told apart by, with `sourceAddress` for that of either version."""
+    """What exports: the axes that distinguish its flows, with `sourceAddress` for that of either version."""
     name: str
     axes: list[str]
     versions: tuple[int, ...] = VERSIONS
@@ -139,7 +139,7 @@ def unread_by(key: list[Entry], ipfix: Entry) -> Iterator[str]:
 
 
 def check_names(meter: Meter) -> None:
-    """Refuses what can't be a name of the document, or would stand twice there."""
+    """Refuses what can't be a name of the document, or would occur twice there."""
     names = [plugin.name for plugin in meter.plugins]
     for name in names + [meter.interface] + [where[0] for plugin in meter.plugins for where in plugin.destinations]:
         if not cells.is_name(name):

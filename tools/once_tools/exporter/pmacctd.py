@@ -198,7 +198,7 @@ def interface_of(settings: Settings, meter: Meter) -> str:
 
 
 def tell(settings: Settings, meter: Meter) -> None:
-    """What an audit can't be told, setting by setting."""
+    """What a document cannot express, setting by setting."""
     for key in ("sampling_rate", "pmacctd_ext_sampling_rate", "sampling_map"):
         if settings.values(key) - {"0", "1"}:
             meter.lost.append("%s: sampling. A total over a sample isn't exact (108); the document meters all packets"

@@ -10,7 +10,7 @@ from once_tools.exporter.capture_filter import matches_of
 from once_tools.exporter.meter import VERSIONS, End, Meter, Plugin, Unusable
 
 OPTIONS = "i:r:t:m:n:p:c:v:L:T:6dDP:A:s:B:baC:lR:S:Nx:h"
-# The flow keys of each track level; what isn't an axis is told.
+# The flow keys of each track level; what isn't an axis is reported.
 ADDRESSES = ["sourceAddress", "destinationAddress"]
 PORTS = ["sourceTransportPort", "destinationTransportPort"]
 LEVELS: dict[str, tuple[list[str], str | None]] = {
@@ -83,7 +83,7 @@ def interface_of(options: dict[str, str], meter: Meter) -> str:
 
 
 def tell(options: dict[str, str], meter: Meter) -> None:
-    """What an audit can't be told, option by option."""
+    """What a document cannot express, option by option."""
     meter.lost.append("softflowd sends counters of 4 octets, which once refuses (110 in a document, 618 in a stream): "
                       "the document has them in 8, so it speaks of records whose sums stay below 4,294,967,296")
     meter.lost.append("softflowd counts what a frame has after its link header, padding included: on Ethernet a packet of "

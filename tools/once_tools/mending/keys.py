@@ -53,7 +53,7 @@ def aggregation_keys(case: Case, device: DeviceView, process: int, key: list[Key
 
 
 def key_changes(pointer: str, there: list[str], lacks: list[KeyField]) -> Iterator[Operation]:
-    """Yields the operations that add fields to a key with these axes, or that put them in place of those on the same axis."""
+    """Yields the operations that add fields to a key with these axes, or that put them there instead of those on the same axis."""
     for (element, _), entry in zip(lacks, key_entry(lacks)):
         axis = axis_of(element)
         yield replace(f"{pointer}/{there.index(axis)}", entry) if axis in there else add(f"{pointer}/-", entry)

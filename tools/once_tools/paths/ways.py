@@ -83,7 +83,7 @@ def _ways_out(topology: Topology, node: Node, exits: list[Interface], search: Se
 
 @dataclass(frozen=True)
 class Target:
-    """Where packets go: an address, and in words all those that no table tells apart from it."""
+    """Where packets go: an address, and in words all those that no table distinguishes from it."""
 
     address: Address
     what: str

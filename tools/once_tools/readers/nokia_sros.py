@@ -137,7 +137,7 @@ class _Reading:
             self.log.unknown(one.place, " ".join(words[:3]), ["cflowd"])
 
     def service(self, owner: tuple[str, ...], words: list[str]) -> None:
-        """Takes `shutdown` of a service; what is set where it is created may stand before."""
+        """Takes `shutdown` of a service; what is set where it is created may come before."""
         while len(words) > 2 and words[0] in ("customer", "name"):
             words = words[2:]
         words = [word for word in words if word != "create"]

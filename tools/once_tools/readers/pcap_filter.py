@@ -12,7 +12,7 @@ PROTOCOLS = {"icmp": 1, "igmp": 2, "ipip": 4, "tcp": 6, "egp": 8, "igrp": 9, "ud
              "esp": 50,
              "ah": 51, "icmp6": 58, "ipv6-icmp": 58, "ospf": 89, "pim": 103, "vrrp": 112, "carp": 112, "l2tp": 115,
              "sctp": 132}
-# The versions of IP that a keyword which stands alone speaks of.
+# The versions of IP that a keyword without an identifier is about.
 ALONE = {"tcp": (4, 6), "udp": (4, 6), "sctp": (4, 6), "icmp": (4,), "icmp6": (6,), "igmp": (4,), "igrp": (4,),
          "pim": (4, 6),
          "vrrp": (4,), "carp": (4,), "ah": (4, 6), "esp": (4, 6)}
@@ -33,7 +33,7 @@ class UnreadFilter(Exception):
 
 @dataclass(frozen=True)
 class Qualifiers:
-    """What stands before an identifier: a protocol, a direction and a type; empty where nothing is said."""
+    """What comes before an identifier: a protocol, a direction and a type; empty where nothing is said."""
 
     protocol: str = ""
     direction: str = ""
@@ -127,7 +127,7 @@ class _Parser:
         return Qualifiers(protocol, direction, kind)
 
     def keyword(self, qualifiers: Qualifiers, start: int) -> list[Box]:
-        """Returns the packets of a protocol whose keyword stands alone; no identifier may refer to it."""
+        """Returns the packets of a protocol whose keyword has no identifier; none may refer to it."""
         name, self.last = qualifiers.protocol, None
         if not name or qualifiers.direction or qualifiers.kind:
             raise UnreadFilter(self.text(start), "has no address, port or protocol after it")

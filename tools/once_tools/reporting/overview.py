@@ -50,7 +50,7 @@ def shape_of(device: Json, links: Sequence[Json]) -> str:
 
 
 def site_of(name: str) -> str:
-    """Returns the site in a device's name: what stands before its first `-`, `.` or `_`, or before the number that ends it."""
+    """Returns the site in a device's name: what comes before its first `-`, `.` or `_`, or before the number that ends it."""
     return re.split(r"[-._]", name, maxsplit=1)[0].rstrip("0123456789") or name
 
 
@@ -124,7 +124,7 @@ def destinations_lost(network: Json) -> Counter[str]:
 
 
 def box_lines(box: Box) -> list[str]:
-    """Returns what stands in a box."""
+    """Returns the lines of a box."""
     many = [counted(len(box.devices), "device", "devices")] if len(box.devices) > 1 else []
     return [names_in(box), *many, *([", ".join(box.roles)] if box.roles else [])]
 

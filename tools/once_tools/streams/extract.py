@@ -20,7 +20,7 @@ class Taker(Protocol):
     """What messages are handed to."""
 
     def message(self, ends: Ends, octets: bytes, frame: int, stream: int) -> None:
-        """Takes an IPFIX message, or octets that stand where one should be."""
+        """Takes an IPFIX message, or octets where one should be."""
 
     def netflow(self, ends: Ends, version: int, octets: bytes, frame: int) -> None:
         """Takes a NetFlow message of version 5 or 9."""

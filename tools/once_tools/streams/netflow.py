@@ -1,4 +1,4 @@
-"""NetFlow versions 5 and 9: what tells them from other datagrams, and the templates of version 9 (RFC 3954)."""
+"""NetFlow versions 5 and 9: what distinguishes them from other datagrams, and the templates of version 9 (RFC 3954)."""
 from __future__ import annotations
 
 import struct

@@ -55,7 +55,7 @@ class Tally:
 
 @dataclass(frozen=True, order=True)
 class Ends:
-    """The ends of a transport session: `number` tells connections with the same addresses and ports apart."""
+    """The ends of a transport session: `number` distinguishes connections with the same addresses and ports."""
 
     transport: str
     source: str

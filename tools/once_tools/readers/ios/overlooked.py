@@ -1,4 +1,4 @@
-"""Statements about flows that stand where no part of the reader looks."""
+"""Statements about flows where no part of the reader looks."""
 from __future__ import annotations
 
 from typing import Iterator
