@@ -1,4 +1,4 @@
-"""The overview of a network with many devices: which devices are one box, what leads where, and what the page shows of it."""
+"""What is folded in reports on large networks: devices in the overview, and paths that are alike."""
 from __future__ import annotations
 
 import json
@@ -9,7 +9,9 @@ from xml.etree import ElementTree
 
 from conftest import TESTS, needed
 from once_tools import import_main
-from once_tools.reporting.overview import Overview, are_numbered, overview_of, site_of
+from once_tools.reporting.alike import Counted, Crossing, PathRow, folded
+from once_tools.reporting.names import are_numbered
+from once_tools.reporting.overview import Overview, overview_of, site_of
 from once_tools.reporting.picture import picture_of
 from report_pages import SHARED, documents, made
 
@@ -116,3 +118,39 @@ def test_only_pages_of_many_devices_have_an_overview(once: str, tmp_path: Path) 
     assert not html.faults and "20 devices in 5 boxes: " in html.text() and "Show the whole network" in html.text()
     _, html = made(once, tmp_path, *documents(SHARED))
     assert "overview-picture-title" not in html.values("aria-labelledby")
+    assert not [row for row in html.rows if " to " in row[0]]
+
+
+def row(number: int, *devices: str, interface: str = "eth0", leaves: int = 2) -> PathRow:
+    """Returns a path through these devices, which is counted at the first."""
+    crossings = tuple(Crossing(device, interface, "ingress") for device in devices)
+    return PathRow(str(number), crossings, (Counted(1, devices[0], interface, "ingress", "in", "all", leaves),), 1)
+
+
+def shown(rows: Sequence[PathRow]) -> list[tuple[str, str, str, int, int]]:
+    """Returns the numbers, crossings, place and leaves of each row."""
+    return [(one.numbers, ", ".join(map(str, one.crossings)), one.counted[0].device, one.counted[0].leaves, one.uncounted) for one in folded(rows)]
+
+
+def test_paths_that_are_alike_are_one_row() -> None:
+    alike = [row(number, f"r{number + 7}", "core", f"s-{number + 1}") for number in range(1, 4)]
+    assert shown(alike) == [("1 to 3", "r8 to r10 eth0 ingress, core eth0 ingress, s-2 to s-4 eth0 ingress", "r8 to r10", 6, 3)]
+    assert [one[0] for one in shown([*alike, row(4, "r12", "core", "s-5")])] == ["1 to 3", "4"]
+    assert [one[0] for one in shown([row(1, "a"), *(row(number, f"r{number}") for number in range(2, 6)), row(6, "b")])] == ["1", "2 to 5", "6"]
+
+
+def test_other_paths_are_rows_of_their_own() -> None:
+    assert [one[0] for one in shown([row(1, "r1"), row(2, "r2")])] == ["1", "2"]
+    for last in (row(3, "r4"), row(3, "s3"), row(3, "r3", interface="eth1"), row(3, "r3", leaves=1), row(3, "r3", "r3"), row(3, "r2")):
+        assert [one[0] for one in shown([row(1, "r1"), row(2, "r2"), last])] == ["1", "2", "3"]
+    assert [one[0] for one in shown([row(1, "r"), row(2, "r"), row(3, "r")])] == ["1", "2", "3"]
+    assert folded([]) == ()
+
+
+def test_the_paths_of_twenty_devices(once: str, tmp_path: Path) -> None:
+    _, *files = twenty(tmp_path)
+    _, html = made(once, tmp_path, *files)
+    rows = [row for row in html.rows if row[0][:1].isdigit() and len(row) == 6]
+    assert rows[0] == ["1 to 14", "edge-01 to edge-14 eth0 ingress, then core-1 xe0 egress", "edge-01 to edge-14 eth0 ingress (crossing 1)", "customers",
+                       "from-customers", "14"]
+    assert rows[1][:2] == ["1", "core-1 xe0 ingress, then edge-07 eth0 egress"] and rows[2][0] == "2"

@@ -6,35 +6,13 @@ from dataclasses import dataclass
 
 from once_tools.elements import AXES
 from once_tools.network_view import Json, entries, table
+from once_tools.reporting.alike import Counted, Crossing, PathRow, folded
 from once_tools.since import Leaf, leaves_in, names_of_leaf
 
 # What each axis is called in a sentence.
 WORDS = {"sourceIPv4Address": "IPv4 source", "destinationIPv4Address": "IPv4 destination", "protocolIdentifier": "protocol",
          "sourceTransportPort": "source port", "destinationTransportPort": "destination port", "ipClassOfService": "class of service",
          "ipVersion": "IP version", "sourceIPv6Address": "IPv6 source", "destinationIPv6Address": "IPv6 destination"}
-
-
-@dataclass(frozen=True)
-class Counted:
-    """Where packets of a path are counted, and how many leaves of the certificate say so."""
-
-    crossing: int
-    device: str
-    interface: str
-    direction: str
-    point: str
-    process: str
-    leaves: int
-
-
-@dataclass(frozen=True)
-class PathRow:
-    """A path: its crossings, where its packets are counted, and how many leaves say that they are not."""
-
-    number: int
-    crossings: tuple[str, ...]
-    counted: tuple[Counted, ...] = ()
-    uncounted: int = 0
 
 
 @dataclass(frozen=True)
@@ -47,6 +25,11 @@ class ClassRow:
     is_exempt: bool
     paths: tuple[PathRow, ...]
 
+    @property
+    def is_folded(self) -> bool:
+        """Returns whether some row is that of several paths."""
+        return any(not one.numbers.isdigit() for one in self.paths)
+
 
 def region_words(region: Json) -> str:
     """Returns a region in words."""
@@ -54,9 +37,9 @@ def region_words(region: Json) -> str:
     return ", ".join(said) or "all packets"
 
 
-def crossing_words(crossing: Json) -> str:
-    """Returns a crossing in words."""
-    return f"{crossing.get('device', '')} {crossing.get('interface', '')} {crossing.get('direction', '')}"
+def crossing_of(entry: Json) -> Crossing:
+    """Returns a crossing of a declaration."""
+    return Crossing(*(str(entry.get(name, "")) for name in ("device", "interface", "direction")))
 
 
 def paths_of(one: Json) -> list[list[Json]]:
@@ -73,17 +56,16 @@ def devices_crossed(traffic: Json) -> dict[tuple[int, int], set[str]]:
 
 def counted_at(network: Json, path: list[Json], leaf: Leaf, leaves: int) -> Counted:
     """Returns where the packets of a leaf are counted."""
-    crossing = path[leaf.crossing - 1]
-    device = str(crossing.get("device", ""))
-    point, process = names_of_leaf(network, device, leaf.point, leaf.process)
-    return Counted(leaf.crossing, device, str(crossing.get("interface", "")), str(crossing.get("direction", "")), point, process, leaves)
+    crossing = crossing_of(path[leaf.crossing - 1])
+    point, process = names_of_leaf(network, crossing.device, leaf.point, leaf.process)
+    return Counted(leaf.crossing, crossing.device, crossing.interface, crossing.direction, point, process, leaves)
 
 
 def path_row(network: Json, number: int, path: list[Json], leaves: dict[Leaf, int]) -> PathRow:
     """Returns a path with where its packets are counted, in the order of the crossings."""
     order = sorted(leaves, key=lambda leaf: (leaf.crossing, leaf.point, leaf.process))
     counted = tuple(counted_at(network, path, leaf, leaves[leaf]) for leaf in order if leaf.crossing)
-    return PathRow(number, tuple(map(crossing_words, path)), counted, sum(leaves[leaf] for leaf in order if not leaf.crossing))
+    return PathRow(str(number), tuple(map(crossing_of, path)), counted, sum(leaves[leaf] for leaf in order if not leaf.crossing))
 
 
 def classes_in(network: Json, traffic: Json, certificate: str = "") -> list[ClassRow]:
@@ -93,6 +75,6 @@ def classes_in(network: Json, traffic: Json, certificate: str = "") -> list[Clas
         found.setdefault((leaf.number, leaf.path), {})[leaf] = leaves
     rows = []
     for number, one in enumerate(entries(traffic.get("classes")), 1):
-        paths = tuple(path_row(network, at, path, found.get((number, at), {})) for at, path in enumerate(paths_of(one), 1))
+        paths = folded(path_row(network, at, path, found.get((number, at), {})) for at, path in enumerate(paths_of(one), 1))
         rows.append(ClassRow(number, str(one.get("name", "")), region_words(table(one.get("region"))), "exempt" in one, paths))
     return rows

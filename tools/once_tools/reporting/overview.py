@@ -11,6 +11,7 @@ from typing import Collection, Iterable, Sequence
 from once_tools.network_view import MODULE, DeviceView, Json, entries, table
 from once_tools.origin import AGGREGATION
 from once_tools.report import counted, printable
+from once_tools.reporting.names import are_numbered, span
 
 # A network of this many devices is drawn whole alone; an overview has at most this many boxes where names allow it.
 FEW_DEVICES, MOST_BOXES = 8, 20
@@ -85,18 +86,11 @@ def boxes_of(network: Json, apart: Collection[str]) -> list[Box]:
             for group in groups]
 
 
-def are_numbered(names: Sequence[str]) -> bool:
-    """Returns whether names end in numbers, each one more than that of the name before, and are the same before these."""
-    parts = [re.fullmatch(r"(.*?)(\d+)", name) for name in names]
-    found = [(one[1], int(one[2])) for one in parts if one]
-    return len(found) == len(names) and all(after == (before[0], before[1] + 1) for before, after in zip(found, found[1:]))
-
-
 def names_in(box: Box) -> str:
     """Returns the names of a box's devices, the first few of many."""
     names = box.devices
     if len(names) > 2 and are_numbered(names):
-        return f"{names[0]} to {names[-1]}"
+        return span(names)
     if len(names) <= NAMES_SHOWN:
         return ", ".join(names)
     return f"{', '.join(names[:NAMES_SHOWN - 1])} and {len(names) - NAMES_SHOWN + 1} more"
