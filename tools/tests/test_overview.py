@@ -81,6 +81,14 @@ def test_what_is_a_device_s_own_does_not_keep_it_apart() -> None:
     assert [lines[0] for lines in labels(overview_of(others, set(), {"a3"}))] == ["a1", "a2", "a3", "collector"]
 
 
+def test_what_devices_do() -> None:
+    both, relay, idle = meter("both"), meter("relay"), {"name": "idle", "config": {}}
+    both["config"][IPFIX]["collectingProcess"] = [{"name": "in"}]
+    relay["config"] = {IPFIX: {"collectingProcess": [{"name": "in", "once-audit:aggregation": [{"name": "by source"}]}]}}
+    found = labels(overview_of(network_of([both, relay, idle], ["idle"]), set()))
+    assert found == [["both", "meters, collects"], ["relay", "aggregates"], ["idle"], ["collector", "holds the report"]]
+
+
 def test_many_boxes_are_folded_by_site() -> None:
     devices = [meter(f"{site}-r{number}", f"10.{place}.{number}.0/24") for place, site in enumerate(("ams", "fra", "lon")) for number in range(1, 9)]
     found = overview_of(network_of(devices, ["fra-r2", "fra-r5"]), set(), {"lon-r4"})

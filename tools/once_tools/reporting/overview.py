@@ -60,10 +60,11 @@ def roles_of(device: Json, reports: Json) -> list[str]:
     view = DeviceView(device)
     processes = view.list("collectingProcess")
     roles = ["meters"] if view.list("observationPoint") else []
-    roles += ["aggregates"] if any(one.get(AGGREGATION) for one in processes) else []
+    if any(one.get(AGGREGATION) for one in processes):
+        roles.append("aggregates")
     if view.name == reports.get("device"):
         return [*roles, "holds the report"]
-    return [*roles, "collects"] if processes and not roles else roles
+    return [*roles, "collects"] if processes and "aggregates" not in roles else roles
 
 
 def grouped(devices: Sequence[Json], keys: Iterable[str]) -> list[list[Json]]:
