@@ -13,7 +13,7 @@ from once_tools.origin import AGGREGATION
 from once_tools.report import counted, printable
 from once_tools.reporting.names import are_numbered, span
 
-# A network of this many devices is drawn whole alone; an overview has at most this many boxes where names allow it.
+# A network of more devices than this has an overview, which folds devices by site if it has more boxes than this.
 FEW_DEVICES, MOST_BOXES = 8, 20
 # How many names a box lists before it counts the others.
 NAMES_SHOWN = 3
@@ -133,7 +133,7 @@ def arrows_of(network: Json, at: dict[str, int]) -> list[str]:
         made.append(f"  box{start} -> box{end}{label};")
     lost: Counter[int] = Counter()
     for name, many in destinations_lost(network).items():
-        lost[at.get(name, 0)] += many
+        lost[at[name]] += many
     for start, many in sorted((start, many) for start, many in lost.items() if many):
         made.append(f'  lost{start} [label="{counted(many, "destination", "destinations")}\\nwithout a link", shape=plaintext, fontcolor=red];')
         made.append(f"  box{start} -> lost{start} [color=red, style=dashed];")
