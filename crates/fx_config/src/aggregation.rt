@@ -13,16 +13,16 @@ use fx_walk::{
 use serde_json::Value;
 use std::alloc::Global;
 
-/// An aggregation of received records to a coarser key (RFC 7015), which adds up their counters.
+/// An aggregation of received records by a coarser key (RFC 7015), which sums their counters.
 #[derive(Debug, Drop)]
 pub struct Aggregation {
-    /// Its name, which differs from those of the process's other aggregations.
+    /// Its name, unique among the aggregations of the process.
     pub name: Name,
     /// The key of its records.
     pub key: Layout,
-    /// The values that a record must have to be taken in: all of them.
+    /// The values that a record must have to be aggregated, all of them.
     pub matches: Sequence<PropertyMatch>,
-    /// The exporting processes that are given its records, by name: none twice.
+    /// The names of the exporting processes that are given its records, each once.
     pub exporting_processes: Sequence<Name>,
 }
 
@@ -34,7 +34,7 @@ impl Named for Aggregation {
     }
 }
 
-/// What reads aggregations.
+/// A reader of aggregations.
 pub(crate) struct AggregationReader;
 
 impl Entry for AggregationReader {

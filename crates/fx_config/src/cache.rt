@@ -27,21 +27,21 @@ pub enum CacheKind {
     Timeout,
     /// At the natural end of their flow, or after some time.
     Natural,
-    /// Never: what they count is sent from time to time.
+    /// Never: their counts are sent from time to time.
     Permanent,
 }
 
-/// A number of flows, or of units of time.
+/// A number of flows or of time units.
 type Number = Whole<0, 0xffff_ffff>;
 
-/// The settings of a kind of cache. Timeouts and intervals are read, and nothing here depends on them.
+/// The settings of one kind of cache. Timeouts and intervals are read, but nothing here depends on them.
 #[derive(Drop)]
 struct Settings {
     max_flows: u32,
     layout: Layout,
 }
 
-/// The greatest number of flows that is given, or 0.
+/// Returns the given maximum number of flows, or 0 if there is none.
 fn max_flows_given(number: Option<Number>) -> u32
     ensures { result ≡ max_flows_given number }
 {
@@ -51,7 +51,7 @@ fn max_flows_given(number: Option<Number>) -> u32
     }
 }
 
-/// The settings of a kind of cache that is immediate, or isn't.
+/// Reads the settings of a kind of cache, immediate or not.
 fn read_settings(
     alloc: Global,
     path: &DocumentPath<'_>,
@@ -84,7 +84,7 @@ fn read_settings(
     })
 }
 
-/// The member of this name, which may be there: a kind of cache that is immediate, or isn't.
+/// Reads the optional member of this name, the settings of a kind of cache, immediate or not.
 fn settings_member(
     alloc: Global,
     path: &DocumentPath<'_>,
@@ -119,7 +119,7 @@ struct Kind {
 }
 
 impl Settings {
-    /// A cache of the kind with these settings.
+    /// Returns a cache of this kind with these settings.
     fn of_kind(self, kind: CacheKind) -> Kind
         ensures { result ≡ of_kind kind self }
     {
@@ -131,7 +131,7 @@ impl Settings {
     }
 }
 
-/// The kind that is given, with its settings.
+/// Returns the kind that is given, with its settings.
 fn kind_given(
     immediate: Option<Settings>,
     timeout: Option<Settings>,
@@ -159,7 +159,7 @@ fn kind_given(
     }
 }
 
-/// Reads the kind of the cache at the path, of which exactly one is given.
+/// Reads the kind of the cache at the path. Exactly one must be given.
 fn read_kind(alloc: Global, path: &DocumentPath<'_>, value: &Value) -> Result<Kind, Fault>
     ensures { Reads (row_faults kind_rows (pointer path.now) (view value.now))
         (kind_in (view value.now)) result }
@@ -185,15 +185,15 @@ fn read_kind(alloc: Global, path: &DocumentPath<'_>, value: &Value) -> Result<Ki
 /// A cache, which counts the packets of flows in records (RFC 6728, section 4.3).
 #[derive(Debug, Drop)]
 pub struct Cache {
-    /// Its name, which differs from those of the device's other caches.
+    /// Its name, unique among the caches of the device.
     pub name: Name,
     /// When records leave it.
     pub kind: CacheKind,
-    /// The greatest number of records that it holds, where 0 is no bound.
+    /// The maximum number of records that it holds, or 0 for no limit.
     pub max_flows: u32,
     /// The flow keys of its records.
     pub layout: Layout,
-    /// The exporting processes that are given its records, by name: none twice.
+    /// The names of the exporting processes that are given its records, each once.
     pub exporting_processes: Sequence<Name>,
 }
 
@@ -205,7 +205,7 @@ impl Named for Cache {
     }
 }
 
-/// What reads caches.
+/// A reader of caches.
 pub(crate) struct CacheReader;
 
 impl Entry for CacheReader {

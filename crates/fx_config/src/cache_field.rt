@@ -1,4 +1,4 @@
-//! Fields of caches' records.
+//! Fields of the records of caches.
 ghost use Rattle.std.specs.Prelude.{◌≡◌, ℕ, List, [], ◌∷◌, ◌++◌, map, codes, OnOk};
 ghost use Rattle.serde_json.specs.View.{view};
 ghost use Rattle.fx_walk.specs.Pointer.{pointer};
@@ -20,8 +20,8 @@ use std::alloc::Global;
 /// A length in octets.
 type OctetCount = Whole<1, 65535>;
 
-/// Whether a field tells records apart: one that is marked as a flow key, and in an immediate cache any field
-/// on an axis.
+/// Returns whether a field distinguishes records: in an immediate cache any field on an axis, and in any other cache
+/// one that is marked as a flow key.
 fn is_key(immediate: bool, element: Element, marked: bool) -> bool
     ensures { result ≡ is_key immediate element marked }
 {
@@ -32,7 +32,7 @@ fn is_key(immediate: bool, element: Element, marked: bool) -> bool
     }
 }
 
-/// Refuses a total counter (111) and a flow key by which packets can't be told apart (112).
+/// Refuses a total counter (111) and a flow key that cannot distinguish packets (112).
 fn known_use(
     alloc: Global,
     path: &DocumentPath<'_>,
@@ -53,7 +53,7 @@ fn known_use(
     }
 }
 
-/// Whether the element counts since the last report.
+/// Returns whether the element counts since the last report.
 fn is_delta_count(element: Element) -> bool
     ensures { result ≡ is_delta_count element }
 {
@@ -63,7 +63,7 @@ fn is_delta_count(element: Element) -> bool
     )
 }
 
-/// Whether values on the element's axis have another number of octets.
+/// Returns whether values on the element's axis have a different number of octets.
 fn has_other_octets(element: Element, octets: u32) -> bool
     ensures { result ≡ has_other_octets element octets }
 {
@@ -73,8 +73,8 @@ fn has_other_octets(element: Element, octets: u32) -> bool
     }
 }
 
-/// Refuses a counter that isn't 8 octets long (110), and a flow key that hasn't its octets (105), at the
-/// member `ieLength` of the field at the path.
+/// Refuses a counter that is not 8 octets long (110) and a flow key whose length is not that of its axis (105), both at
+/// the member `ieLength` of the field at the path.
 fn known_length(
     alloc: Global,
     path: &DocumentPath<'_>,
@@ -98,7 +98,7 @@ fn known_length(
     Ok(())
 }
 
-/// What a field's members must come to together.
+/// Checks the members of a field against each other.
 fn known_field(
     alloc: Global,
     path: &DocumentPath<'_>,
@@ -112,14 +112,14 @@ fn known_field(
     known_length(alloc, path, element, key, length)
 }
 
-/// What a field holds, and whether it is a flow key.
+/// The element of a field, and whether it is a flow key.
 #[derive(Clone, Copy)]
 struct FieldUse {
     element: Element,
     is_flow_key: bool,
 }
 
-/// Reads what the field at the path holds, and whether it is a flow key, in a cache that is immediate, or isn't.
+/// Reads the element of the field at the path and whether it is a flow key, in a cache that is immediate or not.
 fn read_use(
     alloc: Global,
     path: &DocumentPath<'_>,
@@ -145,11 +145,11 @@ fn read_use(
 /// A field of the records that a cache makes (RFC 6728, section 4.3.3).
 #[derive(Drop)]
 pub struct CacheField {
-    /// Its name, which differs from those of the layout's other fields.
+    /// Its name, unique among the fields of the layout.
     pub name: Name,
-    /// What it holds.
+    /// The element that it holds.
     pub element: Element,
-    /// Whether packets that differ in it are counted in records of their own.
+    /// Whether packets that differ in it are counted in separate records.
     pub is_flow_key: bool,
 }
 
@@ -161,8 +161,8 @@ impl Named for CacheField {
     }
 }
 
-/// The field that stands at the path behind fields of these names, to which its own is added. In an immediate cache, which sends each packet's record at
-/// once, all fields on an axis tell records apart.
+/// Reads the field at the path and adds its name to `earlier`, the names of the fields before it. In an immediate
+/// cache, which sends a record for each packet at once, every field on an axis distinguishes records.
 fn read_field(
     alloc: Global,
     path: &DocumentPath<'_>,
@@ -197,7 +197,7 @@ fn read_field(
     })
 }
 
-/// The fields of the list at the path, in order.
+/// Reads the fields of the list at the path, in order.
 fn fields_of(
     alloc: Global,
     path: &DocumentPath<'_>,
@@ -219,7 +219,7 @@ fn fields_of(
     Ok(Sequence::from_vec(fields))
 }
 
-/// The member `cacheField` of a layout: at least one field.
+/// Reads the member `cacheField` of a layout, a list of at least one field.
 pub fn fields_member(
     alloc: Global,
     path: &DocumentPath<'_>,

@@ -1,4 +1,4 @@
-//! Layouts of caches' records.
+//! Layouts of the records of caches.
 ghost use Rattle.std.specs.Prelude.{◌≡◌, ℕ, codes};
 ghost use Rattle.serde_json.specs.View.{view};
 ghost use Rattle.fx_walk.specs.Pointer.{pointer};
@@ -29,7 +29,7 @@ fn counts_packets(fields: &[CacheField]) -> bool
         .any(|field| field.element == Element::PacketDeltaCount)
 }
 
-/// Refuses records that don't count octets and packets (114).
+/// Refuses records that do not count both octets and packets (114).
 fn has_counters(alloc: Global, path: &DocumentPath<'_>, fields: &[CacheField]) -> Result<(), Fault>
     ensures { Reads (counter_faults fields.now (pointer path.now)) tt result }
 {
@@ -40,7 +40,7 @@ fn has_counters(alloc: Global, path: &DocumentPath<'_>, fields: &[CacheField]) -
     }
 }
 
-/// The layout with a field's axis, if it is a flow key.
+/// Returns the layout with the field's axis added if the field is a flow key.
 fn with_field(layout: Layout, field: &CacheField) -> Layout
     ensures { result ≡ add_key layout field.now }
 {
@@ -53,7 +53,7 @@ fn with_field(layout: Layout, field: &CacheField) -> Layout
     }
 }
 
-/// The flow keys among the fields.
+/// Returns the layout of the flow keys among the fields.
 fn layout_of(fields: &[CacheField]) -> Layout
     ensures { result ≡ layout_of fields.now }
 {
@@ -64,7 +64,7 @@ fn layout_of(fields: &[CacheField]) -> Layout
     layout
 }
 
-/// The flow keys of a cache's records, from the container `cacheLayout` at the path (RFC 6728, section 4.3.3).
+/// Reads the flow keys of a cache's records from the container `cacheLayout` at the path (RFC 6728, section 4.3.3).
 fn read_layout(
     alloc: Global,
     path: &DocumentPath<'_>,
@@ -81,7 +81,7 @@ fn read_layout(
     Ok(layout_of(fields))
 }
 
-/// The member `cacheLayout`, which must be there.
+/// Reads the required member `cacheLayout`.
 pub fn layout_member(
     alloc: Global,
     path: &DocumentPath<'_>,

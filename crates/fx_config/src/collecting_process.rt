@@ -14,9 +14,9 @@ use std::alloc::Global;
 /// A process that receives records (RFC 6728, section 4.5).
 #[derive(Debug, Drop)]
 pub struct CollectingProcess {
-    /// Its name, which differs from those of the device's other collecting processes.
+    /// Its name, unique among the collecting processes of the device.
     pub name: Name,
-    /// The exporting processes that are given all records, by name: none twice.
+    /// The names of the exporting processes that are given all records, each once.
     pub exporting_processes: Sequence<Name>,
     /// Its aggregations, in document order.
     pub aggregations: Sequence<Aggregation>,
@@ -30,7 +30,7 @@ impl Named for CollectingProcess {
     }
 }
 
-/// What reads collecting processes.
+/// A reader of collecting processes.
 pub(crate) struct CollectingProcessReader;
 
 impl Entry for CollectingProcessReader {

@@ -11,7 +11,7 @@ use fx_walk::{DocumentPath, Entry, Named, Names, Refused, none_of, one_of};
 use serde_json::Value;
 use std::alloc::Global;
 
-/// The transport of the messages that are sent to a destination (RFC 7011, section 10).
+/// The transport of the messages sent to a destination (RFC 7011, section 10).
 #[derive(Clone, Copy, Debug, PartialEq, Eq)]
 pub enum Transport {
     /// The Transmission Control Protocol.
@@ -22,7 +22,7 @@ pub enum Transport {
     Udp,
 }
 
-/// The transport of a destination: that of the exporter that is there.
+/// Returns the transport of a destination, given by its exporter.
 fn transport_of(object: &Value) -> Transport
     ensures { result ≡ transport_of (view object.now) }
 {
@@ -35,7 +35,7 @@ fn transport_of(object: &Value) -> Transport
     }
 }
 
-/// Reads the transport of the destination at the path, of which exactly one exporter is given.
+/// Reads the transport of the destination at the path. Exactly one exporter must be given.
 fn read_transport(alloc: Global, path: &DocumentPath<'_>, value: &Value) -> Result<Transport, Fault>
     ensures { Reads (row_faults transport_rows (pointer path.now) (view value.now))
         (transport_of (view value.now)) result }
@@ -57,9 +57,9 @@ fn read_transport(alloc: Global, path: &DocumentPath<'_>, value: &Value) -> Resu
 /// A destination to which an exporting process sends records (RFC 6728, section 4.4).
 #[derive(Debug, Drop)]
 pub struct Destination {
-    /// Its name, which differs from those of the process's other destinations.
+    /// Its name, unique among the destinations of the process.
     pub name: Name,
-    /// How records are brought there.
+    /// The transport of the messages sent there.
     pub transport: Transport,
 }
 
@@ -71,7 +71,7 @@ impl Named for Destination {
     }
 }
 
-/// What reads destinations.
+/// A reader of destinations.
 pub(crate) struct DestinationReader;
 
 impl Entry for DestinationReader {

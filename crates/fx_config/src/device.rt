@@ -1,4 +1,4 @@
-//! A device's whole document.
+//! The configuration document of a device.
 ghost use Rattle.std.specs.Prelude.{[], IfOk};
 ghost use Rattle.serde_json.specs.View.{view};
 ghost use Rattle.fx_walk.specs.Walk.{Reads};
@@ -11,11 +11,10 @@ use fx_walk::{DocumentPath, FromValue, document_of, required_member};
 use serde_json::Value;
 use std::alloc::Global;
 
-/// What reads configuration documents.
+/// A reader of configuration documents.
 pub struct DeviceReader;
 
-/// A device's configuration document: an object with the container `ipfix`, beside which members of other
-/// modules are left unread.
+/// Reads a device's configuration document: an object with the container `ipfix`. Members of other modules are ignored.
 impl FromValue for DeviceReader {
     type Read = Device;
 
@@ -36,14 +35,14 @@ impl FromValue for DeviceReader {
     }
 }
 
-/// Reads the configuration document of one device: what it means, or its first fault in the order of the walk,
-/// at its JSON Pointer in the document.
+/// Reads the configuration document of one device. Fails with the first fault in the order of the walk, at its JSON
+/// Pointer in the document.
 ///
-/// 102 a member that may not be there, 103 one that is missing, 104 a value of another kind, 105 a value that
-/// isn't allowed, 106 a name twice, 107 a reference to nothing, 108 a method that samples, 109 a filter by a
-/// hash, 110 a counter that isn't 8 octets long, 111 a total counter, 112 a flow key by which packets can't be
-/// told apart, 113 a file in place of a transport, 114 a layout without both counters, 115 too many entries; 900,
-/// at no place, for want of memory.
+/// Fails with 102 for a member that is not allowed, 103 for a missing member, 104 for a value of the wrong kind, 105
+/// for a value that is not allowed, 106 for a duplicate name, 107 for a reference to nothing, 108 for a sampling
+/// method, 109 for a hash filter, 110 for a counter that is not 8 octets long, 111 for a total counter, 112 for a flow
+/// key that cannot distinguish packets, 113 for a file instead of a transport, 114 for a layout without both counters,
+/// 115 for too many entries, and 900, at no place, if out of memory.
 pub fn read_device(alloc: Global, value: &Value) -> Result<Device, Fault>
     ensures answer { Reads (device_faults [] (view value.now)) (device_of (view value.now)) result }
     ensures resolved { IfOk result Resolves }

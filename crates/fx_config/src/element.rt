@@ -1,4 +1,4 @@
-//! Information elements as documents give them: by name, or by number.
+//! Information elements as documents give them, by name or by number.
 ghost use Rattle.std.specs.Prelude.{◌≡◌, ℕ};
 ghost use Rattle.serde_json.specs.View.{view};
 ghost use Rattle.fx_walk.specs.Pointer.{pointer};
@@ -14,7 +14,8 @@ use serde_json::Value;
 use std::alloc::Global;
 use std::marker::Model;
 
-/// An element that is given by its name, which may be any text: 104 for no text. Contracts see the element.
+/// An element given by its name, which may be any text. Fails with 104 if the value is not a text. Contracts see the
+/// element.
 #[derive(Drop)]
 pub struct NamedElement {
     element: Element,
@@ -52,10 +53,10 @@ impl FromValue for NamedElement {
 /// The number of an element.
 type ElementNumber = Whole<1, 32767>;
 
-/// The number of an enterprise, of which 0 stands for the IANA registry.
+/// The number of an enterprise, where 0 denotes the IANA registry.
 pub type Enterprise = Whole<0, 0xffff_ffff>;
 
-/// The enterprise that is given, or the registry.
+/// Returns the given enterprise, or that of the registry.
 fn enterprise_given(enterprise: Option<Enterprise>) -> u32
     ensures { result ≡ enterprise_given enterprise }
 {
@@ -65,7 +66,7 @@ fn enterprise_given(enterprise: Option<Enterprise>) -> u32
     }
 }
 
-/// The element that is given by its name or by its number, of an enterprise or of the registry.
+/// Returns the element with the given name or number, of an enterprise or of the registry.
 fn element_given(
     named: Option<NamedElement>,
     numbered: Option<ElementNumber>,
@@ -84,7 +85,7 @@ fn element_given(
     }
 }
 
-/// An element as an object's members `ieName` and `ieId` give it.
+/// An element as given by the members `ieName` and `ieId` of an object.
 #[derive(Drop)]
 pub struct GivenElement {
     named: Option<NamedElement>,
@@ -92,7 +93,7 @@ pub struct GivenElement {
 }
 
 impl GivenElement {
-    /// The element, of an enterprise or of the registry.
+    /// Returns the element, of the enterprise or of the registry.
     pub fn with(self, enterprise: Option<Enterprise>) -> Element
         ensures { result ≡ element_given self.named self.numbered (enterprise_given enterprise) }
     {
@@ -100,7 +101,7 @@ impl GivenElement {
     }
 }
 
-/// Reads the name or the number of an element, of which the object at the path has exactly one.
+/// Reads the name or the number of an element. The object at the path must have exactly one of them.
 pub fn read_element(
     alloc: Global,
     path: &DocumentPath<'_>,

@@ -1,4 +1,4 @@
-//! The names of entries of lists.
+//! Names of list entries.
 ghost use Rattle.std.specs.Prelude.{◌≡◌, ◌++◌, ◌∷◌, [], OnOk, codes, map};
 ghost use Rattle.serde_json.specs.View.{view};
 ghost use Rattle.fx_walk.specs.Pointer.{pointer};
@@ -11,8 +11,8 @@ use fx_walk::{DocumentPath, Names, name_member, object_of};
 use serde_json::Value;
 use std::alloc::Global;
 
-/// The name of the entry at the path, an object that may have these members alone, behind entries with these names,
-/// to which it is added.
+/// Reads the name of the entry at the path, an object that may have only the listed members, and adds it to `earlier`,
+/// the names of the entries before it.
 pub fn entry_name(
     alloc: Global,
     path: &DocumentPath<'_>,

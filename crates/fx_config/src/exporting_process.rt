@@ -10,18 +10,18 @@ use fx_walk::{DocumentPath, Entry, Named, Names, Sequence, Word, entries_member,
 use serde_json::Value;
 use std::alloc::Global;
 
-/// To which of its destinations an exporting process sends a record (RFC 6728, section 4.4).
+/// Which of its destinations an exporting process sends a record to (RFC 6728, section 4.4).
 #[derive(Clone, Copy, Debug, PartialEq, Eq)]
 pub enum ExportMode {
-    /// To all of them.
+    /// All of them.
     Parallel,
-    /// To any one of them.
+    /// Any one of them.
     LoadBalancing,
-    /// To any one of them: the first that works.
+    /// Any one of them: the first that works.
     Fallback,
 }
 
-/// A mode by its name, which may have the prefix of the module, or parallel.
+/// Reads a mode by its name, with or without the prefix of the module. The default is parallel.
 impl Word for ExportMode {
     ghost meaning_of = { export_mode_named };
 
@@ -44,11 +44,11 @@ impl Word for ExportMode {
 /// A process that sends the records it is given to its destinations (RFC 6728, section 4.4).
 #[derive(Debug, Drop)]
 pub struct ExportingProcess {
-    /// Its name, which differs from those of the device's other exporting processes.
+    /// Its name, unique among the exporting processes of the device.
     pub name: Name,
-    /// To which of its destinations it sends a record.
+    /// Which of its destinations it sends a record to.
     pub mode: ExportMode,
-    /// Where it sends records, in document order: at least one.
+    /// Its destinations, in document order, at least one.
     pub destinations: Sequence<Destination>,
 }
 
@@ -60,7 +60,7 @@ impl Named for ExportingProcess {
     }
 }
 
-/// What reads exporting processes.
+/// A reader of exporting processes.
 pub(crate) struct ExportingProcessReader;
 
 impl Entry for ExportingProcessReader {

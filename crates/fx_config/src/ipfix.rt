@@ -1,4 +1,4 @@
-//! The container `ipfix`: a device's five lists.
+//! The container `ipfix`, with the five lists of a device.
 ghost use Rattle.fx_walk.specs.Pointer.{pointer};
 ghost use Rattle.fx_walk.specs.Walk.{Reads, row_faults};
 ghost use Rattle.serde_json.specs.View.{view};
@@ -20,23 +20,24 @@ use fx_walk::{
 use serde_json::Value;
 use std::alloc::Global;
 
-/// One device's configuration. Each name that stands for a thing of the device is the name of one of its list.
+/// The configuration of one device. Each name that refers to something in the device is the name of an entry in its
+/// list.
 #[derive(Debug)]
 pub struct Device {
-    /// Where it observes packets, in document order, as all its lists.
+    /// Its observation points. This list, like the others, is in document order.
     pub observation_points: Sequence<ObservationPoint>,
-    /// How it selects them.
+    /// Its selection processes.
     pub selection_processes: Sequence<SelectionProcess>,
-    /// Where it counts them.
+    /// Its caches.
     pub caches: Sequence<Cache>,
-    /// Where it sends records.
+    /// Its exporting processes.
     pub exporting_processes: Sequence<ExportingProcess>,
-    /// Where it receives records.
+    /// Its collecting processes.
     pub collecting_processes: Sequence<CollectingProcess>,
 }
 
 impl Drop for Device {
-    /// Lets its parts go: proved once, and one call wherever one is let go.
+    /// Drops its parts here, so that each drop elsewhere is one call.
     fn drop(self) {
         let Self {
             observation_points: _,
@@ -48,7 +49,7 @@ impl Drop for Device {
     }
 }
 
-/// The names of a device's things to which others refer.
+/// The names of a device's entries that others refer to.
 #[derive(Drop)]
 struct KnownNames {
     selecting: EntryNames,
@@ -56,7 +57,7 @@ struct KnownNames {
     exporting: EntryNames,
 }
 
-/// Refuses a name that stands for nothing of the device, whose container `ipfix` is at the path (107).
+/// Refuses a name that refers to nothing in the device, whose container `ipfix` is at the path (107).
 fn refers(
     alloc: Global,
     path: &DocumentPath<'_>,
@@ -79,7 +80,7 @@ fn refers(
     items_refer(alloc, path, "collectingProcess", collecting, exporting)
 }
 
-/// The lists of a device to whose entries others refer.
+/// The lists of a device whose entries others refer to.
 #[derive(Drop)]
 struct Referred {
     selecting: Entries<SelectionProcess>,
@@ -87,7 +88,7 @@ struct Referred {
     exporting: Entries<ExportingProcess>,
 }
 
-/// Reads the lists to whose entries others refer, of the container `ipfix` at the path.
+/// Reads the lists, of the container `ipfix` at the path, whose entries others refer to.
 fn read_referred(alloc: Global, path: &DocumentPath<'_>, value: &Value) -> Result<Referred, Fault>
     ensures { Reads (row_faults referred_rows (pointer path.now) (view value.now))
         (referred_of (view value.now)) result }
@@ -116,7 +117,7 @@ fn read_referred(alloc: Global, path: &DocumentPath<'_>, value: &Value) -> Resul
     })
 }
 
-/// A device with the names of its things to which others refer.
+/// A device with the names of its entries that others refer to.
 #[derive(Drop)]
 struct Lists {
     device: Device,
@@ -124,7 +125,7 @@ struct Lists {
 }
 
 impl Referred {
-    /// The device with these and the other lists.
+    /// Returns the device with these lists and the others.
     fn with(
         self,
         points: Sequence<ObservationPoint>,
@@ -178,7 +179,7 @@ fn read_lists(alloc: Global, path: &DocumentPath<'_>, value: &Value) -> Result<L
     Ok(referred.with(points, collecting))
 }
 
-/// The device that the lists of the container `ipfix` at the path make. Refuses a name that stands for nothing of it.
+/// Reads the device from the container `ipfix` at the path. Refuses a name that refers to nothing in it.
 fn device_at(alloc: Global, path: &DocumentPath<'_>, value: &Value) -> Result<Device, Fault>
     ensures { Reads (row_faults ipfix_rows (pointer path.now) (view value.now))
         (lists_of (view value.now)) result }
@@ -193,7 +194,7 @@ fn device_at(alloc: Global, path: &DocumentPath<'_>, value: &Value) -> Result<De
 /// The container `ipfix` (RFC 6728, section 6).
 #[derive(Drop)]
 pub struct Ipfix {
-    /// What it configures.
+    /// The device that it configures.
     pub device: Device,
 }
 

@@ -1,4 +1,4 @@
-//! Keys to which records are aggregated.
+//! Keys by which records are aggregated.
 ghost use Rattle.std.specs.Prelude.{◌≡◌, ℕ, List, [], ◌∷◌, map, codes};
 ghost use Rattle.serde_json.specs.View.{view};
 ghost use Rattle.fx_walk.specs.Pointer.{pointer};
@@ -15,7 +15,8 @@ use fx_walk::{DocumentPath, FromValue, items_in, refusal};
 use serde_json::Value;
 use std::alloc::Global;
 
-/// The layout with what the field stands for: none where it stands for nothing, or its axis is there.
+/// Returns the layout with the part that the field denotes added, or `None` if the field denotes none or its axis is
+/// already there.
 fn with_field(layout: &Layout, field: &KeyField) -> Option<Layout>
     ensures { result ≡ with_field layout.now field.now }
 {
@@ -23,7 +24,7 @@ fn with_field(layout: &Layout, field: &KeyField) -> Option<Layout>
     layout.with(part.axis, part.bits)
 }
 
-/// The layout with what the field at the path stands for: 105 where that can't be.
+/// Returns the layout with the part that the field at the path denotes added. Fails with 105 if it cannot be added.
 fn add_field(
     alloc: Global,
     path: &DocumentPath<'_>,
@@ -39,7 +40,7 @@ fn add_field(
     }
 }
 
-/// The layout of the fields of the list at the path.
+/// Reads the layout of the fields in the list at the path.
 fn fields_of(alloc: Global, path: &DocumentPath<'_>, items: &[Value]) -> Result<Layout, Fault>
     ensures { Reads (fields_faults [] (pointer path.now) 0 (map view items.now))
         (with_fields [] (map view items.now)) result }
@@ -55,7 +56,7 @@ fn fields_of(alloc: Global, path: &DocumentPath<'_>, items: &[Value]) -> Result<
     Ok(layout)
 }
 
-/// The member `key`, a list of fields; without it the key has none.
+/// Reads the optional member `key`, a list of fields. Without it the key has no fields.
 pub fn key_member(alloc: Global, path: &DocumentPath<'_>, object: &Value) -> Result<Layout, Fault>
     ensures { Reads (key_row.faults (pointer path.now) (view object.now))
         (with_fields [] (items_of (member_of (codes "key") (view object.now)))) result }

@@ -1,4 +1,4 @@
-//! Fields of keys to which records are aggregated.
+//! Fields of keys by which records are aggregated.
 ghost use Rattle.std.specs.Prelude.{◌≡◌, ℕ};
 ghost use Rattle.fx_walk.specs.Pointer.{pointer};
 ghost use Rattle.fx_walk.specs.Walk.{Reads};
@@ -12,27 +12,28 @@ use fx_walk::{DocumentPath, FromValue, Whole, object_of, optional_member, refusa
 use serde_json::Value;
 use std::alloc::Global;
 
-/// A number of leading bits, of whichever addresses.
+/// A number of leading bits of an address, IPv4 or IPv6.
 type PrefixLength = Whole<1, 128>;
 
-/// A field of a key to which records are aggregated, or totals asked for: an element, or the leading bits of an
+/// A field of the key by which records are aggregated or totals are requested: an element, or the leading bits of an
 /// address.
 #[derive(Clone, Copy, Debug, PartialEq, Eq)]
 pub struct KeyField {
-    /// What it holds.
+    /// The element that it holds.
     pub element: Element,
-    /// How many leading bits, where that is given.
+    /// The number of leading bits, if given.
     pub prefix_length: Option<u32>,
 }
 
-/// Whether values of the element are the leading bits of addresses.
+/// Returns whether values of the element are the leading bits of addresses.
 fn is_prefix(element: Element) -> bool
     ensures { result ≡ is_prefix element }
 {
     matches!(element, Element::Prefix(_))
 }
 
-/// How many leading bits may be given: as many as the addresses have, and 32 beside an element that is no prefix.
+/// Returns the greatest number of leading bits that may be given: the width of the address for a prefix, and 32 for any
+/// other element.
 fn longest_prefix(element: Element) -> u32
     ensures { result ≡ longest_prefix element }
 {
@@ -42,7 +43,7 @@ fn longest_prefix(element: Element) -> u32
     }
 }
 
-/// Refuses a prefix without its length (103), and a length that is longer than the addresses (105, at the member
+/// Refuses a prefix without a length (103), and a length greater than that of the addresses (105, at the member
 /// `prefixLength`).
 fn known_prefix(
     alloc: Global,
@@ -65,7 +66,7 @@ fn known_prefix(
     Ok(())
 }
 
-/// The number of bits that is given.
+/// Returns the given number of bits.
 fn bits_given(bits: Option<PrefixLength>) -> Option<u32>
     ensures { result ≡ bits }
 {
@@ -75,11 +76,11 @@ fn bits_given(bits: Option<PrefixLength>) -> Option<u32>
     }
 }
 
-/// What reads fields of keys.
+/// A reader of fields of keys.
 pub struct KeyFieldReader;
 
-/// A field with the faults of its members alone: 102 to 105, where 103 comes for a prefix without its length too, and
-/// 105 for one that is longer than the addresses. What it stands for tells [`part_of`].
+/// Reads a field and checks only its members. Fails with 102 to 105, where 103 also means a prefix without a length,
+/// and 105 a prefix longer than the addresses. The part that the field denotes is given by [`part_of`].
 impl FromValue for KeyFieldReader {
     type Read = KeyField;
 
@@ -105,7 +106,7 @@ impl FromValue for KeyFieldReader {
     }
 }
 
-/// The leading bits of the addresses on the axis.
+/// Returns the leading bits of the addresses on the axis.
 fn prefix_part(axis: Axis, prefix_length: Option<u32>) -> Option<Part>
     ensures { result ≡ prefix_part axis prefix_length }
 {
@@ -115,9 +116,9 @@ fn prefix_part(axis: Axis, prefix_length: Option<u32>) -> Option<Part>
     }
 }
 
-/// The axis and the number of its leading bits that a field of a key stands for: all bits of an element that is
-/// an axis, and of a prefix as many as are given. None for another element, for one that is an axis beside a
-/// number of bits, and for a prefix without one.
+/// Returns the axis, and the number of its leading bits, that a field of a key denotes: all bits of an element that is
+/// an axis, and the given number of bits of a prefix. Returns `None` for any other element, for an axis with a number
+/// of bits, and for a prefix without one.
 pub fn part_of(field: &KeyField) -> Option<Part>
     ensures { result ≡ part_of field.now }
 {

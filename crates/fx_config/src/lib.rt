@@ -1,4 +1,4 @@
-//! One device's configuration: the module `ietf-ipfix-psamp` of RFC 6728 in the JSON of RFC 7951.
+//! The configuration of one device: the module `ietf-ipfix-psamp` of RFC 6728 in the JSON of RFC 7951.
 #![tactic(auto)]
 
 mod aggregation;

@@ -1,10 +1,10 @@
-//! How many entries lists may have.
+//! Limits on the number of entries in lists.
 
-/// The greatest number of entries of a list, where no other limit is named.
+/// The maximum number of entries in a list that has no other limit.
 pub const ENTRIES: usize = 256;
 
-/// The greatest number of selectors of a selection process.
+/// The maximum number of selectors of a selection process.
 pub const SELECTORS: usize = 16;
 
-/// The greatest number of fields of a layout, be it a cache's or an aggregation's key.
+/// The maximum number of fields in the layout of a cache or in the key of an aggregation.
 pub const FIELDS: usize = 32;

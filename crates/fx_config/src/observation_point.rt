@@ -22,11 +22,11 @@ pub enum Direction {
     Ingress,
     /// Out of the device.
     Egress,
-    /// Either of them.
+    /// Either direction.
     Both,
 }
 
-/// A direction by its name, or both.
+/// Reads a direction by its name. The default is both.
 impl Word for Direction {
     ghost meaning_of = { direction_named };
 
@@ -46,7 +46,7 @@ impl Word for Direction {
     }
 }
 
-/// What an observation point sees.
+/// The packets that an observation point sees.
 #[derive(Drop)]
 struct Scope {
     observation_domain_id: u32,
@@ -54,7 +54,7 @@ struct Scope {
     direction: Direction,
 }
 
-/// Reads what the observation point at the path sees.
+/// Reads which packets the observation point at the path sees.
 fn read_scope(alloc: Global, path: &DocumentPath<'_>, value: &Value) -> Result<Scope, Fault>
     ensures { Reads (row_faults scope_rows (pointer path.now) (view value.now))
         (scope_of (view value.now)) result }
@@ -77,15 +77,15 @@ fn read_scope(alloc: Global, path: &DocumentPath<'_>, value: &Value) -> Result<S
 /// A place where packets are observed (RFC 6728, section 4.1).
 #[derive(Debug, Drop)]
 pub struct ObservationPoint {
-    /// Its name, which differs from those of the device's other observation points.
+    /// Its name, unique among the observation points of the device.
     pub name: Name,
     /// The observation domain that it belongs to.
     pub observation_domain_id: u32,
-    /// The interfaces at which it observes packets, by name: at least one, and none twice.
+    /// The names of the interfaces at which it observes packets, at least one and each once.
     pub interfaces: Sequence<Name>,
-    /// The direction in which they have to cross.
+    /// The direction in which packets must cross to be observed.
     pub direction: Direction,
-    /// The selection processes that see its packets, by name: none twice.
+    /// The names of the selection processes that see its packets, each once.
     pub selection_processes: Sequence<Name>,
 }
 
@@ -97,7 +97,7 @@ impl Named for ObservationPoint {
     }
 }
 
-/// What reads observation points.
+/// A reader of observation points.
 pub(crate) struct ObservationPointReader;
 
 impl Entry for ObservationPointReader {

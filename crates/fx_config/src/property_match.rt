@@ -13,16 +13,16 @@ use fx_walk::{
 use serde_json::Value;
 use std::alloc::Global;
 
-/// A match of a property (RFC 5475, section 6.1): packets, or records, must have one of these values on the axis.
+/// A property match (RFC 5475, section 6.1): a packet or record must have one of these values on the axis.
 #[derive(Clone, Copy, Debug, PartialEq, Eq)]
 pub struct PropertyMatch {
-    /// Where the value stands.
+    /// The axis of the values.
     pub axis: Axis,
-    /// The values: all that begin with the leading bits that are fixed.
+    /// The values: all that begin with the fixed leading bits.
     pub range: Range,
 }
 
-/// The axis of the values of an element.
+/// Returns the axis of the values of an element.
 fn axis_matched(element: Element) -> Option<Axis>
     ensures { result ≡ axis_matched element }
 {
@@ -32,7 +32,7 @@ fn axis_matched(element: Element) -> Option<Axis>
     }
 }
 
-/// The match that an element and the text of its value stand for, if they do for any.
+/// Returns the match denoted by an element and the text of its value, if there is one.
 fn property_given(element: Element, text: &str) -> Option<PropertyMatch>
     ensures { result ≡ property_given element text.now }
 {
@@ -41,7 +41,7 @@ fn property_given(element: Element, text: &str) -> Option<PropertyMatch>
     Some(PropertyMatch { axis, range })
 }
 
-/// The match that an element and the text of its value stand for: 105 where they stand for none.
+/// Returns the match denoted by an element and the text of its value. Fails with 105 if they denote none.
 fn known_property(
     alloc: Global,
     path: &DocumentPath<'_>,
@@ -57,10 +57,10 @@ fn known_property(
     }
 }
 
-/// What reads filters, and matches of aggregations.
+/// A reader of filters and of matches of aggregations.
 pub(crate) struct PropertyMatchReader;
 
-/// The element and the value of a filter, or of a match of an aggregation.
+/// Reads the element and the value of a filter, or of a match of an aggregation.
 impl FromValue for PropertyMatchReader {
     type Read = PropertyMatch;
 

@@ -1,4 +1,4 @@
-//! The references of a device's configuration.
+//! References within a device's configuration.
 ghost use Rattle.fx_walk.specs.Pointer.{pointer};
 ghost use Rattle.fx_walk.specs.Walk.{Reads};
 ghost use Rattle.fx_config.specs.References.{aggregation_references, cache_references, collecting_references, exporting_references, point_references, process_references};
@@ -12,7 +12,7 @@ use fx_base::{Fault, Name};
 use fx_walk::{DocumentPath, Names, Refers, Sequence, items_refer};
 use std::alloc::Global;
 
-/// A point names selection processes.
+/// An observation point names selection processes.
 impl Refers for ObservationPoint {
     ghost faults = { point_references };
 
@@ -39,7 +39,7 @@ impl Refers for SelectionProcess {
     }
 }
 
-/// Refuses the first exporting process that the object at the path names and that isn't there (107).
+/// Refuses the first exporting process that the object at the path names and that does not exist (107).
 fn exporting_refer(
     alloc: Global,
     path: &DocumentPath<'_>,
@@ -79,7 +79,7 @@ impl Refers for Aggregation {
     }
 }
 
-/// A collecting process names exporting processes, and then its aggregations do.
+/// A collecting process names exporting processes, and its aggregations, checked next, do so too.
 impl Refers for CollectingProcess {
     ghost faults = { collecting_references };
 

@@ -11,14 +11,14 @@ use fx_walk::{
 use serde_json::Value;
 use std::alloc::Global;
 
-/// A process that selects packets and passes them on to a cache (RFC 6728, section 4.2).
+/// A process that selects packets and passes them to a cache (RFC 6728, section 4.2).
 #[derive(Debug, Drop)]
 pub struct SelectionProcess {
-    /// Its name, which differs from those of the device's other selection processes.
+    /// Its name, unique among the selection processes of the device.
     pub name: Name,
-    /// The steps that a packet has to pass, in order: at least one.
+    /// The steps that a packet has to pass, in order, at least one.
     pub selectors: Sequence<Selector>,
-    /// The cache that is given the selected packets, by name. Without one they go nowhere.
+    /// The name of the cache that is given the selected packets. Without a cache they go nowhere.
     pub cache: Option<Name>,
 }
 
@@ -30,7 +30,7 @@ impl Named for SelectionProcess {
     }
 }
 
-/// What reads selection processes.
+/// A reader of selection processes.
 pub(crate) struct SelectionProcessReader;
 
 impl Entry for SelectionProcessReader {

@@ -15,7 +15,7 @@ use fx_walk::{
 use serde_json::Value;
 use std::alloc::Global;
 
-/// The method that selects all packets: an empty container, or an empty type; 104 for any other value.
+/// The method that selects all packets: an empty container or an empty type. Fails with 104 for any other value.
 #[derive(Clone, Copy)]
 struct SelectAll;
 
@@ -48,16 +48,16 @@ impl FromValue for SelectAll {
     }
 }
 
-/// How a selector selects packets.
+/// The method by which a selector selects packets.
 #[derive(Clone, Copy, Debug, PartialEq, Eq)]
 pub enum Method {
-    /// It selects all.
+    /// Selects all packets.
     SelectAll,
-    /// It selects those that match.
+    /// Selects the packets that match.
     FilterMatch(PropertyMatch),
 }
 
-/// The method: the filter that is given, or that which selects all.
+/// Returns the given filter as the method, or the method that selects all packets if there is none.
 fn method_given(filter: Option<PropertyMatch>) -> Method
     ensures { result ≡ method_given filter }
 {
@@ -67,7 +67,7 @@ fn method_given(filter: Option<PropertyMatch>) -> Method
     }
 }
 
-/// Methods by which a count can't be exact: sampling, and filtering by a hash.
+/// Methods that prevent an exact count: sampling, and filtering by a hash.
 const INEXACT: [Refused<'static>; 5] = [
     Refused {
         name: "sampCountBased",
@@ -91,7 +91,7 @@ const INEXACT: [Refused<'static>; 5] = [
     },
 ];
 
-/// Reads the method of the selector at the path, of which exactly one is given.
+/// Reads the method of the selector at the path. Exactly one must be given.
 fn read_method(alloc: Global, path: &DocumentPath<'_>, value: &Value) -> Result<Method, Fault>
     ensures { Reads (row_faults method_rows (pointer path.now) (view value.now))
         (method_in (view value.now)) result }
@@ -103,10 +103,10 @@ fn read_method(alloc: Global, path: &DocumentPath<'_>, value: &Value) -> Result<
     Ok(method_given(filter))
 }
 
-/// A step in selecting packets (RFC 6728, section 4.2.1).
+/// A step in the selection of packets (RFC 6728, section 4.2.1).
 #[derive(Debug, Drop)]
 pub struct Selector {
-    /// Its name, which differs from those of the process's other selectors.
+    /// Its name, unique among the selectors of the process.
     pub name: Name,
     /// Which packets pass it.
     pub method: Method,
@@ -120,7 +120,7 @@ impl Named for Selector {
     }
 }
 
-/// What reads selectors.
+/// A reader of selectors.
 pub(crate) struct SelectorReader;
 
 impl Entry for SelectorReader {
