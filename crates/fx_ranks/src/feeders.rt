@@ -21,7 +21,7 @@ fn any_leads(linked: &LinkedProcesses<'_>, process: usize, places: &[usize]) -> 
     false
 }
 
-/// Whether one of the exporting processes at these places has a destination that is linked to the process.
+/// Returns whether one of the exporting processes at these places has a destination linked to the process.
 fn lead_to(linked: &LinkedProcesses<'_>, process: usize, places: &[usize]) -> bool
     requires { process < length linked.now.processes }
     ensures { result ≡ feeding.lead_to linked.now process
@@ -30,7 +30,7 @@ fn lead_to(linked: &LinkedProcesses<'_>, process: usize, places: &[usize]) -> bo
     any_leads(linked, process, places)
 }
 
-/// Whether records of the aggregation can be carried to the process.
+/// Returns whether records of the aggregation can be carried to the process.
 fn aggregation_leads(
     linked: &LinkedProcesses<'_>,
     process: usize,
@@ -64,7 +64,8 @@ fn any_aggregation_leads(
     false
 }
 
-/// Whether what a process sends, or one of its aggregations, can be carried to another.
+/// Returns whether records sent by the process `from`, or by one of its aggregations, can be carried to the process
+/// `to`.
 fn feeds(linked: &LinkedProcesses<'_>, from: usize, to: usize) -> bool
     requires { to < length linked.now.processes }
     ensures { result ≡ feeding.feeds linked.now from to }
@@ -78,7 +79,7 @@ fn feeds(linked: &LinkedProcesses<'_>, from: usize, to: usize) -> bool
     }
 }
 
-/// For each process whether it feeds this one.
+/// Returns, for each process, whether it feeds this one.
 fn feeders_of(
     alloc: Global,
     linked: &LinkedProcesses<'_>,
@@ -94,7 +95,7 @@ fn feeders_of(
     Ok(feeders)
 }
 
-/// For each process, which processes feed it.
+/// Returns, for each process, which processes feed it.
 pub fn all_feeders(alloc: Global, net: &Net) -> Result<Vec<Vec<bool>>, AllocError>
     ensures { IfOk result (λ v. map (λ row. row.items) v.items
         ≡ map (feeding.feeders net.now) (feeding.places_of net.now)) }

@@ -1,4 +1,4 @@
-//! The order of ranks of a network's collecting processes, in which each comes behind all that feed it.
+//! The rank order of a network's collecting processes, in which each process follows all that feed it.
 #![tactic(auto)]
 
 mod feeders;

@@ -1,4 +1,4 @@
-//! To which collecting processes the exporting processes of a network send.
+//! Which collecting processes the exporting processes of a network send to.
 ghost use Rattle.std.specs.Prelude.{◌≡◌, ◌<◌, IfOk, length, map, slice_get, slice_index_or, false};
 ghost use Rattle.fx_ranks.specs.Feeding as feeding;
 
@@ -6,7 +6,7 @@ use fx_tables::{Exporter, Net};
 use std::alloc::{AllocError, Global};
 use std::marker::Model;
 
-/// The place of the process to which a destination is linked, if it is.
+/// Returns the place of the process that a destination is linked to, if it is linked.
 fn end_of(net: &Net, destination: Option<usize>) -> Option<usize>
     ensures { result ≡ feeding.end_of net.now destination }
 {
@@ -16,7 +16,7 @@ fn end_of(net: &Net, destination: Option<usize>) -> Option<usize>
     }
 }
 
-/// Sets the flag at a place, if there is one.
+/// Sets the flag at the place, if there is one.
 fn set_flag(flags: &mut [bool], place: Option<usize>)
     ensures { flags.new ≡ feeding.with_flag flags.old place }
 {
@@ -36,7 +36,7 @@ fn flag_at(flags: &[bool], place: usize) -> bool
     }
 }
 
-/// For each process whether the exporting process has a destination that is linked to it.
+/// Returns, for each process, whether the exporting process has a destination linked to it.
 fn linked_processes_of(
     alloc: Global,
     net: &Net,
@@ -51,7 +51,8 @@ fn linked_processes_of(
     Ok(flags)
 }
 
-/// For each exporting process, for each collecting process whether one of its destinations is linked to it.
+/// Returns, for each exporting process and each collecting process, whether a destination of the first is linked to the
+/// second.
 fn all_linked_processes(alloc: Global, net: &Net) -> Result<Vec<Vec<bool>>, AllocError>
     ensures { IfOk result (λ v. map (λ row. row.items) v.items
         ≡ map (feeding.linked_processes net.now) net.now.exporters) }
@@ -63,7 +64,7 @@ fn all_linked_processes(alloc: Global, net: &Net) -> Result<Vec<Vec<bool>>, Allo
     Ok(rows)
 }
 
-/// A network with the collecting processes to which each of its exporting processes sends. Contracts see the network.
+/// A network with the collecting processes that each of its exporting processes sends to. Contracts see the network.
 #[derive(Drop)]
 pub struct LinkedProcesses<'n> {
     net: &'n Net,
@@ -84,7 +85,7 @@ impl<'n> Model for LinkedProcesses<'n> {
 }
 
 impl<'n> LinkedProcesses<'n> {
-    /// Of the processes of this network.
+    /// Finds the linked processes of this network.
     pub fn of(alloc: Global, net: &'n Net) -> Result<LinkedProcesses<'n>, AllocError>
         ensures { IfOk result (λ linked. linked ≡ net.now) }
     {
@@ -92,14 +93,14 @@ impl<'n> LinkedProcesses<'n> {
         Ok(LinkedProcesses { net, rows })
     }
 
-    /// The network.
+    /// Returns the network.
     pub fn net(&self) -> &Net
         ensures { result.now ≡ self.now }
     {
         self.net
     }
 
-    /// Whether the exporting process at a place, if there is one, has a destination that is linked to the process.
+    /// Returns whether the exporting process at the place, if there is one, has a destination linked to the process.
     pub fn leads_at(&self, process: usize, place: usize) -> bool
         requires { process < length self.now.processes }
         ensures { result ≡ feeding.leads_at self.now process (slice_get self.now.exporters place) }

@@ -1,4 +1,4 @@
-//! The order of ranks, in which each collecting process comes behind all that feed it.
+//! The rank order, in which each collecting process follows all that feed it.
 ghost use Rattle.std.specs.Prelude.{◌≡◌, ◌≤◌, not, ◌&&◌, IfOk, length, map, position, zip};
 ghost use Rattle.fx_ranks.specs.Feeding.{have_come, places_of};
 ghost use Rattle.fx_ranks.specs.Ranks.{IsRankOrder, is_in};
@@ -7,16 +7,16 @@ use crate::feeders::all_feeders;
 use fx_tables::Net;
 use std::alloc::{AllocError, Global};
 
-/// The processes that come in the order of ranks.
+/// The processes that have a place in the rank order.
 #[derive(Drop)]
 pub struct RankOrder {
-    /// Their places, in that order.
+    /// The places of these processes, in rank order.
     pub order: Vec<usize>,
-    /// For each process of the network whether it is among them.
+    /// For each process of the network, whether it is among them.
     pub come: Vec<bool>,
 }
 
-/// Whether all feeders have come.
+/// Returns whether all feeders are already in the order.
 fn have_come(feeders: &[bool], come: &[bool]) -> bool
     ensures { result ≡ have_come feeders.now come.now }
 {
@@ -26,7 +26,7 @@ fn have_come(feeders: &[bool], come: &[bool]) -> bool
         .all(|(feeds, come)| !*feeds || *come)
 }
 
-/// The place of the first process that hasn't come, all of whose feeders have.
+/// Returns the place of the first process that is not yet in the order and whose feeders all are.
 fn first_ready(feeders: &[Vec<bool>], come: &[bool]) -> Option<usize>
     ensures { result ≡ position (λ x. not x.1
         && have_come x.0.items come.now) (zip feeders.now come.now) }
@@ -35,7 +35,7 @@ fn first_ready(feeders: &[Vec<bool>], come: &[bool]) -> Option<usize>
         && have_come(feeders.as_slice(), come))
 }
 
-/// The processes of the network that come in the order of ranks.
+/// Returns the processes of the network that have a place in the rank order.
 pub fn rank_order(alloc: Global, net: &Net) -> Result<RankOrder, AllocError>
     ensures order { IfOk result (λ coming. IsRankOrder net.now coming.order.items) }
     ensures come { IfOk result (λ coming. coming.come.items
