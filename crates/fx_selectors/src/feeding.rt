@@ -1,4 +1,4 @@
-//! The selection processes that the packets of a crossing come to.
+//! The selection processes that the packets of a crossing reach.
 ghost use Rattle.std.specs.Prelude.{◌≡◌, ◌+◌, ◌<◌, ◌∷◌, [], MatchOption, bytes_eq, length, drop, is_some, ◌&&◌};
 ghost use Rattle.std.specs.List.{list_any};
 ghost use Rattle.std.specs.Iterator.{YieldsFirst, item_count};
@@ -8,7 +8,7 @@ use fx_base::Name;
 use fx_config::{Device, Direction, ObservationPoint, SelectionProcess};
 use std::marker::Model;
 
-/// Whether packets that cross in this direction are observed.
+/// Returns whether packets that cross in this direction are observed.
 fn agrees(direction: Direction, inwards: bool) -> bool
     ensures { result ≡ agrees direction inwards }
 {
@@ -19,21 +19,21 @@ fn agrees(direction: Direction, inwards: bool) -> bool
     }
 }
 
-/// Whether the interface is among these.
+/// Returns whether the interface is among the given ones.
 fn has_interface(interfaces: &[Name], interface: &str) -> bool
     ensures { result ≡ list_any (λ name. bytes_eq name interface.now) interfaces.now }
 {
     interfaces.iter().any(|name| name.as_str() == interface)
 }
 
-/// Whether the point observes packets that cross the interface in the direction.
+/// Returns whether the point observes packets that cross the interface in this direction.
 fn watches(point: &ObservationPoint, interface: &str, inwards: bool) -> bool
     ensures { result ≡ watches point.now interface.now inwards }
 {
     has_interface(point.interfaces.as_slice(), interface) && agrees(point.direction, inwards)
 }
 
-/// Whether the process of this name has a cache.
+/// Returns whether the process of this name has a cache.
 fn has_cache(processes: &[SelectionProcess], name: &Name) -> bool
     ensures { result ≡ has_cache processes.now name.now }
 {
@@ -42,7 +42,7 @@ fn has_cache(processes: &[SelectionProcess], name: &Name) -> bool
         .any(|process| process.name == *name && process.cache.is_some())
 }
 
-/// The place of the first of the names from a place on whose process has a cache.
+/// Returns the place of the first name, starting from the place `from`, whose process has a cache.
 fn next_fed(processes: &[SelectionProcess], names: &[Name], from: usize) -> Option<usize>
     ensures none { MatchOption result (numbers_with_cache processes.now (from
         + 1) (drop from names.now)
@@ -59,8 +59,8 @@ fn next_fed(processes: &[SelectionProcess], names: &[Name], from: usize) -> Opti
     None
 }
 
-/// The pairs of an observation point and a selection process that the packets of a crossing come to, in order:
-/// both numbered from 1, the process in the point's list. Contracts see the pairs that are left.
+/// The pairs of an observation point and a selection process that the packets of a crossing reach, in order. Both are
+/// 1-based numbers, that of the process in the list of the point. Contracts see the pairs that are left.
 #[derive(Drop)]
 pub struct FedPairs<'a> {
     device: &'a Device,
@@ -81,8 +81,8 @@ impl<'a> Model for FedPairs<'a> {
         + 1) s.process (drop s.point s.device.now.observation_points) };
 }
 
-/// The pairs that meet a crossing of the interface into the device or out of it: whether or not the process
-/// selects the packet, but not without a cache.
+/// Returns the pairs that a crossing of the interface into or out of the device reaches. A process without a cache is
+/// left out; whether the process selects the packet does not matter.
 pub fn feeds<'a>(device: &'a Device, interface: &'a str, inwards: bool) -> FedPairs<'a>
     ensures { result ≡ feeds device.now interface.now inwards }
 {
@@ -96,7 +96,7 @@ pub fn feeds<'a>(device: &'a Device, interface: &'a str, inwards: bool) -> FedPa
 }
 
 impl<'a> FedPairs<'a> {
-    /// The next pair.
+    /// Returns the next pair.
     fn next_pair(&mut self) -> Option<(usize, usize)>
         ensures { MatchOption result ((self.old ≡ [])
             × (self.new ≡ [])) (λ pair. self.old ≡ pair ∷ self.new) }

@@ -1,4 +1,4 @@
-//! What selection processes select: regions of packets, and which processes of a device a crossing feeds.
+//! What selection processes select: regions of packets, and the processes of a device that a crossing feeds.
 #![tactic(auto)]
 
 mod feeding;

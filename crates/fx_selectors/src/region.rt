@@ -23,7 +23,7 @@ impl Model for Bounds {
     ghost view = { λ b. record { low = b.low; high = b.high } };
 }
 
-/// What a match leaves within these bounds.
+/// Returns the part of these bounds that a match leaves.
 fn bounds_within(within: Bounds, fixed: &PropertyMatch) -> Bounds
     ensures { result ≡ selection.bounds_within within fixed.now }
 {
@@ -34,7 +34,7 @@ fn bounds_within(within: Bounds, fixed: &PropertyMatch) -> Bounds
     Bounds { low, high }
 }
 
-/// What all selectors leave.
+/// Returns the bounds that all selectors leave.
 fn bounds_of(selectors: &[Selector]) -> Bounds
     ensures { result ≡ selection.bounds_of selectors.now }
 {
@@ -51,7 +51,7 @@ fn bounds_of(selectors: &[Selector]) -> Bounds
     bounds
 }
 
-/// The region within these bounds, if any fields are.
+/// Returns the region within these bounds, if they are not empty.
 fn region_within(low: [u128; AXES], high: [u128; AXES]) -> Option<Region>
     ensures { result ≡ selection.region_within (record { low = low; high = high }) }
 {
@@ -60,10 +60,10 @@ fn region_within(low: [u128; AXES], high: [u128; AXES]) -> Option<Region>
     Region::between(&low, &high)
 }
 
-/// The region of the packets that a selection process selects, or None where no packet can pass it.
+/// Returns the region of the packets that a selection process selects, or `None` if no packet can pass it.
 pub fn region_of(process: &SelectionProcess) -> Option<Region>
     ensures bounds { result ≡ selection.region_of process.now }
-    // It selects just the packets whose fields the region holds, and where there is no region none.
+    // The process selects exactly the packets whose fields the region holds, and none if there is no region.
     ensures some { IfSome result (λ region. (fields : List ℕ) → boxes.IsFields fields
         → boxes.holds region fields ≡ selection.selects process.now fields) }
     ensures none { IfNone result ((fields : List ℕ) → boxes.IsFields fields
