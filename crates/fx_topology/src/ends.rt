@@ -1,4 +1,4 @@
-//! What the names in links and reports stand for.
+//! What the names in links and reports refer to.
 ghost use Rattle.std.specs.Prelude.{◌≡◌, option_map};
 ghost use Rattle.fx_topology.specs.Links as links;
 
@@ -8,7 +8,7 @@ use fx_base::Name;
 use fx_config::{Device, ExportingProcess};
 use fx_walk::is_named;
 
-/// The configuration of the device of this name.
+/// Returns the configuration of the device of this name.
 pub fn device_named<'d>(devices: &'d [NetworkDevice], name: &Name) -> Option<&'d Device>
     ensures { option_map (λ d. d.now) result ≡ links.device_named devices.now name.now }
 {
@@ -24,14 +24,15 @@ pub fn device_named<'d>(devices: &'d [NetworkDevice], name: &Name) -> Option<&'d
     }
 }
 
-/// Whether the exporting process has this name, and a destination of that one.
+/// Returns whether the exporting process has the name `process` and a destination of the name `destination`.
 fn sends_to(exporting: &ExportingProcess, process: &Name, destination: &Name) -> bool
     ensures { result ≡ links.sends_to process.now destination.now exporting.now }
 {
     exporting.name == *process && is_named(exporting.destinations.as_slice(), destination)
 }
 
-/// Whether an exporting process of the device has this name and a destination of that one.
+/// Returns whether the device has an exporting process of the name `process` with a destination of the name
+/// `destination`.
 fn has_destination(device: &Device, process: &Name, destination: &Name) -> bool
     ensures { result ≡ links.has_destination process.now destination.now (Some device.now) }
 {
@@ -42,7 +43,7 @@ fn has_destination(device: &Device, process: &Name, destination: &Name) -> bool
         .any(|exporting| sends_to(exporting, process, destination))
 }
 
-/// Whether the device of this name has a collecting process of that one.
+/// Returns whether the device of the name `device` has a collecting process of the name `process`.
 pub fn has_collecting_process(devices: &[NetworkDevice], device: &Name, process: &Name) -> bool
     ensures { result ≡ links.has_collecting_process process.now
         (links.device_named devices.now device.now) }
@@ -53,7 +54,7 @@ pub fn has_collecting_process(devices: &[NetworkDevice], device: &Name, process:
     }
 }
 
-/// Whether the link leads from a destination of the network.
+/// Returns whether the link leads from a destination of the network.
 fn has_start(devices: &[NetworkDevice], link: &NamedLink) -> bool
     ensures { result ≡ links.has_destination link.now.exporting_process link.now.destination
         (links.device_named devices.now link.now.device) }
@@ -64,7 +65,7 @@ fn has_start(devices: &[NetworkDevice], link: &NamedLink) -> bool
     }
 }
 
-/// Whether both ends of the link are there.
+/// Returns whether both ends of the link exist.
 pub fn has_ends(devices: &[NetworkDevice], link: &NamedLink) -> bool
     ensures { result ≡ links.has_ends devices.now link.now }
 {

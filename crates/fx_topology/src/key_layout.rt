@@ -6,7 +6,8 @@ ghost use Rattle.fx_topology.specs.Reports.{key_layout};
 use fx_config::{KeyField, part_of};
 use fx_layout::Layout;
 
-/// The layout with what the field stands for: none where it stands for nothing, or its axis is there already.
+/// Returns the layout with the part that the field denotes added, or `None` if the field denotes none or its axis is
+/// already there.
 fn with_field(layout: &Layout, field: &KeyField) -> Option<Layout>
     ensures { result ≡ with_field layout.now field.now }
 {
@@ -14,7 +15,7 @@ fn with_field(layout: &Layout, field: &KeyField) -> Option<Layout>
     layout.with(part.axis, part.bits)
 }
 
-/// The layout of these fields: none where one stands for nothing, or an axis stands twice.
+/// Returns the layout of these fields, or `None` if one denotes no part of an axis or an axis appears twice.
 pub fn layout_of(fields: &[KeyField]) -> Option<Layout>
     ensures { result ≡ key_layout fields.now }
 {

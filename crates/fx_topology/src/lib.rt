@@ -1,4 +1,4 @@
-//! Network documents: devices, each with its configuration, the links between them, and the report.
+//! Network documents: devices with their configurations, the links between them, and the report.
 #![tactic(auto)]
 
 mod ends;

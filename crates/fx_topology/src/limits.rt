@@ -1,13 +1,13 @@
-//! How much a network document may have.
+//! Limits on the size of a network document.
 
-/// The greatest number of devices.
+/// The maximum number of devices.
 pub const DEVICES: usize = 64;
 
-/// The greatest number of links.
+/// The maximum number of links.
 pub const LINKS: usize = 1024;
 
-/// The greatest number of collecting processes, of all devices together.
+/// The maximum number of collecting processes, over all devices.
 pub const PROCESSES: usize = 256;
 
-/// The greatest number of fields of the report's key.
+/// The maximum number of fields in the report's key.
 pub const KEY_FIELDS: usize = 32;

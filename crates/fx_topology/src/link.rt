@@ -1,23 +1,23 @@
 //! Links.
 use fx_base::Name;
 
-/// A link: what an exporting process sends to a destination comes to a collecting process.
+/// A link, which carries what an exporting process sends to a destination to a collecting process.
 #[derive(Debug)]
 pub struct NamedLink {
-    /// The device that sends.
+    /// The sending device.
     pub device: Name,
-    /// The exporting process, on that device.
+    /// The exporting process on that device.
     pub exporting_process: Name,
-    /// The destination, of that process.
+    /// The destination of that process.
     pub destination: Name,
-    /// The device that receives.
+    /// The receiving device.
     pub to_device: Name,
-    /// The collecting process, on that device.
+    /// The collecting process on that device.
     pub to_process: Name,
 }
 
 impl Drop for NamedLink {
-    /// Lets its parts go: proved once, and one call wherever one is let go.
+    /// Drops its parts here, so that each drop elsewhere is one call.
     fn drop(self) {
         let Self {
             device: _,

@@ -1,4 +1,4 @@
-//! Links that are found by where they lead from.
+//! Links, found by where they lead from.
 ghost use Rattle.std.specs.Prelude.{◌≡◌, ◌<◌, ◌∷◌, ◌++◌, [], IfErr, IfOk, OnErr, OnOk, if◌then◌else◌, not, vec_len};
 ghost use Rattle.std.specs.Vec.{vec_capacity};
 ghost use Rattle.std.specs.List.{position};
@@ -12,7 +12,7 @@ use std::alloc::{AllocError, Global};
 use std::collections::BTreeMap;
 use std::marker::Model;
 
-/// What a link leads from: a destination, by the names of its device, of its exporting process and its own.
+/// The start of a link: a destination, given by the names of its device, its exporting process and itself.
 #[derive(Debug, Drop, PartialEq, Eq, PartialOrd, Ord)]
 struct Start {
     device: String,
@@ -40,8 +40,8 @@ impl Start {
     }
 }
 
-/// Makes room for the link behind these, and keeps its place by where it leads from. Answers false where one of them
-/// leads from there.
+/// Reserves room for the link after `links` and records its place under its start. Returns `false` if one of `links`
+/// has the same start.
 fn keep_place(
     alloc: Global,
     links: &mut Vec<NamedLink>,
@@ -71,7 +71,7 @@ fn keep_place(
     Ok(true)
 }
 
-/// Links of which no two lead from one destination, in the order in which they came. Contracts see the list of them.
+/// Links, no two from the same destination, in the order in which they were added. Contracts see the list of links.
 #[derive(Debug, Drop)]
 pub struct LinkTable {
     links: Vec<NamedLink>,
@@ -92,7 +92,7 @@ impl Model for LinkTable {
 }
 
 impl LinkTable {
-    /// No links.
+    /// Returns a table without links.
     pub(crate) fn new(alloc: Global) -> LinkTable
         ensures { result ≡ [] }
     {
@@ -103,15 +103,14 @@ impl LinkTable {
         }
     }
 
-    /// The links, in order.
+    /// Returns the links, in order.
     pub fn as_slice(&self) -> &[NamedLink]
         ensures { result.now ≡ self.now }
     {
         self.links.as_slice()
     }
 
-    /// The place, from 0, of the link that leads from a destination, if there is one. Fails for want of memory
-    /// alone.
+    /// Returns the 0-based place of the link that leads from a destination, if there is one. Fails if out of memory.
     pub fn place_of(
         &self,
         device: &Name,
@@ -125,10 +124,9 @@ impl LinkTable {
         Ok(self.places.get(&start).copied())
     }
 
-    /// Puts the link behind these and answers true, or answers false where one of them leads from the same
-    /// destination.
+    /// Appends the link and returns `true`, or returns `false` if an earlier link leads from the same destination.
     ///
-    /// Fails with 900, at no place, for want of memory.
+    /// Fails with 900, at no place, if out of memory.
     pub(crate) fn add(&mut self, link: NamedLink) -> Result<bool, Fault>
         ensures answer { IfOk result (λ new. new ≡ not (starts_there self.old link)) }
         ensures err { IfErr result IsMemory }

@@ -17,7 +17,7 @@ use fx_walk::{DocumentPath, NameReader, items_in, object_of, refusal, refuse_if,
 use serde_json::Value;
 use std::alloc::Global;
 
-/// Refuses a link at the path with an end that isn't there (201).
+/// Refuses a link at the path if one of its ends does not exist (201).
 fn ends_are_there(
     alloc: Global,
     path: &DocumentPath<'_>,
@@ -36,7 +36,7 @@ fn ends_are_there(
     )
 }
 
-/// Puts a link at the path behind these. Refuses it where one of them leads from the same destination (202).
+/// Appends a link at the path to the earlier ones. Refuses it if one of them leads from the same destination (202).
 fn add_alone(
     alloc: Global,
     path: &DocumentPath<'_>,
@@ -52,7 +52,7 @@ fn add_alone(
     refuse_if(alloc, path, refusals::LINKED_TWICE, !alone)
 }
 
-/// The link that the names in the object at the path make.
+/// Reads the link given by the names in the object at the path.
 fn read_link(alloc: Global, path: &DocumentPath<'_>, value: &Value) -> Result<NamedLink, Fault>
     ensures { Reads (row_faults name_rows (pointer path.now) (view value.now))
         (link_of (view value.now)) result }
@@ -71,8 +71,8 @@ fn read_link(alloc: Global, path: &DocumentPath<'_>, value: &Value) -> Result<Na
     })
 }
 
-/// Puts the link that stands at the path behind these: 201 where one of its ends isn't there, 202 where an earlier
-/// link leads from the same destination.
+/// Reads the link at the path and appends it to the earlier ones. Fails with 201 if one of its ends does not exist, and
+/// with 202 if an earlier link leads from the same destination.
 fn add_link(
     alloc: Global,
     path: &DocumentPath<'_>,
@@ -101,7 +101,7 @@ fn add_link(
     add_alone(alloc, path, earlier, link)
 }
 
-/// What the links of the list at the path mean, in order.
+/// Reads the links of the list at the path, in order.
 fn links_of(
     alloc: Global,
     path: &DocumentPath<'_>,
@@ -121,7 +121,7 @@ fn links_of(
     Ok(links)
 }
 
-/// The network's links: 103 at the object where there is no list of them.
+/// Reads the network's links. Fails with 103, at the object, if it has no list of links.
 pub fn links_member(
     alloc: Global,
     path: &DocumentPath<'_>,

@@ -1,4 +1,4 @@
-//! A network's whole document.
+//! The document of a whole network.
 ghost use Rattle.std.specs.Prelude.{[]};
 ghost use Rattle.serde_json.specs.View.{view};
 ghost use Rattle.fx_walk.specs.Walk.{Reads};
@@ -15,20 +15,21 @@ use fx_walk::{DocumentPath, FromValue, Sequence, object_of, required_entries};
 use serde_json::Value;
 use std::alloc::Global;
 
-/// What a network document says. The ends of each link are there, no two links lead from one destination, the
-/// report's collecting process is there, and its key is made of axes and leading bits of addresses, no axis twice.
+/// The contents of a network document. The ends of each link exist, no two links lead from the same destination, the
+/// report's collecting process exists, and its key consists of axes and leading bits of addresses, each axis at most
+/// once.
 #[derive(Debug)]
 pub struct NetworkDocument {
-    /// The devices, in document order, as all its lists.
+    /// The devices. This list, like the others, is in document order.
     pub devices: Sequence<NetworkDevice>,
     /// The links between them.
     pub links: LinkTable,
-    /// What is asked for.
+    /// The report that is requested.
     pub report: Report,
 }
 
 impl Drop for NetworkDocument {
-    /// Lets its parts go: proved once, and one call wherever one is let go.
+    /// Drops its parts here, so that each drop elsewhere is one call.
     fn drop(self) {
         let Self {
             devices: _,
@@ -38,7 +39,7 @@ impl Drop for NetworkDocument {
     }
 }
 
-/// What reads network documents.
+/// A reader of network documents.
 pub(crate) struct NetworkDocumentReader;
 
 impl FromValue for NetworkDocumentReader {
@@ -69,15 +70,15 @@ impl FromValue for NetworkDocumentReader {
     }
 }
 
-/// Reads a network document: what it says, or its first fault in the order of the walk, at its JSON Pointer in
-/// the document. That of a device's configuration stands below `/devices/i/config`.
+/// Reads a network document. Fails with the first fault in the order of the walk, at its JSON Pointer in the document.
+/// Faults in the configuration of a device are below `/devices/i/config`.
 ///
-/// 102 a member that may not be there, 103 one that is missing, 104 a value of another kind, 105 a value that
-/// isn't allowed, 106 a name twice, 115 too many entries, or too many collecting processes of all devices
-/// together, 107 to 114 as in a device's own document; 201 a link whose device, exporting process, destination or
-/// collecting process isn't there, 202 a second link of one destination, 205 a report whose collecting process
-/// isn't there, 206 one with a key field that is no part of an axis or with an axis twice; 900, at no place, for
-/// want of memory.
+/// Fails with 102 for a member that is not allowed, 103 for a missing member, 104 for a value of the wrong kind, 105
+/// for a value that is not allowed, 106 for a duplicate name, 115 for too many entries or too many collecting processes
+/// over all devices, and 107 to 114 as in the document of a single device. Fails with 201 for a link whose device,
+/// exporting process, destination or collecting process does not exist, 202 for a second link from one destination, 205
+/// for a report whose collecting process does not exist, and 206 for a report with a key field that is not part of an
+/// axis or with an axis twice. Fails with 900, at no place, if out of memory.
 pub fn read_network(alloc: Global, value: &Value) -> Result<NetworkDocument, Fault>
     ensures { Reads (network_faults [] (view value.now)) (network_of (view value.now)) result }
 {

@@ -10,9 +10,9 @@ use std::alloc::Global;
 /// A device of the network and its configuration.
 #[derive(Debug, Drop)]
 pub struct NetworkDevice {
-    /// Its name, which differs from those of the network's other devices.
+    /// Its name, unique among the devices of the network.
     pub name: Name,
-    /// How it is configured.
+    /// Its configuration.
     pub config: Device,
 }
 
@@ -24,7 +24,7 @@ impl Named for NetworkDevice {
     }
 }
 
-/// What reads devices of a network.
+/// A reader of the devices of a network.
 pub(crate) struct NetworkDeviceReader;
 
 impl Entry for NetworkDeviceReader {

@@ -1,4 +1,4 @@
-//! How many collecting processes a network has.
+//! The number of collecting processes of a network.
 ghost use Rattle.std.specs.Prelude.{◌≡◌, nat_lt, codes};
 ghost use Rattle.fx_walk.specs.Pointer.{below, pointer};
 ghost use Rattle.fx_walk.specs.Walk.{Reads, fault_if};
@@ -12,7 +12,7 @@ use fx_base::{Fault, refusals};
 use fx_walk::{DocumentPath, refuse_if};
 use std::alloc::Global;
 
-/// Whether the devices have more collecting processes than a network may have.
+/// Returns whether the devices have more collecting processes than a network may have.
 fn are_too_many(devices: &[NetworkDevice]) -> bool
     ensures { result ≡ nat_lt process_limit (process_count devices.now) }
 {
@@ -27,8 +27,7 @@ fn are_too_many(devices: &[NetworkDevice]) -> bool
     false
 }
 
-/// Refuses the devices of the network at the path where they have more collecting processes than a network may
-/// have (115).
+/// Refuses the devices of the network at the path if they have more collecting processes than a network may have (115).
 pub fn processes_are_few(
     alloc: Global,
     path: &DocumentPath<'_>,

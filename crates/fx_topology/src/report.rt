@@ -20,19 +20,19 @@ use fx_walk::{
 use serde_json::Value;
 use std::alloc::Global;
 
-/// The collecting process whose totals are asked for, and their key.
+/// The collecting process whose totals are requested, and their key.
 #[derive(Debug, Drop)]
 pub struct Report {
     /// The device.
     pub device: Name,
-    /// The collecting process, on that device.
+    /// The collecting process on that device.
     pub collecting_process: Name,
-    /// The fields of the key: axes or the leading bits of addresses, no axis twice.
+    /// The fields of the key: axes or leading bits of addresses, each axis at most once.
     pub key: Sequence<KeyField>,
 }
 
 impl Report {
-    /// The layout of the key: none where a field stands for no part of an axis, or an axis stands twice.
+    /// Returns the layout of the key, or `None` if a field denotes no part of an axis or an axis appears twice.
     pub fn layout(&self) -> Option<Layout>
         ensures { result ≡ key_layout self.now.key }
     {
@@ -40,7 +40,7 @@ impl Report {
     }
 }
 
-/// Refuses a report at the path whose collecting process isn't there (205).
+/// Refuses a report at the path whose collecting process does not exist (205).
 fn process_is_there(
     alloc: Global,
     path: &DocumentPath<'_>,
@@ -55,7 +55,7 @@ fn process_is_there(
     refuse_if(alloc, path, refusals::UNKNOWN_REPORT_PROCESS, !there)
 }
 
-/// Refuses a report at the path with a key field that stands for no part of an axis, or with an axis twice (206).
+/// Refuses a report at the path with a key field that denotes no part of an axis, or with an axis twice (206).
 fn key_is_axes(alloc: Global, path: &DocumentPath<'_>, report: &Report) -> Result<(), Fault>
     ensures { Reads (fault_if (not (is_some (key_layout report.now.key))) report_key
         (pointer path.now)) tt
@@ -65,7 +65,7 @@ fn key_is_axes(alloc: Global, path: &DocumentPath<'_>, report: &Report) -> Resul
     refuse_if(alloc, path, refusals::REPORT_KEY, fails)
 }
 
-/// The report that the members of the object at the path make.
+/// Reads the report given by the members of the object at the path.
 fn read_report(alloc: Global, path: &DocumentPath<'_>, value: &Value) -> Result<Report, Fault>
     ensures { Reads (row_faults member_rows (pointer path.now) (view value.now))
         (report_of (view value.now)) result }
@@ -80,7 +80,7 @@ fn read_report(alloc: Global, path: &DocumentPath<'_>, value: &Value) -> Result<
     })
 }
 
-/// The report that stands at the path, in a network of these devices.
+/// Reads the report at the path, in a network of these devices.
 fn report_at(
     alloc: Global,
     path: &DocumentPath<'_>,
@@ -97,7 +97,7 @@ fn report_at(
     Ok(report)
 }
 
-/// The network's report: 103 at the object where there is none.
+/// Reads the network's report. Fails with 103, at the object, if there is none.
 pub fn report_member(
     alloc: Global,
     path: &DocumentPath<'_>,
