@@ -1,4 +1,4 @@
-//! Cycles: collecting processes that feed themselves by way of others, and all that those feed.
+//! Cycles: collecting processes that feed themselves through others, and all processes that those feed.
 ghost use Rattle.std.specs.Prelude.{◌≡◌, ◌⊎◌, ◌++◌, not, OnOk, IfOk, filter, length, false, slice_get, slice_index_or, string_bytes};
 ghost use Rattle.std.specs.List.{range_with_len};
 ghost use Rattle.fx_base.specs.Fault.{fault_at};
@@ -11,14 +11,14 @@ use fx_base::{Fault, Place, refusals};
 use fx_topology::NetworkDevice;
 use std::alloc::{AllocError, Global};
 
-/// The number of a collecting process: that of its device, and its own on that device, from 1.
+/// The 1-based number of a device, and that of a collecting process on it.
 #[derive(Clone, Copy)]
 pub struct ProcessNumber {
     pub device: usize,
     pub process: usize,
 }
 
-/// So many processes of a device come last.
+/// Appends the numbers of the first `count` processes of a device.
 fn push_numbers(
     numbers: &mut Vec<ProcessNumber>,
     device: usize,
@@ -36,7 +36,7 @@ fn push_numbers(
     Ok(())
 }
 
-/// The numbers of all processes, in document order.
+/// Returns the numbers of all processes, in document order.
 fn process_numbers(
     alloc: Global,
     devices: &[NetworkDevice],
@@ -51,7 +51,7 @@ fn process_numbers(
     Ok(numbers)
 }
 
-/// The places of the processes that haven't come.
+/// Returns the places of the processes that are not in the rank order.
 fn places_left(alloc: Global, come: &[bool]) -> Result<Vec<usize>, AllocError>
     ensures { IfOk result (λ v. v.items ≡ filter
         (λ place. not (slice_index_or come.now place false)) (range_with_len 0 (length come.now))) }
@@ -94,7 +94,7 @@ fn push_number(text: &mut String, number: ProcessNumber) -> Result<(), AllocErro
     write!(text, "{}.{}", number.device, number.process)
 }
 
-/// The numbers, separated by single spaces.
+/// Writes the numbers, separated by single spaces.
 fn numbers_text(alloc: Global, numbers: &[ProcessNumber]) -> Result<String, AllocError>
     ensures { IfOk result (λ s. string_bytes s ≡ cycles.numbers_text numbers.now) }
 {
@@ -109,7 +109,7 @@ fn numbers_text(alloc: Global, numbers: &[ProcessNumber]) -> Result<String, Allo
     Ok(text)
 }
 
-/// The numbers of the processes that haven't come, separated by single spaces.
+/// Writes the numbers of the processes that are not in the rank order, separated by single spaces.
 fn cycle_text(alloc: Global, devices: &[NetworkDevice], come: &[bool]) -> Result<String, AllocError>
     ensures { IfOk result (λ s. string_bytes s
         ≡ cycles.stuck_text devices.now (filter (λ place. not (slice_index_or come.now place false))
@@ -121,8 +121,8 @@ fn cycle_text(alloc: Global, devices: &[NetworkDevice], come: &[bool]) -> Result
     numbers_text(alloc, left.as_slice())
 }
 
-/// The refusal (204) of a network of these devices whose processes don't all come, or want of memory (900) for its
-/// text.
+/// Returns the refusal (204) of a network of these devices whose processes are not all in the rank order, or 900 if
+/// there is no memory for its text.
 pub fn cycle(alloc: Global, devices: &[NetworkDevice], come: &[bool]) -> Fault
     ensures { (result ≡ fault_at want_of_memory places.None)
         ⊎ ((result.number ≡ link_cycle) × cycles.IsTextPlace result.place

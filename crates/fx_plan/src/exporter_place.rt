@@ -1,4 +1,4 @@
-//! Where an exporting process that is named by numbers stands in the table of exporting processes.
+//! The place, in the table of exporting processes, of one that is given by numbers.
 ghost use Rattle.std.specs.Prelude.{◌≡◌, IfOk};
 ghost use Rattle.fx_plan.specs.ExporterPlaces.{exporter_place};
 
@@ -9,8 +9,9 @@ use fx_config::ExportingProcess;
 use std::alloc::{AllocError, Global};
 
 impl Plan {
-    /// The place of an exporting process in the network's table, from 0, by its number on its device and the device's
-    /// number, from 1 in document order. None where there is no such device or process. Fails for want of memory alone.
+    /// Returns the 0-based place of an exporting process in the network's table, given its number on its device and the
+    /// number of the device, both 1-based in document order. Returns `None` if there is no such device or process.
+    /// Fails if out of memory.
     pub fn exporter_place(
         &self,
         alloc: Global,

@@ -10,7 +10,7 @@ use fx_tables::Exporter;
 use fx_topology::{LinkTable, NetworkDevice};
 use std::alloc::{AllocError, Global};
 
-/// The place of the link of each destination of an exporting process, if it has one.
+/// Returns, for each destination of an exporting process, the place of its link, if it has one.
 fn link_places(
     alloc: Global,
     links: &LinkTable,
@@ -29,7 +29,7 @@ fn link_places(
     Ok(places)
 }
 
-/// Whether each record goes to all destinations.
+/// Returns whether each record goes to all destinations.
 fn is_parallel(mode: ExportMode) -> bool
     ensures { result ≡ tables.is_parallel mode }
 {
@@ -52,7 +52,7 @@ fn exporter_of(
     Ok(Exporter::new(is_parallel(process.mode), places))
 }
 
-/// The exporting processes of a device come last.
+/// Appends the exporting processes of a device.
 fn push_exporters(
     alloc: Global,
     exporters: &mut Vec<Exporter>,
@@ -70,7 +70,7 @@ fn push_exporters(
     Ok(())
 }
 
-/// The exporting processes of all devices, in document order.
+/// Returns the exporting processes of all devices, in document order.
 pub fn exporters_of(
     alloc: Global,
     links: &LinkTable,

@@ -1,4 +1,4 @@
-//! What holds records: caches and aggregations.
+//! Holders of records: caches and aggregations.
 ghost use Rattle.std.specs.Prelude.{◌≡◌, ◌++◌, OnOk, IfOk, map};
 ghost use Rattle.std.specs.List.{flat_map};
 ghost use Rattle.fx_plan.specs.Tables as tables;
@@ -11,7 +11,7 @@ use fx_tables::Holder;
 use fx_topology::NetworkDevice;
 use std::alloc::{AllocError, Global};
 
-/// What holds records of the layout, which go to the exporting processes of these names.
+/// Returns a holder of records of the layout, which are sent to the exporting processes of these names.
 pub fn holder_with(
     alloc: Global,
     exporting: &Labels<'_>,
@@ -26,7 +26,7 @@ pub fn holder_with(
     Ok(Holder::new(layout.copy(), exporters))
 }
 
-/// The caches of a device come last.
+/// Appends the caches of a device.
 fn push_caches(
     alloc: Global,
     holders: &mut Vec<Holder>,
@@ -44,7 +44,7 @@ fn push_caches(
     Ok(())
 }
 
-/// The caches of all devices, in document order.
+/// Returns the caches of all devices, in document order.
 pub fn cache_holders(
     alloc: Global,
     exporting: &Labels<'_>,

@@ -1,4 +1,4 @@
-//! How the things of a network's devices are named.
+//! How the entries of a network's devices are named.
 ghost use Rattle.std.specs.Prelude.{◌≡◌, ◌++◌, List, OnOk, IfOk, length, map};
 ghost use Rattle.std.specs.List.{position};
 ghost use Rattle.fx_plan.specs.Labels as naming;
@@ -10,14 +10,14 @@ use fx_walk::Named;
 use std::alloc::{AllocError, Global};
 use std::marker::Model;
 
-/// What a device has a list of.
+/// A kind of entry that a device has a list of.
 pub trait Thing: Named {
     ghost use Rattle.fx_topology.specs.declared.network_device.NetworkDevice.{NetworkDevice};
 
-    /// Those that a device has, in document order.
+    /// The entries of this kind of a device, in document order.
     ghost things: { NetworkDevice → List Self };
 
-    /// Those that a device has, in document order.
+    /// Returns the entries of this kind of a device, in document order.
     fn things(device: &NetworkDevice) -> &[Self]
         ensures { result.now ≡ things device.now };
 }
@@ -46,7 +46,7 @@ impl Thing for CollectingProcess {
     }
 }
 
-/// A thing's device and its own name.
+/// The device of an entry, and its own name.
 #[derive(Drop)]
 pub struct Label<'n> {
     device: &'n Name,
@@ -62,7 +62,7 @@ impl<'n> Model for Label<'n> {
 }
 
 impl<'n> Label<'n> {
-    /// Whether this is the label of the device and the name.
+    /// Returns whether this is the label with the device and the name.
     fn is(&self, device: &Name, name: &Name) -> bool
         ensures { result ≡ naming.is_label device.now name.now self.now }
     {
@@ -70,7 +70,7 @@ impl<'n> Label<'n> {
     }
 }
 
-/// The labels of a device's things come last.
+/// Appends the labels of a device's entries.
 fn push_labels<'n, T: Named>(
     labels: &mut Vec<Label<'n>>,
     device: &'n Name,
@@ -86,7 +86,7 @@ fn push_labels<'n, T: Named>(
     Ok(())
 }
 
-/// Labels of one device that stand one after another.
+/// Consecutive labels of one device.
 #[derive(Drop)]
 struct Group<'n> {
     device: &'n Name,
@@ -102,8 +102,8 @@ impl<'n> Model for Group<'n> {
     ghost view = { λ g. record { device = g.device.now; start = g.start; end = g.end } };
 }
 
-/// The labels of all things of a kind, in document order. Contracts see them as the list of labels. Those of a
-/// device are found without a look at the others.
+/// The labels of all entries of a kind, in document order. Contracts see them as the list of labels. The labels of a
+/// device are found without searching those of the others.
 #[derive(Drop)]
 pub struct Labels<'n> {
     labels: Vec<Label<'n>>,
@@ -122,7 +122,7 @@ impl<'n> Model for Labels<'n> {
         (length l.labels.items) };
 }
 
-/// The labels of a device's things come last, as a group.
+/// Appends the labels of a device's entries, as a group.
 fn push_group<'n, T: Named>(
     labels: &mut Vec<Label<'n>>,
     groups: &mut Vec<Group<'n>>,
@@ -142,7 +142,7 @@ fn push_group<'n, T: Named>(
     Ok(())
 }
 
-/// The labels of all devices' things of a kind, in document order.
+/// Returns the labels of the entries of this kind of all devices, in document order.
 pub fn labels_of<'n, T: Thing + 'n>(
     alloc: Global,
     devices: &'n [NetworkDevice],
@@ -164,7 +164,8 @@ fn position_of(labels: &[Label<'_>], device: &Name, name: &Name) -> Option<usize
     labels.iter().position(|label| label.is(device, name))
 }
 
-/// The place, from 0, in a table whose entries have these labels; behind the table where there is none.
+/// Returns the 0-based place of an entry in a table whose entries have these labels, or the length of the table if
+/// there is no such entry.
 pub fn place(labels: &Labels<'_>, device: &Name, name: &Name) -> usize
     ensures { result ≡ naming.place labels.now device.now name.now }
 {
@@ -180,7 +181,7 @@ pub fn place(labels: &Labels<'_>, device: &Name, name: &Name) -> usize
     all.len()
 }
 
-/// The places of a device's things.
+/// Returns the places of a device's entries.
 pub fn places<T: Named>(
     alloc: Global,
     labels: &Labels<'_>,

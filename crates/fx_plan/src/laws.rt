@@ -1,4 +1,4 @@
-//! Laws of the networks that plans mean.
+//! Laws of the networks that plans describe.
 ghost use Rattle.std.specs.Prelude.{◌↔◌, Bool, List};
 ghost use Rattle.fx_elements.specs.declared.axis.Axis.{Axis};
 ghost use Rattle.fx_machine.specs.Claim.{ExactlyOnce, OnceModulo};
@@ -14,20 +14,20 @@ ghost use Rattle.fx_topology.specs.declared.network.NetworkDocument as documents
 use crate::plan::Plan;
 use fx_machine::complete_runs_exist;
 
-/// Over any packets of any classes the network of a plan has a complete run: what is said of every complete run isn't
-/// said of none.
+/// Proves that over any packets of any classes the network of a plan has a complete run, so a claim about every
+/// complete run is never vacuous.
 pub fn plans_have_complete_runs(plan: &Plan)
     ensures { (classes : List traffic.Class) (packets : List of_packet.Packet)
         → HasCompleteRun (tables.net_of plan.now) classes packets }
 {
-    // For the prover alone: a plan's network has ranks, and no record is stuck in it.
+    // The prover needs this call: it shows that a plan's network has ranks and that no record is stuck in it.
     let _net = plan.net();
     complete_runs_exist();
 }
 
-/// A network document whose filters, fields of caches, keys of aggregations and report name only some axes means a
-/// network that names only these. So where it and its classes name none of IPv6, what is promised of packets with
-/// values on the six other axes alone is promised of all.
+/// Proves that a network document whose filters, cache fields, aggregation keys and report name only some axes
+/// describes a network that names only these. So if it and its classes name no axis of IPv6, what is promised of
+/// packets with values on the six other axes only is promised of all packets.
 pub fn documents_name_axes()
     ensures names { (named : Axis → Bool) (network : documents.NetworkDocument)
         → DocumentNamesOnly named network → axes.NamesOnly named (tables.net_of network) }

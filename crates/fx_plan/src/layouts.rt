@@ -19,9 +19,9 @@ fn position_of(known: &[Layout], layout: &Layout) -> Option<usize>
     known.iter().position(|other| other.same(layout))
 }
 
-/// The number of a layout, from 0, which is added last where it isn't known yet.
+/// Returns the 0-based number of a layout, which is appended if it is not known yet.
 ///
-/// Fails with 207 where there would be too many, and with 900 for want of memory.
+/// Fails with 207 if there would be too many layouts, and with 900 if out of memory.
 fn number_in(known: &mut Vec<Layout>, layout: &Layout) -> Result<usize, Fault>
     requires { length known.old.items ≤ layout_limit }
     ensures known { IfOk result (λ n. (known.new.items
@@ -43,15 +43,15 @@ fn number_in(known: &mut Vec<Layout>, layout: &Layout) -> Result<usize, Fault>
     Ok(number)
 }
 
-/// No part of a layout has more bits than its axis.
+/// Proves that no part of a layout has more bits than its axis.
 fn fits(layout: &Layout)
     ensures { Fits layout.now }
 {
-    // For the prover alone: the parts of a layout fit their axes.
+    // The prover needs this call: it shows that the parts of a layout fit their axes.
     let _parts = layout.parts();
 }
 
-/// The numbers of the layouts of what holds records; those that aren't known yet are added last.
+/// Returns the numbers of the layouts of the holders. Layouts that are not known yet are appended.
 fn numbers_of(
     alloc: Global,
     known: &mut Vec<Layout>,
@@ -77,18 +77,18 @@ fn numbers_of(
     Ok(numbers)
 }
 
-/// The layouts of a network, and the number of each holder's, from 0.
+/// The layouts of a network, and the 0-based number of each holder's layout.
 #[derive(Debug, Drop)]
 pub struct Numbering {
     /// The layouts, each once.
     pub layouts: Vec<Layout>,
-    /// For each cache and aggregation the number of its layout.
+    /// For each cache and aggregation, the number of its layout.
     pub numbers: Vec<usize>,
 }
 
-/// The layouts of a network by number.
+/// Numbers the layouts of a network.
 ///
-/// Fails with 207 where there are too many, and with 900 for want of memory.
+/// Fails with 207 if there are too many layouts, and with 900 if out of memory.
 pub fn numbering_of(alloc: Global, net: &Net) -> Result<Numbering, Fault>
     ensures layouts { IfOk result (λ n. n.layouts.items ≡ layouts.layouts_of net.now) }
     ensures numbers { IfOk result (λ n. layouts.AreNumbers n.layouts.items net.now.holders

@@ -1,5 +1,5 @@
-//! The plan of a network: its tables by number, the order of ranks of its collecting processes, and its layouts. The
-//! document that it is made of (`fx_topology`) can be named here too.
+//! The plan of a network: its tables by number, the rank order of its collecting processes, and its layouts. The types
+//! of the document that it is made from (`fx_topology`) are re-exported.
 #![tactic(auto)]
 
 mod cycle;

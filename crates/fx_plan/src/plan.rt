@@ -1,4 +1,4 @@
-//! Network documents and the networks that they mean.
+//! Network documents and the networks that they describe.
 ghost use Rattle.std.specs.Prelude.{◌≡◌, ◌⊎◌, ◌==◌, ◌<◌, ◌≤◌, IfErr, IfOk, length, map, position};
 ghost use Rattle.serde_json.specs.View.{view};
 ghost use Rattle.fx_tables.specs.Limits.{layout_limit};
@@ -39,7 +39,7 @@ fn report_layout_of(network: &NetworkDocument) -> Layout
     }
 }
 
-/// The tables of all devices, by the labels of all collecting processes.
+/// Returns the tables of all devices, given the labels of all collecting processes.
 fn device_tables(
     alloc: Global,
     collecting: &Labels<'_>,
@@ -52,8 +52,8 @@ fn device_tables(
     tables_of(alloc, &caches, collecting, devices)
 }
 
-/// What holds records, and the collecting processes: they are made together, since what holds the records of
-/// their aggregations comes behind the caches.
+/// Returns the holders of records and the collecting processes. They are made together because the holders of
+/// aggregations follow those of caches.
 fn holders_and_processes(
     alloc: Global,
     devices: &[NetworkDevice],
@@ -67,7 +67,7 @@ fn holders_and_processes(
     Ok((holders, processes))
 }
 
-/// The network that a document means, by the labels of its collecting processes.
+/// Returns the network that a document describes, given the labels of its collecting processes.
 fn net_labelled(
     alloc: Global,
     network: &NetworkDocument,
@@ -95,7 +95,7 @@ fn net_labelled(
     ))
 }
 
-/// The network that a document means.
+/// Returns the network that a document describes.
 fn net_of(alloc: Global, network: &NetworkDocument) -> Result<Net, AllocError>
     ensures { IfOk result (λ net. net ≡ tables.net_of network.now) }
 {
@@ -103,7 +103,7 @@ fn net_of(alloc: Global, network: &NetworkDocument) -> Result<Net, AllocError>
     net_labelled(alloc, network, &collecting)
 }
 
-/// A network document and the network that it means. Contracts see it as what the document says.
+/// A network document and the network that it describes. Contracts see it as the contents of the document.
 ///
 /// Each link leads to a collecting process of higher rank than each process that feeds it.
 #[derive(Debug)]
@@ -112,13 +112,13 @@ pub struct Plan {
 }
 
 impl Drop for Plan {
-    /// Lets its parts go: proved once, and one call wherever one is let go.
+    /// Drops its parts here, so that each drop elsewhere is one call.
     fn drop(self) {
         let Self { parts: _ } = self;
     }
 }
 
-/// What a plan is made of, behind a box: a plan that is moved is one pointer.
+/// The parts of a plan, in a box so that moving a plan moves one pointer.
 #[derive(Debug, Drop)]
 struct Parts {
     network: NetworkDocument,
@@ -141,7 +141,7 @@ impl Model for Plan {
 }
 
 impl Plan {
-    /// The network that the document means.
+    /// Returns the network that the document describes.
     pub fn net(&self) -> &Net
         ensures value { result.now ≡ tables.net_of self.now }
         ensures network { IsNetwork result.now }
@@ -152,15 +152,15 @@ impl Plan {
         &self.parts.net
     }
 
-    /// What the document says.
+    /// Returns the contents of the document.
     pub fn network(&self) -> &NetworkDocument
         ensures { result.now ≡ self.now }
     {
         &self.parts.network
     }
 
-    /// The configuration of the device of this number, from 1 in document order, or None where there is no
-    /// such device.
+    /// Returns the configuration of the device of this number, 1-based in document order, or `None` if there is no such
+    /// device.
     pub fn device(&self, number: u64) -> Option<&Device>
         ensures { now_of result ≡ device_numbered self.now number }
     {
@@ -168,8 +168,8 @@ impl Plan {
         Some(&device.config)
     }
 
-    /// The places of all collecting processes in the order of ranks: each time the first in document order whose
-    /// feeders have all come.
+    /// Returns the places of all collecting processes in rank order. Each is the first in document order, of those
+    /// left, whose feeders all precede it.
     pub fn upwards(&self) -> &[usize]
         ensures order { IsRankOrder (tables.net_of self.now) result.now }
         ensures whole { IsWhole (tables.net_of self.now) result.now }
@@ -177,23 +177,23 @@ impl Plan {
         self.parts.ranks.ranked.as_slice()
     }
 
-    /// The rank of the collecting process at this place, from 0: its place in the order of ranks. None where there
-    /// is no such process.
+    /// Returns the 0-based rank of the collecting process at this place, which is its position in the rank order, or
+    /// `None` if there is no such process.
     pub fn rank(&self, process: usize) -> Option<usize>
         ensures { IsRank (tables.net_of self.now) process result }
     {
         rank_in(self.parts.ranks.ranked.as_slice(), process)
     }
 
-    /// The places of all collecting processes, each behind all of higher rank.
+    /// Returns the places of all collecting processes, each after all of higher rank.
     pub fn downwards(&self) -> &[usize]
         ensures { IsDescending (tables.net_of self.now) result.now }
     {
         self.parts.ranks.order.as_slice()
     }
 
-    /// The layouts of the network, each once: those of its caches, of its aggregations and of the report, in that
-    /// order. There are at most 64.
+    /// Returns the layouts of the network, each once: those of its caches, of its aggregations and of the report, in
+    /// that order. There are at most 64.
     pub fn layouts(&self) -> &[Layout]
         ensures value { result.now ≡ layouts_of (tables.net_of self.now) }
         ensures few { length result.now ≤ layout_limit }
@@ -201,7 +201,7 @@ impl Plan {
         self.parts.numbering.layouts.as_slice()
     }
 
-    /// For each cache and aggregation of the network the number of its layout, from 0.
+    /// Returns, for each cache and aggregation of the network, the 0-based number of its layout.
     pub fn layout_numbers(&self) -> &[usize]
         ensures { AreNumbers (layouts_of (tables.net_of self.now)) (tables.net_of self.now).holders
             result.now }
@@ -210,7 +210,7 @@ impl Plan {
     }
 }
 
-/// What a network document means: all of a plan but the document, which the plan takes last.
+/// What a network document describes: all parts of a plan except the document, which is added last.
 #[derive(Drop)]
 struct Meaning {
     net: Net,
@@ -218,8 +218,8 @@ struct Meaning {
     numbering: Numbering,
 }
 
-/// What a document means, or the first fault that shows in its network only: 207 for its layouts, or else 204 for
-/// its links; or 900 for want of memory.
+/// Returns what a document describes. Fails with the first fault that appears only in the network: 207 for its layouts,
+/// otherwise 204 for its links, and with 900 if out of memory.
 fn meaning_of(alloc: Global, network: &NetworkDocument) -> Result<Meaning, Fault>
     requires resolved { IsResolved (tables.net_of network.now) }
     requires entries { AreEntries (tables.net_of network.now) }
@@ -238,7 +238,7 @@ fn meaning_of(alloc: Global, network: &NetworkDocument) -> Result<Meaning, Fault
     })
 }
 
-/// A plan of a document and of what it means.
+/// Returns a plan of a document and of what it describes.
 fn plan_of_parts(
     alloc: Global,
     network: NetworkDocument,
@@ -266,12 +266,12 @@ fn rank_in(ranked: &[usize], process: usize) -> Option<usize>
     ranked.iter().position(|place| *place == process)
 }
 
-/// Reads a network document: what it says, with the network that it means, or its first fault.
+/// Reads a network document and the network that it describes.
 ///
-/// That is the first of those of [`read_network`], or else 207, at no place, where caches, aggregations and the
-/// report have more than 64 different layouts; 204 where links form a cycle, at the numbers of all collecting
-/// processes that can't come behind all that feed them, as `1.1 2.1`, of device and process, in document order; or
-/// 900, at no place, for want of memory.
+/// Fails with the first fault of [`read_network`], or else with 207, at no place, if caches, aggregations and the
+/// report have more than 64 different layouts; with 204 if links form a cycle, at the numbers, of device and process as
+/// in `1.1 2.1`, of all collecting processes that cannot follow all that feed them, in document order; or with 900, at
+/// no place, if out of memory.
 pub fn read_plan(alloc: Global, value: &Value) -> Result<Plan, Fault>
     ensures { ReadsPlan (view value.now) result }
 {

@@ -1,4 +1,4 @@
-//! Observation points and the caches that their packets come to.
+//! Observation points and the caches that their packets reach.
 ghost use Rattle.std.specs.Prelude.{◌≡◌, ◌++◌, IfOk, map, option_map, option_and_then};
 ghost use Rattle.fx_plan.specs.Labels as naming;
 ghost use Rattle.fx_plan.specs.Tables as tables;
@@ -48,7 +48,7 @@ fn process_named<'p>(processes: &'p [SelectionProcess], name: &Name) -> Option<&
     }
 }
 
-/// The place of the cache of a device's selection process of this name, if it has one.
+/// Returns the place of the cache of a device's selection process of this name, if it has one.
 fn cache_place(caches: &Labels<'_>, device: &NetworkDevice, name: &Name) -> Option<usize>
     ensures { result ≡ option_map (naming.place caches.now device.now.name)
         (option_and_then (λ p. p.cache) (tables.process_named device.now.config.selection_processes
@@ -63,7 +63,7 @@ fn cache_place(caches: &Labels<'_>, device: &NetworkDevice, name: &Name) -> Opti
     }
 }
 
-/// The region of the packets that a device's selection process of this name selects, if it selects any.
+/// Returns the region of the packets that a device's selection process of this name selects, if it selects any.
 fn region_named(device: &NetworkDevice, name: &Name) -> Option<Region>
     ensures { result ≡ option_and_then region_of
         (tables.process_named device.now.config.selection_processes name.now) }
@@ -90,7 +90,7 @@ fn selections_of(
     Ok(selections)
 }
 
-/// Whether packets that come in are seen, and whether those that go out are.
+/// Returns whether incoming packets are seen, and whether outgoing packets are.
 fn sees(direction: Direction) -> (bool, bool)
     ensures incoming { result.0 ≡ tables.sees_in direction }
     ensures outgoing { result.1 ≡ tables.sees_out direction }
@@ -133,7 +133,7 @@ fn points_of(
     Ok(seen)
 }
 
-/// A device's tables, by the labels of all caches and of all collecting processes.
+/// Returns the tables of a device, given the labels of all caches and of all collecting processes.
 fn table_of(
     alloc: Global,
     caches: &Labels<'_>,
@@ -158,7 +158,7 @@ fn table_of(
     Ok(DeviceEntry::new(points, held, received))
 }
 
-/// The tables of all devices, in document order.
+/// Returns the tables of all devices, in document order.
 pub fn tables_of(
     alloc: Global,
     caches: &Labels<'_>,

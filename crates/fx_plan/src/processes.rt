@@ -1,4 +1,4 @@
-//! The table of collecting processes, and where links lead.
+//! The table of collecting processes, and the ends of links.
 ghost use Rattle.std.specs.Prelude.{◌≡◌, [], ◌∷◌, ◌++◌, OnOk, IfOk, length, map};
 ghost use Rattle.fx_plan.specs.Labels as naming;
 ghost use Rattle.fx_plan.specs.Tables as tables;
@@ -13,7 +13,7 @@ use fx_tables::{Holder, MatchEntry, Process};
 use fx_topology::{NamedLink, NetworkDevice};
 use std::alloc::{AllocError, Global};
 
-/// The leading bits that a match fixes.
+/// Returns the leading bits that a match fixes.
 fn match_entry(fixed: &PropertyMatch) -> MatchEntry
     ensures { result ≡ tables.match_entry fixed.now }
 {
@@ -36,7 +36,7 @@ fn match_entries(alloc: Global, matches: &[PropertyMatch]) -> Result<Vec<MatchEn
     Ok(entries)
 }
 
-/// An aggregation comes last, and what holds its records comes last among the holders.
+/// Appends an aggregation to `taken`, and the holder of its records to `holders`.
 fn push_aggregation(
     alloc: Global,
     taken: &mut Vec<fx_tables::AggregationEntry>,
@@ -59,7 +59,7 @@ fn push_aggregation(
     Ok(())
 }
 
-/// The aggregations of a collecting process. What holds their records comes last among the holders.
+/// Returns the aggregations of a collecting process, and appends the holders of their records to `holders`.
 fn push_aggregations(
     alloc: Global,
     holders: &mut Vec<Holder>,
@@ -100,7 +100,7 @@ fn process_from(
     Ok(Process::new(exporters, aggregations))
 }
 
-/// The collecting processes of a device come last, and what holds the records of their aggregations.
+/// Appends the collecting processes of a device, and the holders of the records of their aggregations.
 fn push_processes(
     alloc: Global,
     processes: &mut Vec<Process>,
@@ -122,8 +122,8 @@ fn push_processes(
     Ok(())
 }
 
-/// The collecting processes of all devices, in document order. What holds the records of their aggregations comes
-/// last among the holders.
+/// Returns the collecting processes of all devices, in document order, and appends the holders of the records of their
+/// aggregations to `holders`.
 pub fn processes_in(
     alloc: Global,
     holders: &mut Vec<Holder>,
@@ -150,7 +150,7 @@ pub fn processes_in(
     Ok(processes)
 }
 
-/// The places of the collecting processes to which the links lead.
+/// Returns the places of the collecting processes that the links lead to.
 pub fn link_ends(
     alloc: Global,
     collecting: &Labels<'_>,

@@ -16,9 +16,9 @@ use std::alloc::{AllocError, Global};
 /// The collecting processes of a network in two orders.
 #[derive(Debug, Drop)]
 pub struct Ranks {
-    /// In the order of ranks.
+    /// The places in rank order.
     pub ranked: Vec<usize>,
-    /// The other way round.
+    /// The places in reverse rank order.
     pub order: Vec<usize>,
 }
 
@@ -37,9 +37,9 @@ fn reverse_of(alloc: Global, ranked: &[usize]) -> Result<Vec<usize>, AllocError>
     Ok(order)
 }
 
-/// The ranks of a network's collecting processes, where links lead to processes that are there.
+/// Returns the ranks of a network's collecting processes, if links lead only to processes that exist.
 ///
-/// Fails with 204 where there are none, since links form a cycle, and with 900 for want of memory.
+/// Fails with 204 if there are none because links form a cycle, and with 900 if out of memory.
 pub fn ranks_of(alloc: Global, network: &NetworkDocument, net: &Net) -> Result<Ranks, Fault>
     requires net_is { net.now ≡ tables.net_of network.now }
     requires resolved { IsResolved net.now }
