@@ -22,7 +22,7 @@ use fx_walk::{
 use serde_json::Value;
 use std::alloc::Global;
 
-/// The member `region`, which is whole where it isn't there.
+/// Reads the optional member `region`, by default the whole region.
 fn region_member(alloc: Global, path: &DocumentPath<'_>, object: &Value) -> Result<Region, Fault>
     ensures { Reads ((optional (codes "region") region_faults).faults (pointer path.now)
         (view object.now)) (region_given (get (codes "region") (view object.now))) result }
@@ -50,7 +50,7 @@ fn paths_member<T: Named>(
     }
 }
 
-/// The member `exempt`: whether it is there.
+/// Returns whether the optional member `exempt` is there.
 fn exempt_member(alloc: Global, path: &DocumentPath<'_>, object: &Value) -> Result<bool, Fault>
     ensures { Reads ((optional (codes "exempt") exempt_faults).faults (pointer path.now)
         (view object.now)) (is_some (get (codes "exempt") (view object.now))) result }
@@ -71,7 +71,7 @@ fn exempt_member(alloc: Global, path: &DocumentPath<'_>, object: &Value) -> Resu
     }
 }
 
-/// A class behind classes with these names, to which its own is added.
+/// Reads a class and adds its name to `earlier`, the names of the classes before it.
 fn read_class<T: Named>(
     alloc: Global,
     path: &DocumentPath<'_>,
@@ -98,7 +98,7 @@ fn read_class<T: Named>(
     Ok(Class::new(region, paths.into_vec(), exempt))
 }
 
-/// The classes of the list at the path, in order.
+/// Reads the classes of the list at the path, in order.
 fn classes_of<T: Named>(
     alloc: Global,
     path: &DocumentPath<'_>,
@@ -120,7 +120,7 @@ fn classes_of<T: Named>(
     Ok(Sequence::from_vec(classes))
 }
 
-/// The list of classes.
+/// Reads the list of classes.
 pub fn read_list<T: Named>(
     alloc: Global,
     path: &DocumentPath<'_>,

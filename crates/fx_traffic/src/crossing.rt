@@ -1,4 +1,4 @@
-//! Crossings: a packet goes through an interface of a device.
+//! Crossings: the passage of a packet through an interface of a device.
 ghost use Rattle.std.specs.Prelude.{◌≡◌, ℕ, List, map, codes};
 ghost use Rattle.serde_json.specs.View.{view};
 ghost use Rattle.fx_walk.specs.Pointer.{pointer};
@@ -15,7 +15,7 @@ use fx_walk::{DocumentPath, Named, object_of, place_of, refusal};
 use serde_json::Value;
 use std::alloc::Global;
 
-/// The number, from 1, of the first of these devices that has the name.
+/// Returns the 1-based number of the first of these devices that has the name.
 fn number_in<T: Named>(devices: &[T], name: &Name) -> Option<u64>
     ensures { result ≡ number_in (map T.name devices.now) name.now }
 {
@@ -23,7 +23,7 @@ fn number_in<T: Named>(devices: &[T], name: &Name) -> Option<u64>
     Some(place as u64 + 1)
 }
 
-/// The number of the device that the value names: 303 where none has its name.
+/// Returns the number of the device that the value names. Fails with 303 if none has its name.
 fn device_at<T: Named>(
     alloc: Global,
     path: &DocumentPath<'_>,
@@ -66,7 +66,7 @@ fn interface_member(alloc: Global, path: &DocumentPath<'_>, object: &Value) -> R
     }
 }
 
-/// Whether a packet comes into the device.
+/// Returns whether the text denotes the direction into the device, or `None` if it denotes no direction.
 fn inwards_in(text: &str) -> Option<bool>
     ensures { result ≡ inwards_in text.now }
 {
@@ -77,7 +77,8 @@ fn inwards_in(text: &str) -> Option<bool>
     }
 }
 
-/// A direction: 104 for no text, 302 for another text than `ingress` and `egress`.
+/// Reads a direction. Fails with 104 if the value is not a text, and with 302 for a text other than `ingress` and
+/// `egress`.
 fn inwards_at(alloc: Global, path: &DocumentPath<'_>, value: &Value) -> Result<bool, Fault>
     ensures { Reads (direction_faults (pointer path.now) (view value.now))
         (inwards_of (view value.now)) result }
@@ -101,7 +102,7 @@ fn inwards_member(alloc: Global, path: &DocumentPath<'_>, object: &Value) -> Res
     }
 }
 
-/// A crossing of one of the devices.
+/// Reads a crossing of one of the devices.
 impl FromValueAmong for Crossing {
     ghost faults = { crossing_faults };
 

@@ -1,10 +1,10 @@
-//! How many entries lists may have.
+//! Limits on the number of entries in lists.
 
-/// The greatest number of classes.
+/// The maximum number of classes.
 pub const CLASSES: usize = 256;
 
-/// The greatest number of paths of a class.
+/// The maximum number of paths of a class.
 pub const PATHS: usize = 16;
 
-/// The greatest number of crossings of a path.
+/// The maximum number of crossings of a path.
 pub const CROSSINGS: usize = 32;

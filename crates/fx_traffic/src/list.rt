@@ -12,15 +12,15 @@ use fx_walk::{DocumentPath, Named, Sequence, items_by};
 use serde_json::Value;
 use std::alloc::Global;
 
-/// What a value may be read as that names devices.
+/// A type that can be read from a value that names devices.
 pub trait FromValueAmong: Drop {
-    /// The faults of a value at a pointer, where the devices have these names.
+    /// The faults of a value at a pointer, given the names of the devices.
     ghost faults: { List (List ℕ) → List ℕ → Data → List FoundFault };
 
-    /// What a value without a fault means there.
+    /// What a value without faults means, given the names of the devices.
     ghost meaning: { List (List ℕ) → Data → Self };
 
-    /// Reads the value that stands at the path, or answers its first fault.
+    /// Reads the value at the path, or fails with its first fault.
     fn from_value_among<D: Named>(
         alloc: Global,
         path: &DocumentPath<'_>,
@@ -32,7 +32,7 @@ pub trait FromValueAmong: Drop {
             (meaning names (view value.now)) result };
 }
 
-/// What the items of the list at the path mean, in order.
+/// Reads the items of the list at the path, in order.
 fn values_among<T: FromValueAmong, D: Named>(
     alloc: Global,
     path: &DocumentPath<'_>,
@@ -53,7 +53,8 @@ fn values_among<T: FromValueAmong, D: Named>(
     Ok(Sequence::from_vec(values))
 }
 
-/// A list of `least` to `most` items: 104, 305 and 304 as for any list, or the faults of its items.
+/// Reads a list of `least` to `most` items. Fails with 104, 305 and 304 as for any list, or with the first fault of its
+/// items.
 pub fn list_among<T: FromValueAmong, D: Named>(
     alloc: Global,
     path: &DocumentPath<'_>,

@@ -15,7 +15,7 @@ use fx_walk::{DocumentPath, Named, Sequence};
 use serde_json::Value;
 use std::alloc::Global;
 
-/// A path: a list of crossings.
+/// Reads a path, which is a list of crossings.
 impl FromValueAmong for Path {
     ghost faults = { path_faults };
 
@@ -32,7 +32,7 @@ impl FromValueAmong for Path {
     }
 }
 
-/// A class's paths: a list of at least one.
+/// Reads the paths of a class, a list of at least one.
 pub fn read_paths<D: Named>(
     alloc: Global,
     path: &DocumentPath<'_>,

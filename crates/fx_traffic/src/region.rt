@@ -19,7 +19,7 @@ use fx_walk::{DocumentPath, object_of, refusal};
 use serde_json::Value;
 use std::alloc::Global;
 
-/// The values from one that the text `low` spells to one that `high` spells.
+/// Returns the values from the one that the text `low` spells to the one that `high` spells.
 fn span(axis: Axis, low: &[u8], high: &[u8]) -> Option<Range>
     ensures value { result ≡ span (value_on axis low.now) (value_on axis high.now) }
     ensures bound { IfSome result (IsOn axis) }
@@ -32,7 +32,7 @@ fn span(axis: Axis, low: &[u8], high: &[u8]) -> Option<Range>
     Some(Range { low, high, bits: 0 })
 }
 
-/// The addresses on the axis that begin as a prefix does.
+/// Returns the addresses on the axis that begin with a prefix.
 fn prefix_on(axis: Axis, text: &str) -> Option<Range>
     ensures value { result ≡ values_of (element.Prefix axis) text.now }
     ensures bound { IfSome result (IsOn axis) }
@@ -41,7 +41,7 @@ fn prefix_on(axis: Axis, text: &str) -> Option<Range>
     read_value(Element::Prefix(axis), text)
 }
 
-/// The value that the text spells, by itself.
+/// Returns the single value that the text spells.
 fn single_on(axis: Axis, text: &str) -> Option<Range>
     ensures value { result ≡ values_of (element.OnAxis axis) text.now }
     ensures bound { IfSome result (IsOn axis) }
@@ -54,7 +54,8 @@ fn single_on(axis: Axis, text: &str) -> Option<Range>
     })
 }
 
-/// The values on the axis that the text spells: a value, two with a hyphen between them, or a prefix of addresses.
+/// Returns the values on the axis that the text spells: a value, two values separated by a hyphen, or a prefix of
+/// addresses.
 fn values_on(axis: Axis, text: &str) -> Option<Range>
     ensures value { result ≡ values_on axis text.now }
     ensures bound { IfSome result (IsOn axis) }
@@ -68,7 +69,7 @@ fn values_on(axis: Axis, text: &str) -> Option<Range>
     }
 }
 
-/// All values on the axis.
+/// Returns all values on the axis.
 fn all_on(axis: Axis) -> Range
     ensures value { result ≡ all_on axis }
     ensures bound { IsOn axis result }
@@ -80,7 +81,7 @@ fn all_on(axis: Axis) -> Range
     }
 }
 
-/// Values on the axis: 104 for no text, 302 for a text that spells none.
+/// Reads values on the axis. Fails with 104 if the value is not a text, and with 302 if the text spells no values.
 fn values_at(
     alloc: Global,
     path: &DocumentPath<'_>,
@@ -100,8 +101,7 @@ fn values_at(
     }
 }
 
-/// The names of the members that give the values on the axes: those of the information elements
-/// (RFC 7012).
+/// The names of the members that give the values on the axes, which are those of the information elements (RFC 7012).
 const NAMES: [&str; AXES] = [
     "sourceIPv4Address",
     "destinationIPv4Address",
@@ -114,14 +114,14 @@ const NAMES: [&str; AXES] = [
     "destinationIPv6Address",
 ];
 
-/// The name of the member that gives the values on an axis.
+/// Returns the name of the member that gives the values on an axis.
 fn axis_name(axis: Axis) -> &'static str
     ensures { result.now ≡ axis_name axis }
 {
     NAMES[axis.index()]
 }
 
-/// The values on the axis that an object's member gives; all where it isn't there.
+/// Reads the values on the axis from an object's optional member, by default all values.
 fn axis_member(
     alloc: Global,
     path: &DocumentPath<'_>,
@@ -140,7 +140,7 @@ fn axis_member(
     }
 }
 
-/// The region with these bounds.
+/// Returns the region with these bounds.
 fn region_between(low: [u128; AXES], high: [u128; AXES]) -> Region
     requires { IsRegion (record { low = low; high = high }) }
     ensures { result ≡ record { low = low; high = high } }
@@ -151,14 +151,14 @@ fn region_between(low: [u128; AXES], high: [u128; AXES]) -> Region
     }
 }
 
-/// All fields.
+/// Returns the region of all fields.
 pub fn whole() -> Region
     ensures { result ≡ whole }
 {
     region_between([0; AXES], TOPS)
 }
 
-/// The region of the values that an object's members give.
+/// Reads the region of the values that an object's members give.
 fn region_in(alloc: Global, path: &DocumentPath<'_>, object: &Value) -> Result<Region, Fault>
     ensures { Reads (row_faults region_rows (pointer path.now) (view object.now))
         (region_of (view object.now)) result }
@@ -173,7 +173,7 @@ fn region_in(alloc: Global, path: &DocumentPath<'_>, object: &Value) -> Result<R
     Ok(region_between(low, high))
 }
 
-/// A region: an object that names axes, each with the values that packets may have on it.
+/// Reads a region: an object that names axes and gives the values that packets may have on each.
 pub fn read_region(alloc: Global, path: &DocumentPath<'_>, value: &Value) -> Result<Region, Fault>
     ensures { Reads (region_faults (pointer path.now) (view value.now)) (region_of (view value.now))
         result }

@@ -17,9 +17,9 @@ pub struct Target<'a> {
     pub class: u64,
     /// The number of the path, from 1 among those of its class.
     pub path: u64,
-    /// The packets of the class.
+    /// The region of the packets of the class.
     pub region: Region,
-    /// What they cross on the path.
+    /// The crossings of the path.
     pub crossings: &'a [Crossing],
     /// Whether the packets must never be counted.
     pub exempt: bool,
@@ -53,7 +53,7 @@ fn add_paths<'a>(
         → of_targets.AreRegions targets.new.items) }
 {
     let region = class.region();
-    // For the prover alone: the bounds of a region hold.
+    // The prover needs this call: it shows that the bounds of a region hold.
     let _greatest = region.far_corner();
     let exempt = class.exempt();
     let paths = class.paths();
@@ -69,7 +69,7 @@ fn add_paths<'a>(
     Ok(())
 }
 
-/// The paths of these classes, in order.
+/// Returns the paths of these classes, in order.
 fn targets_of<'a>(alloc: Global, classes: &'a [Class]) -> Result<Vec<Target<'a>>, AllocError>
     ensures items { IfOk result (λ ts. ts.items ≡ of_targets.targets_of classes.now) }
     ensures regions { IfOk result (λ ts. of_targets.AreRegions ts.items) }
@@ -82,9 +82,9 @@ fn targets_of<'a>(alloc: Global, classes: &'a [Class]) -> Result<Vec<Target<'a>>
 }
 
 impl Traffic {
-    /// The paths of all classes, in document order.
+    /// Returns the paths of all classes, in document order.
     ///
-    /// Fails with 900, at no place, for want of memory.
+    /// Fails with 900, at no place, if out of memory.
     pub fn targets(&self, alloc: Global) -> Result<Vec<Target<'_>>, Fault>
         ensures items { IfOk result (λ ts. ts.items ≡ of_targets.targets_of self.now) }
         ensures regions { IfOk result (λ ts. of_targets.AreRegions ts.items) }

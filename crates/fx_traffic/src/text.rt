@@ -10,7 +10,7 @@ use fx_walk::DocumentPath;
 use serde_json::Value;
 use std::alloc::Global;
 
-/// A name: 104 for no text, 302 for a text that is no name.
+/// Reads a name. Fails with 104 if the value is not a text, and with 302 if the text is not a name.
 pub fn read_name(alloc: Global, path: &DocumentPath<'_>, value: &Value) -> Result<Name, Fault>
     ensures { Reads (name_faults (pointer path.now) (view value.now)) (text_of (view value.now))
         result }

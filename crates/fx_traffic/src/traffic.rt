@@ -1,4 +1,4 @@
-//! A declaration of traffic as a whole.
+//! The declaration of the traffic of a network.
 ghost use Rattle.std.specs.Prelude.{◌≡◌, ℕ, List, [], map, codes};
 ghost use Rattle.serde_json.specs.View.{view};
 ghost use Rattle.fx_walk.specs.Pointer.{pointer};
@@ -33,21 +33,21 @@ impl Model for Traffic {
 }
 
 impl Traffic {
-    /// The classes of its packets, in document order.
+    /// Returns the classes of its packets, in document order.
     pub fn classes(&self) -> &Classes
         ensures { result.now ≡ self.now }
     {
         &self.classes
     }
 
-    /// Returns the name of the class of this number, counted from 1, or none where there is no such class.
+    /// Returns the name of the class of this number, counted from 1, or `None` if there is no such class.
     pub fn class_name(&self, number: u64) -> Option<&str> {
         let name = entry_numbered(self.names.as_slice(), number)?;
         Some(name.as_str())
     }
 }
 
-/// Returns the name of a class, or an empty text where the value has none.
+/// Returns the name of a class, or an empty text if it has none.
 fn name_of(class: &Value) -> &str {
     let Some(name) = class.get("name") else {
         return "";
@@ -89,7 +89,7 @@ fn classes_member<T: Named>(
     }
 }
 
-/// The declaration that stands at the path.
+/// Reads the declaration at the path.
 fn traffic_at<T: Named>(
     alloc: Global,
     path: &DocumentPath<'_>,
@@ -108,7 +108,7 @@ fn traffic_at<T: Named>(
     })
 }
 
-/// The declaration of the traffic that crosses these devices.
+/// Reads the declaration of the traffic that crosses these devices.
 pub(crate) fn read_classes<T: Named>(
     alloc: Global,
     value: &Value,
@@ -120,14 +120,14 @@ pub(crate) fn read_classes<T: Named>(
     traffic_at(alloc, &DocumentPath::Root, value, devices)
 }
 
-/// Reads the declaration of the traffic that crosses a network: what it means, or its first fault in the order
-/// of the walk, at its JSON Pointer in the document (RFC 6901).
+/// Reads the declaration of the traffic that crosses a network. Fails with the first fault in the order of the walk, at
+/// its JSON Pointer in the document (RFC 6901).
 ///
-/// Devices are numbered from 1 in the network's order. An axis that a region doesn't name has all its values.
+/// Devices are numbered from 1 in the network's order. An axis that a region does not name has all its values.
 ///
-/// 102 a member that may not be there, 103 one that is missing, 104 a value of another kind, 301 the name of an
-/// earlier class, 302 a text that isn't allowed, 303 the name of no device, 304 a class without a path, 305 too
-/// many entries; 900, at no place, for want of memory.
+/// Fails with 102 for a member that is not allowed, 103 for a missing member, 104 for a value of the wrong kind, 301
+/// for the name of an earlier class, 302 for a text that is not allowed, 303 for a name of no device, 304 for a class
+/// without a path, 305 for too many entries, and 900, at no place, if out of memory.
 pub fn read_traffic(alloc: Global, value: &Value, plan: &Plan) -> Result<Traffic, Fault>
     ensures { Reads (traffic_faults (device_names plan.now) [] (view value.now))
         (traffic_of (device_names plan.now) (view value.now)) result }
