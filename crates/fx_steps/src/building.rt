@@ -1,4 +1,4 @@
-//! A run of one packet in the making.
+//! A run of one packet under construction.
 ghost use Rattle.std.specs.Prelude.{◌≡◌, ◌≤◌, ◌<◌, ◌+◌, ◌++◌, ◌∷◌, [], List, length, take, drop, Some, IfOk, OnOk, slice_get};
 ghost use Rattle.std.specs.List.{AllByRecursion};
 ghost use Rattle.fx_leaf.specs.declared.verdict.Fate as of_fate;
@@ -27,7 +27,8 @@ use fx_run_text::{Choices, Step};
 use fx_tables::{Crossing, HolderName, Net, Occurrence};
 use std::alloc::{AllocError, Global};
 
-/// The steps so far, the records on their way, of which the last leaves first, and how many wait where.
+/// The steps so far, the pending records, of which the last leaves first, and the number of records waiting at each
+/// place.
 #[derive(Drop)]
 pub(crate) struct Building {
     steps: Vec<Step>,
@@ -35,7 +36,7 @@ pub(crate) struct Building {
     waiting: Waiting,
 }
 
-/// The name of the holder at this place.
+/// Returns the name of the holder at this place.
 fn name_at(names: &[HolderName], holder: usize) -> HolderName
     requires { holder < length names.now }
     ensures { slice_get names.now holder ≡ Some result }
@@ -44,7 +45,7 @@ fn name_at(names: &[HolderName], holder: usize) -> HolderName
 }
 
 impl Building {
-    /// No step so far, and nothing on its way.
+    /// Returns a run without steps or pending records.
     pub(crate) fn new(alloc: Global, net: &Net) -> Result<Building, AllocError>
         ensures { IfOk result (λ new. (new.steps.items ≡ []) × (new.plan.pending.items ≡ [])
             × Wait net.now [] new.waiting) }
@@ -56,7 +57,8 @@ impl Building {
         })
     }
 
-    /// The step of a record that waits at this holder behind all that are pending; what comes of it comes last.
+    /// Returns the step of a record that waits at this holder, after all pending records. The records that result are
+    /// appended to the pending ones.
     fn leave_holder(
         &mut self,
         alloc: Global,
@@ -78,7 +80,8 @@ impl Building {
         self.plan.leave(alloc, costs, holder, fate, name_at(names, holder), position)
     }
 
-    /// The step of a record that waits on this link behind all that are pending; what comes of it comes last.
+    /// Returns the step of a record that waits on this link, after all pending records. The records that result are
+    /// appended to the pending ones.
     fn leave_link(
         &mut self,
         alloc: Global,
@@ -99,7 +102,7 @@ impl Building {
         self.plan.arrive(alloc, costs, link, layout, fate, position)
     }
 
-    /// What was put behind so many pending records waits, too.
+    /// Counts the pending records from index `from` on as waiting too.
     fn count_behind(&mut self, net: &Net, from: usize)
         requires behind { from ≤ length self.old.plan.pending.items }
         requires waiting { Wait net.now (take from self.old.plan.pending.items) self.old.waiting }
@@ -113,7 +116,8 @@ impl Building {
         self.waiting.add_all(&self.plan.pending.as_slice()[from..]);
     }
 
-    /// The step of a record that is behind all that are pending; what comes of it comes last.
+    /// Returns the step of a record that waits after all pending records. The records that result are appended to the
+    /// pending ones.
     fn step_of(
         &mut self,
         alloc: Global,
@@ -138,7 +142,7 @@ impl Building {
         }
     }
 
-    /// The record on top, which was pending behind all others, leaves by its step.
+    /// Makes the step by which the record `top`, the last of the pending ones, leaves.
     fn advance(
         &mut self,
         alloc: Global,
@@ -168,7 +172,7 @@ impl Building {
         Ok(())
     }
 
-    /// All that is pending leaves, and all that comes of it.
+    /// Makes the steps by which all pending records leave, and all records that result from them.
     pub(crate) fn finish(
         &mut self,
         alloc: Global,
@@ -198,7 +202,8 @@ impl Building {
         Ok(())
     }
 
-    /// The packet makes the crossing of this number, where it meets the caches of these occurrences.
+    /// Makes the step by which the packet crosses at the crossing of this number, where it meets the caches of these
+    /// occurrences.
     pub(crate) fn cross(
         &mut self,
         alloc: Global,
@@ -236,8 +241,9 @@ impl Building {
         Ok(())
     }
 
-    /// The packet makes the crossing of this number, and all that comes of it leaves, so that with the rest of its path it
-    /// comes to this fate; the fate that is left for the rest.
+    /// Makes the packet's crossing of this number, and the steps by which all records that result leave, so that
+    /// together with the rest of the path the packet comes to the fate `left`. Returns the fate that is left for the
+    /// rest of the path.
     pub(crate) fn make_crossing(
         &mut self,
         alloc: Global,
@@ -282,7 +288,7 @@ impl Building {
         Ok(later)
     }
 
-    /// Its steps.
+    /// Returns the steps of the run.
     pub(crate) fn into_steps(self) -> Vec<Step>
         ensures { result.items ≡ self.steps.items }
     {

@@ -3,10 +3,10 @@ ghost use Rattle.std.specs.Prelude.{◌≡◌};
 ghost use Rattle.fx_leaf.specs.declared.verdict.Fate.TheVariants as fate;
 ghost use Rattle.fx_steps.specs.Costs as costs;
 
-/// More steps than a run may have.
+/// One more than the number of steps that a run may have.
 pub(crate) const OVER_LIMIT: u32 = 1_000_001;
 
-/// The least numbers of steps in which something comes to each fate, where they are at most 1,000,000; else 1,000,001.
+/// The least number of steps to each fate, where any number above 1,000,000 is written as 1,000,001.
 #[derive(Clone, Copy, Default)]
 pub(crate) struct Costs {
     pub(crate) never: u32,
@@ -15,14 +15,14 @@ pub(crate) struct Costs {
     pub(crate) unassigned: u32,
 }
 
-/// Both numbers together.
+/// Returns the sum of both numbers, at most 1,000,001.
 pub(crate) fn limited_sum(one: u32, other: u32) -> u32
     ensures { result ≡ costs.limited_sum one other }
 {
     one.saturating_add(other).min(OVER_LIMIT)
 }
 
-/// The least of these numbers.
+/// Returns the least of these numbers, or 1,000,001 if there are none.
 fn least_number(numbers: &[u32]) -> u32
     ensures { result ≡ costs.least_number numbers.now }
 {
@@ -33,7 +33,7 @@ fn least_number(numbers: &[u32]) -> u32
 }
 
 impl Costs {
-    /// Nothing happens.
+    /// Returns the costs if nothing happens.
     pub(crate) fn of_never() -> Costs
         ensures { result ≡ costs.costs_of_never }
     {
@@ -45,7 +45,7 @@ impl Costs {
         }
     }
 
-    /// It is counted.
+    /// Returns the costs of a record that is counted.
     pub(crate) fn of_once() -> Costs
         ensures { result ≡ costs.costs_of_once }
     {
@@ -57,7 +57,7 @@ impl Costs {
         }
     }
 
-    /// It is unassigned.
+    /// Returns the costs of a record that is unassigned.
     pub(crate) fn of_unassigned() -> Costs
         ensures { result ≡ costs.costs_of_unassigned }
     {
@@ -69,7 +69,7 @@ impl Costs {
         }
     }
 
-    /// There is no way.
+    /// Returns the costs if there is no way to any fate.
     pub(crate) fn of_no_way() -> Costs
         ensures { result ≡ costs.costs_of_no_way }
     {
@@ -81,7 +81,7 @@ impl Costs {
         }
     }
 
-    /// By one step more.
+    /// Returns the costs with one more step.
     pub(crate) fn one_step_more(self) -> Costs
         ensures { result ≡ costs.one_step_more self }
     {
@@ -93,7 +93,7 @@ impl Costs {
         }
     }
 
-    /// One of both happens.
+    /// Returns the costs if one of both happens.
     pub(crate) fn either(self, other: Costs) -> Costs
         ensures { result ≡ costs.either_costs self other }
     {
@@ -105,7 +105,7 @@ impl Costs {
         }
     }
 
-    /// Both happen.
+    /// Returns the costs if both happen.
     pub(crate) fn both(self, other: Costs) -> Costs
         ensures { result ≡ costs.both_costs self other }
     {
@@ -120,7 +120,7 @@ impl Costs {
         }
     }
 
-    /// The least number of steps in which both come to be counted more than once.
+    /// Returns the least number of steps after which both together are counted more than once.
     fn both_many(self, other: Costs) -> u32
         ensures { result ≡ costs.both_cost self other fate.Many }
     {
@@ -134,7 +134,7 @@ impl Costs {
         ])
     }
 
-    /// The least number of steps in which one of both comes to be unassigned.
+    /// Returns the least number of steps after which one of both is unassigned.
     fn both_unassigned(self, other: Costs) -> u32
         ensures { result ≡ costs.both_cost self other fate.Unassigned }
     {

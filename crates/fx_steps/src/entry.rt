@@ -1,4 +1,5 @@
-//! The least numbers of steps of records that come to a collecting process, from those at the processes that it feeds.
+//! The least numbers of steps of records that arrive at a collecting process, from those at the processes that it
+//! feeds.
 ghost use Rattle.std.specs.Prelude.{◌≡◌, ◌&&◌, ◌==◌, slice_get, Some};
 ghost use Rattle.std.specs.List.{list_all};
 ghost use Rattle.fx_layout.specs.Keys as keys;
@@ -10,7 +11,7 @@ use crate::table::PacketCosts;
 use fx_layout::{Key, Layout};
 use fx_tables::{AggregationEntry, MatchEntry, Net, Process};
 
-/// Whether all of these entries can be read from a key and hold.
+/// Returns whether all of these entries can be read from the key and match it.
 fn entries_hold(key: &Key, entries: &[MatchEntry]) -> bool
     ensures { result ≡ list_all (λ e. keys.reads key.now.layout e.axis e.bits
         && keys.bits_on key.now
@@ -20,7 +21,7 @@ fn entries_hold(key: &Key, entries: &[MatchEntry]) -> bool
         && key.bits_on(e.axis, e.bits) == e.value)
 }
 
-/// Whether an aggregation takes a key.
+/// Returns whether the aggregation takes the key.
 pub(crate) fn takes(net: &Net, key: &Key, aggregation: &AggregationEntry) -> bool
     ensures { result ≡ network.takes net.now key.now aggregation.now }
 {
@@ -28,7 +29,7 @@ pub(crate) fn takes(net: &Net, key: &Key, aggregation: &AggregationEntry) -> boo
         && entries_hold(key, aggregation.matches())
 }
 
-/// The costs of what is counted of records that come to the collecting process at this place.
+/// Returns the costs of what is counted of records that arrive at the collecting process at this place.
 pub(crate) fn tally_costs(net: &Net, layout: &Layout, process: usize) -> Costs
     ensures { result ≡ tabled.tally_costs net.now layout.now process }
 {
@@ -42,7 +43,7 @@ pub(crate) fn tally_costs(net: &Net, layout: &Layout, process: usize) -> Costs
 }
 
 impl PacketCosts<'_, '_> {
-    /// The costs of a record that the holder at this place takes in.
+    /// Returns the costs of a record that the holder at this place takes in.
     pub(crate) fn holder_costs(&self, holder: usize) -> Costs
         ensures { let c = self.now in
             result ≡ tabled.holder_costs c.table c.tables.net c.tables.numbering holder }
@@ -52,7 +53,7 @@ impl PacketCosts<'_, '_> {
         self.sent_costs(number, named).one_step_more()
     }
 
-    /// The costs of what these aggregations take in.
+    /// Returns the costs of what these aggregations take in.
     pub(crate) fn all_taken_costs(&self, key: &Key, aggregations: &[AggregationEntry]) -> Costs
         ensures { let c = self.now in
             result ≡ tabled.all_taken_costs c.table c.tables.net c.tables.numbering key.now
@@ -71,14 +72,14 @@ impl PacketCosts<'_, '_> {
         }
     }
 
-    /// The packet's key of this layout.
+    /// Returns the packet's key in this layout.
     pub(crate) fn key_of(&self, layout: &Layout) -> Key
         ensures { result ≡ keys.key_of layout.now self.now.packet.fields }
     {
         layout.key_of(self.fields())
     }
 
-    /// The costs of what a collecting process does with records of the layout of this number.
+    /// Returns the costs of what a collecting process does with records of the layout of this number.
     fn handled_costs(&self, number: usize, layout: &Layout, process: &Process) -> Costs
         ensures { let c = self.now in
             result ≡ tabled.handled_costs c.table c.tables.net c.tables.numbering c.packet.fields
@@ -89,7 +90,8 @@ impl PacketCosts<'_, '_> {
         forwarded.both(self.all_taken_costs(&key, process.aggregations()))
     }
 
-    /// The costs of what the collecting process at this place does with them; of nothing, where there is none.
+    /// Returns the costs of what the collecting process at this place does with them, or the costs of nothing if there
+    /// is no such process.
     pub(crate) fn handled_costs_at(&self, number: usize, layout: &Layout, process: usize) -> Costs
         ensures { let c = self.now in
             result ≡ tabled.handled_costs c.table c.tables.net c.tables.numbering c.packet.fields
@@ -101,8 +103,8 @@ impl PacketCosts<'_, '_> {
         }
     }
 
-    /// The entry for the collecting process at this place and the layout of this number, from the rows of the processes
-    /// that it feeds.
+    /// Returns the entry for the collecting process at this place and the layout of this number, from the rows of the
+    /// processes that it feeds.
     pub(crate) fn entry_from(&self, process: usize, number: usize, layout: &Layout) -> Costs
         ensures { let c = self.now in
             result ≡ tabled.cost_entry_from c.table c.tables.net c.tables.numbering c.packet.fields

@@ -1,4 +1,4 @@
-//! In how few steps a packet comes to each outcome, and the run of one packet that takes them.
+//! The least number of steps in which a packet comes to each outcome, and the run of one packet that takes them.
 #![tactic(auto)]
 
 mod building;

@@ -8,7 +8,7 @@ ghost use Rattle.fx_steps.specs.Names as naming;
 use fx_tables::{DeviceEntry, HolderName, Net};
 use std::alloc::{AllocError, Global};
 
-/// The holder of this name, if there is one, has it.
+/// Records the name for its holder, if there is one.
 fn note(names: &mut [HolderName], net: &Net, name: HolderName)
     ensures kept { naming.Keep net.now names.old names.new }
     ensures noted { naming.Note net.now names.new name }
@@ -20,7 +20,7 @@ fn note(names: &mut [HolderName], net: &Net, name: HolderName)
     }
 }
 
-/// Each of so many caches of a device, if it is there, has its name.
+/// Records the names of the first `count` caches of a device, insofar as they exist.
 fn note_caches(names: &mut [HolderName], net: &Net, device: u64, count: usize)
     ensures kept { naming.Keep net.now names.old names.new }
     ensures noted { (cache : ℕ) → cache < count → naming.Note net.now names.new (variants.Cache
@@ -32,7 +32,7 @@ fn note_caches(names: &mut [HolderName], net: &Net, device: u64, count: usize)
     }
 }
 
-/// Each of so many aggregations of a collecting process, if it is there, has its name.
+/// Records the names of the first `count` aggregations of a collecting process, insofar as they exist.
 fn note_aggregations(names: &mut [HolderName], net: &Net, device: u64, process: u64, count: usize)
     ensures kept { naming.Keep net.now names.old names.new }
     ensures noted { (aggregation : ℕ) → aggregation < count
@@ -48,7 +48,7 @@ fn note_aggregations(names: &mut [HolderName], net: &Net, device: u64, process: 
     }
 }
 
-/// How many aggregations the collecting process at this place has.
+/// Returns the number of aggregations of the collecting process at this place.
 fn count_aggregations(net: &Net, place: usize) -> usize
     ensures { result ≡ length (network.aggregations_of (slice_get net.now.processes place)) }
 {
@@ -58,7 +58,7 @@ fn count_aggregations(net: &Net, place: usize) -> usize
     }
 }
 
-/// Each aggregation of the collecting processes at these places has its name.
+/// Records the names of the aggregations of the collecting processes at these places.
 fn note_processes(names: &mut [HolderName], net: &Net, device: u64, places: &[usize])
     ensures kept { naming.Keep net.now names.old names.new }
     ensures noted { (process place aggregation : ℕ) → slice_get places.now process ≡ Some place
@@ -72,7 +72,7 @@ fn note_processes(names: &mut [HolderName], net: &Net, device: u64, places: &[us
     }
 }
 
-/// Each holder of the device of this number has its name.
+/// Records the names of the holders of the device of this number.
 fn note_device(names: &mut [HolderName], net: &Net, number: u64, device: &DeviceEntry)
     requires { network.entry_numbered net.now.devices number ≡ Some device.now }
     ensures kept { naming.Keep net.now names.old names.new }
@@ -83,7 +83,7 @@ fn note_device(names: &mut [HolderName], net: &Net, number: u64, device: &Device
     note_processes(names, net, number, device.processes());
 }
 
-/// So many names that name nothing.
+/// Returns the given number of names that name nothing.
 fn no_names(alloc: Global, count: usize) -> Result<Vec<HolderName>, AllocError>
     ensures { IfOk result (λ names. length names.items ≡ count) }
 {
@@ -97,7 +97,7 @@ fn no_names(alloc: Global, count: usize) -> Result<Vec<HolderName>, AllocError>
     Ok(names)
 }
 
-/// Each holder of each device of the network has its name.
+/// Records the names of the holders of all devices of the network.
 fn note_devices(names: &mut [HolderName], net: &Net)
     requires { length names.old ≡ length net.now.holders }
     ensures { naming.NameAll net.now names.new }
@@ -108,7 +108,7 @@ fn note_devices(names: &mut [HolderName], net: &Net)
     }
 }
 
-/// The names of the holders of a network, by place.
+/// Returns the names of a network's holders, by place.
 pub(crate) fn names_of(alloc: Global, net: &Net) -> Result<Vec<HolderName>, AllocError>
     ensures { IfOk result (λ names. naming.NameAll net.now names.items) }
 {

@@ -16,7 +16,7 @@ use fx_boxes::{Fields, Region};
 use fx_leaf::Tables;
 use fx_tables::{Crossing, Occurrence, Packet, Point, Selection};
 
-/// Whether a selection process with this region, if any, selects a packet with these fields.
+/// Returns whether a selection process with this region, if any, selects a packet with these fields.
 fn selects(region: Option<Region>, fields: &Fields) -> bool
     ensures { result ≡ met.selects region fields.now }
 {
@@ -27,8 +27,8 @@ fn selects(region: Option<Region>, fields: &Fields) -> bool
 }
 
 impl PacketCosts<'_, '_> {
-    /// The costs of the packet, where a selection process meets it, if it selects it and has a cache, and of something
-    /// else.
+    /// Returns the costs of the packet at a selection process, if the process selects it and has a cache, together with
+    /// `others`.
     fn with_selection(&self, selection: Selection, others: Costs) -> Costs
         ensures { let c = self.now in
             let costs = tabled.occurrence_costs c.table c.tables.net c.tables.numbering in
@@ -45,7 +45,7 @@ impl PacketCosts<'_, '_> {
         }
     }
 
-    /// The costs of the packet, where these selection processes of a point meet it, and of something else.
+    /// Returns the costs of the packet at these selection processes of a point, together with `others`.
     fn with_selections(&self, selections: &[Selection], others: Costs) -> Costs
         ensures { let c = self.now in
             let costs = tabled.occurrence_costs c.table c.tables.net c.tables.numbering in
@@ -61,8 +61,8 @@ impl PacketCosts<'_, '_> {
         }
     }
 
-    /// The costs of the packet, where a point of the crossing's device meets it, if it watches the crossing, and of
-    /// something else.
+    /// Returns the costs of the packet at a point of the crossing's device, if the point watches the crossing, together
+    /// with `others`.
     fn with_point(&self, crossing: &Crossing, point: &Point, others: Costs) -> Costs
         ensures { let c = self.now in
             let costs = tabled.occurrence_costs c.table c.tables.net c.tables.numbering in
@@ -77,7 +77,7 @@ impl PacketCosts<'_, '_> {
         }
     }
 
-    /// The costs of the packet, where these points of the crossing's device meet it.
+    /// Returns the costs of the packet at these points of the crossing's device.
     fn points_costs(&self, crossing: &Crossing, points: &[Point]) -> Costs
         ensures { let c = self.now in
             (number : ℕ) → result ≡ tabled.occurrence_costs c.table c.tables.net c.tables.numbering
@@ -92,7 +92,7 @@ impl PacketCosts<'_, '_> {
         }
     }
 
-    /// The costs of the packet, where it makes a crossing.
+    /// Returns the costs of the packet at a crossing.
     fn crossing_costs(&self, crossing: &Crossing) -> Costs
         ensures { let c = self.now in
             result ≡ tabled.occurrence_costs c.table c.tables.net c.tables.numbering
@@ -102,7 +102,7 @@ impl PacketCosts<'_, '_> {
         self.points_costs(crossing, points)
     }
 
-    /// The costs of what the caches of these occurrences take in.
+    /// Returns the costs of what the caches of these occurrences take in.
     pub(crate) fn occurrence_costs(&self, occurrences: &[Occurrence]) -> Costs
         ensures { let c = self.now in
             result ≡ tabled.occurrence_costs c.table c.tables.net c.tables.numbering
@@ -117,7 +117,7 @@ impl PacketCosts<'_, '_> {
         }
     }
 
-    /// The costs of the packet, where it makes these crossings.
+    /// Returns the costs of the packet over these crossings.
     pub(crate) fn path_costs(&self, path: &[Crossing]) -> Costs
         ensures { let c = self.now in
             result ≡ tabled.path_costs c.table c.tables.net c.tables.numbering c.packet.fields
@@ -133,8 +133,8 @@ impl PacketCosts<'_, '_> {
     }
 }
 
-/// The least numbers of steps in which a packet, on this path, comes to each fate, where they are at most 1,000,000. The
-/// rows are filled for the packet, whatever they held. It takes no memory.
+/// Returns the least number of steps in which a packet on this path comes to each fate, insofar as it is at most
+/// 1,000,000. The rows are filled for the packet, whatever they held before. Allocates no memory.
 pub(crate) fn least_steps(
     rows: &mut [CostRow],
     tables: &Tables<'_>,

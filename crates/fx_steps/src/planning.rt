@@ -1,4 +1,4 @@
-//! What comes of a step, so that a wanted fate is met at the least cost.
+//! The result of a step, planned so that a wanted fate is reached at the least cost.
 ghost use Rattle.std.specs.Prelude.{◌≡◌, ◌≤◌, length, [], ◌∷◌, IfOk, OnOk, slice_get, suc, Some, None};
 ghost use Rattle.fx_leaf.specs.Tables as by_table;
 ghost use Rattle.fx_tables.specs.Network as network;
@@ -18,21 +18,21 @@ use fx_leaf::Fate;
 use fx_tables::{AggregationEntry, Exporter, Net, Occurrence, Process};
 use std::alloc::AllocError;
 
-/// The destination at this place.
+/// Returns the destination at this place.
 fn destination_at(destinations: &[Option<usize>], place: usize) -> Option<Option<usize>>
     ensures { result ≡ slice_get destinations.now place }
 {
     destinations.get(place).copied()
 }
 
-/// The exporting process at this place.
+/// Returns the exporting process at this place.
 fn exporter_at(net: &Net, place: usize) -> Option<&Exporter>
     ensures { views.now_of result ≡ slice_get net.now.exporters place }
 {
     net.exporters().get(place)
 }
 
-/// The collecting process at this place.
+/// Returns the collecting process at this place.
 fn process_at(net: &Net, place: usize) -> Option<&Process>
     ensures { views.now_of result ≡ slice_get net.now.processes place }
 {
@@ -40,7 +40,7 @@ fn process_at(net: &Net, place: usize) -> Option<&Process>
 }
 
 impl PacketCosts<'_, '_> {
-    /// The place of the first of these destinations by which it costs so much.
+    /// Returns the place of the first of these destinations that has this cost for the fate.
     fn cheapest_place(
         &self,
         layout: usize,
@@ -64,7 +64,7 @@ impl PacketCosts<'_, '_> {
         }
     }
 
-    /// The place of the cheapest of these destinations.
+    /// Returns the place of the cheapest of these destinations.
     fn choice_of(&self, layout: usize, destinations: &[Option<usize>], fate: Fate) -> usize
         ensures is { let c = self.now in
             result ≡ spread.choice_of c.table c.tables.net layout destinations.now fate }
@@ -74,7 +74,8 @@ impl PacketCosts<'_, '_> {
         self.cheapest_place(layout, destinations, fate, cost)
     }
 
-    /// The fate of what a collecting process sends of a record with this key, and that of what its aggregations take in.
+    /// Returns the fate of what a collecting process sends of a record with this key, and that of what its aggregations
+    /// take in.
     fn handling_shares(
         &self,
         number: usize,
@@ -93,7 +94,7 @@ impl PacketCosts<'_, '_> {
         shares(forwarded, taken, fate)
     }
 
-    /// The fate that is left behind the report's tally.
+    /// Returns the fate that is left after the tally of the report.
     fn fate_behind_tally(&self, number: usize, layout: &Layout, process: usize, fate: Fate) -> Fate
         ensures { let c = self.now in
             result ≡ planning.fate_behind_tally c.table c.tables.net c.tables.numbering
@@ -106,7 +107,7 @@ impl PacketCosts<'_, '_> {
 }
 
 impl StepPlan {
-    /// A record on the link of a destination, if it has one, comes last.
+    /// Appends a record on the link of a destination, if it has one.
     fn add_on_link(
         &mut self,
         layout: usize,
@@ -123,7 +124,7 @@ impl StepPlan {
         Ok(())
     }
 
-    /// Records to all of these destinations.
+    /// Appends records to all of these destinations.
     fn add_to_all(
         &mut self,
         costs: &PacketCosts<'_, '_>,
@@ -147,7 +148,7 @@ impl StepPlan {
         }
     }
 
-    /// A record to the destination at this place.
+    /// Appends a record to the destination at this place.
     fn add_to_place(
         &mut self,
         layout: usize,
@@ -165,7 +166,7 @@ impl StepPlan {
         }
     }
 
-    /// A record to the cheapest of these destinations, and its choice.
+    /// Appends a record to the cheapest of these destinations, and its choice.
     fn add_to_cheapest(
         &mut self,
         costs: &PacketCosts<'_, '_>,
@@ -185,7 +186,7 @@ impl StepPlan {
         self.add_to_place(layout, destinations, place, fate)
     }
 
-    /// What an exporting process sends, and what it chooses.
+    /// Appends what an exporting process sends and chooses.
     fn add_send(
         &mut self,
         costs: &PacketCosts<'_, '_>,
@@ -206,8 +207,8 @@ impl StepPlan {
         }
     }
 
-    /// What an exporting process sends, and what it chooses, where others are to cost so much; the fate that is left for
-    /// these.
+    /// Appends what an exporting process sends and chooses, given the costs of the others. Returns the fate that is
+    /// left for the others.
     fn add_send_before(
         &mut self,
         costs: &PacketCosts<'_, '_>,
@@ -230,8 +231,8 @@ impl StepPlan {
         Ok(other)
     }
 
-    /// What an exporting process sends, if it is there, where others are to cost so much, and what it chooses; the fate
-    /// that is left for the others.
+    /// Appends what an exporting process, if there is one, sends and chooses, given the costs of the others. Returns
+    /// the fate that is left for the others.
     fn add_send_at(
         &mut self,
         costs: &PacketCosts<'_, '_>,
@@ -255,7 +256,7 @@ impl StepPlan {
         }
     }
 
-    /// What the exporting processes at these places send, and what they choose.
+    /// Appends what the exporting processes at these places send and choose.
     pub(crate) fn add_sends(
         &mut self,
         costs: &PacketCosts<'_, '_>,
@@ -281,7 +282,7 @@ impl StepPlan {
         }
     }
 
-    /// A record comes to a holder where others are to cost so much, as a new one; the fate that is left for the others.
+    /// Appends a new record at a holder, given the costs of the others. Returns the fate that is left for the others.
     fn add_holding(
         &mut self,
         costs: &PacketCosts<'_, '_>,
@@ -304,7 +305,7 @@ impl StepPlan {
         Ok(other)
     }
 
-    /// What these aggregations take in.
+    /// Appends what these aggregations take in.
     fn add_takings(
         &mut self,
         costs: &PacketCosts<'_, '_>,
@@ -331,7 +332,7 @@ impl StepPlan {
         }
     }
 
-    /// What a collecting process does with a record of the layout of this number.
+    /// Appends what results from a record of the layout of this number that a collecting process handles.
     fn add_handling(
         &mut self,
         costs: &PacketCosts<'_, '_>,
@@ -353,7 +354,8 @@ impl StepPlan {
         self.add_takings(costs, &key, process.aggregations(), other)
     }
 
-    /// What a collecting process, if it is there, does with a record of the layout of this number.
+    /// Appends what results from a record of the layout of this number that a collecting process, if there is one,
+    /// handles.
     fn add_handling_at(
         &mut self,
         costs: &PacketCosts<'_, '_>,
@@ -375,7 +377,7 @@ impl StepPlan {
         }
     }
 
-    /// What comes of a record of the layout of this number at the collecting process at this place.
+    /// Appends what results from a record of the layout of this number at the collecting process at this place.
     pub(crate) fn add_arrival(
         &mut self,
         costs: &PacketCosts<'_, '_>,
@@ -405,7 +407,7 @@ impl StepPlan {
         )
     }
 
-    /// What comes of a record that leaves the holder at this place.
+    /// Appends what results from a record that leaves the holder at this place.
     pub(crate) fn add_leaving(
         &mut self,
         costs: &PacketCosts<'_, '_>,
@@ -430,7 +432,7 @@ impl StepPlan {
         )
     }
 
-    /// What the caches of these occurrences take in.
+    /// Appends what the caches of these occurrences take in.
     pub(crate) fn add_meetings(
         &mut self,
         costs: &PacketCosts<'_, '_>,

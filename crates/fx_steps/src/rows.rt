@@ -1,4 +1,4 @@
-//! Rows are filled, from the collecting processes of highest rank on.
+//! Filling the rows, starting from the collecting processes of highest rank.
 ghost use Rattle.std.specs.Prelude.{◌≡◌, ◌<◌, length, slice_set};
 ghost use Rattle.fx_leaf.specs.Tables as by_table;
 ghost use Rattle.fx_steps.specs.CostTables as tabled;
@@ -8,7 +8,7 @@ use fx_leaf::Tables;
 use fx_tables::Packet;
 
 impl PacketCosts<'_, '_> {
-    /// The row for the collecting process at this place, from the rows of the processes that it feeds.
+    /// Returns the row for the collecting process at this place, from the rows of the processes that it feeds.
     fn row_from(&self, process: usize) -> CostRow
         requires { by_table.AreTables self.now.tables }
         ensures { let c = self.now in
@@ -25,7 +25,7 @@ impl PacketCosts<'_, '_> {
     }
 }
 
-/// Another row for the collecting process at this place.
+/// Replaces the row for the collecting process at this place.
 fn set_row(rows: &mut [CostRow], process: usize, row: CostRow)
     requires { process < length rows.old }
     ensures { rows.new ≡ slice_set rows.old process row }
@@ -33,7 +33,7 @@ fn set_row(rows: &mut [CostRow], process: usize, row: CostRow)
     rows[process] = row;
 }
 
-/// Each row is filled, behind those of the processes that its own feeds.
+/// Fills each row after those of the processes that its own process feeds.
 pub(crate) fn fill(rows: &mut [CostRow], tables: &Tables<'_>, packet: &Packet)
     requires tables { by_table.AreTables tables.now }
     requires room { length rows.old ≡ length tables.now.net.processes }

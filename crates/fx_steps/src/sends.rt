@@ -1,4 +1,4 @@
-//! The least numbers of steps of records that are sent, from those at the processes to which they come.
+//! The least numbers of steps of records that are sent, from those at the processes where they arrive.
 ghost use Rattle.std.specs.Prelude.{◌≡◌, slice_get, List};
 ghost use Rattle.fx_tables.specs.Network as network;
 ghost use Rattle.fx_steps.specs.CostTables as tabled;
@@ -8,7 +8,7 @@ use crate::table::PacketCosts;
 use fx_tables::Exporter;
 
 impl PacketCosts<'_, '_> {
-    /// The costs of what is sent to a destination.
+    /// Returns the costs of what is sent to a destination.
     pub(crate) fn destination_costs(&self, layout: usize, destination: Option<usize>) -> Costs
         ensures { let c = self.now in
             result ≡ tabled.destination_costs c.table c.tables.net layout destination }
@@ -22,7 +22,7 @@ impl PacketCosts<'_, '_> {
         }
     }
 
-    /// The costs of what is sent to all of these destinations.
+    /// Returns the costs of what is sent to all of these destinations.
     pub(crate) fn all_destinations_costs(
         &self,
         layout: usize,
@@ -40,7 +40,7 @@ impl PacketCosts<'_, '_> {
         }
     }
 
-    /// The costs of what is sent to one of these destinations.
+    /// Returns the costs of what is sent to one of these destinations.
     pub(crate) fn one_destination_costs(
         &self,
         layout: usize,
@@ -58,7 +58,7 @@ impl PacketCosts<'_, '_> {
         }
     }
 
-    /// The costs of what an exporting process sends.
+    /// Returns the costs of what an exporting process sends.
     pub(crate) fn send_costs(&self, layout: usize, exporter: &Exporter) -> Costs
         ensures { let c = self.now in
             result ≡ tabled.send_costs c.table c.tables.net layout exporter.now }
@@ -70,7 +70,7 @@ impl PacketCosts<'_, '_> {
         }
     }
 
-    /// The costs of what the exporting process at a place sends, if there is one, and of something else.
+    /// Returns the costs of what the exporting process at a place sends, if there is one, together with `others`.
     fn with_send_costs(&self, layout: usize, place: usize, others: Costs) -> Costs
         ensures { let c = self.now in
             let net = c.tables.net in (es : List network.Exporter)
@@ -84,7 +84,7 @@ impl PacketCosts<'_, '_> {
         }
     }
 
-    /// The costs of what each of the exporting processes at these places sends.
+    /// Returns the costs of what each of the exporting processes at these places sends.
     pub(crate) fn sent_costs(&self, layout: usize, places: &[usize]) -> Costs
         ensures { let c = self.now in
             let net = c.tables.net in result ≡ tabled.sent_costs c.table net layout

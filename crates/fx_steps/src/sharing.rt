@@ -1,4 +1,4 @@
-//! A wanted fate is shared out between two parts.
+//! Dividing a wanted fate between two parts.
 ghost use Rattle.std.specs.Prelude.{◌≡◌, ◌==◌, if◌then◌else◌};
 ghost use Rattle.fx_leaf.specs.declared.verdict.Fate as of_fate;
 ghost use Rattle.fx_leaf.specs.declared.verdict.Fate.TheVariants as fate;
@@ -8,7 +8,7 @@ ghost use Rattle.fx_steps.specs.Spread as spread;
 use crate::costs::{Costs, limited_sum};
 use fx_leaf::Fate;
 
-/// The least number of steps to this fate.
+/// Returns the least number of steps to this fate.
 pub(crate) fn cost_of(one: Costs, fate: Fate) -> u32
     ensures { result ≡ costs.cost_of one fate }
 {
@@ -21,14 +21,14 @@ pub(crate) fn cost_of(one: Costs, fate: Fate) -> u32
     }
 }
 
-/// What a pair of fates costs.
+/// Returns the cost of a pair of fates.
 fn pair_cost(one: Costs, other: Costs, pair: (Fate, Fate)) -> u32
     ensures { result ≡ costs.limited_sum (costs.cost_of one pair.0) (costs.cost_of other pair.1) }
 {
     limited_sum(cost_of(one, pair.0), cost_of(other, pair.1))
 }
 
-/// This pair, if it costs so much, and else the other one.
+/// Returns this pair if it has this cost, and `later` otherwise.
 fn pair_or(
     one: Costs,
     other: Costs,
@@ -46,7 +46,7 @@ fn pair_or(
     }
 }
 
-/// The first of these pairs that costs so much.
+/// Returns the first of these pairs that has this cost.
 fn first_pair(one: Costs, other: Costs, pairs: &[(Fate, Fate)], cost: u32) -> (Fate, Fate)
     ensures { result ≡ spread.first_pair (λ (p : of_fate.Fate × of_fate.Fate).
         costs.limited_sum (costs.cost_of one p.0) (costs.cost_of other p.1)) pairs.now cost }
@@ -60,7 +60,7 @@ fn first_pair(one: Costs, other: Costs, pairs: &[(Fate, Fate)], cost: u32) -> (F
     }
 }
 
-/// Two fates that are once together.
+/// Returns two fates that together are once.
 fn shares_of_once(one: Costs, other: Costs) -> (Fate, Fate)
     ensures { result ≡ spread.shares one other fate.Once }
 {
@@ -68,7 +68,7 @@ fn shares_of_once(one: Costs, other: Costs) -> (Fate, Fate)
     first_pair(one, other, &pairs, cost_of(one.both(other), Fate::Once))
 }
 
-/// Two fates that are more than once together.
+/// Returns two fates that together are more than once.
 fn shares_of_many(one: Costs, other: Costs) -> (Fate, Fate)
     ensures { result ≡ spread.shares one other fate.Many }
 {
@@ -83,7 +83,7 @@ fn shares_of_many(one: Costs, other: Costs) -> (Fate, Fate)
     first_pair(one, other, &pairs, cost_of(one.both(other), Fate::Many))
 }
 
-/// Two fates that are unassigned together.
+/// Returns two fates that together are unassigned.
 fn shares_of_unassigned(one: Costs, other: Costs) -> (Fate, Fate)
     ensures { result ≡ spread.shares one other fate.Unassigned }
 {
@@ -104,7 +104,7 @@ fn shares_of_unassigned(one: Costs, other: Costs) -> (Fate, Fate)
     )
 }
 
-/// Two fates that are this one together, at the least cost.
+/// Returns two fates that together are this one, at the least cost.
 pub(crate) fn shares(one: Costs, other: Costs, fate: Fate) -> (Fate, Fate)
     ensures { result ≡ spread.shares one other fate }
 {

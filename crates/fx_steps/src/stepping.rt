@@ -1,4 +1,4 @@
-//! The step of a record on its way.
+//! The step of a pending record.
 ghost use Rattle.std.specs.Prelude.{◌≡◌, ◌<◌, ◌++◌, suc, length, IfOk, OnOk, slice_get};
 ghost use Rattle.fx_run_text.specs.declared.step.Step.TheVariants as of_step;
 ghost use Rattle.fx_steps.specs.Planning as planning;
@@ -12,7 +12,7 @@ use fx_run_text::{Choices, Step};
 use fx_tables::{HolderName, Net};
 use std::alloc::{AllocError, Global};
 
-/// The layout of this number.
+/// Returns the layout of this number.
 fn layout_in(layouts: &[Layout], number: usize) -> Layout
     ensures { result ≡ planning.layout_in (slice_get layouts.now number) }
 {
@@ -22,7 +22,7 @@ fn layout_in(layouts: &[Layout], number: usize) -> Layout
     }
 }
 
-/// The place of the collecting process to which a link leads.
+/// Returns the place of the collecting process that a link leads to.
 fn end_of(net: &Net, link: usize) -> Option<usize>
     ensures { result ≡ slice_get net.now.links link }
 {
@@ -30,7 +30,7 @@ fn end_of(net: &Net, link: usize) -> Option<usize>
 }
 
 impl StepPlan {
-    /// What comes of a record at the end of a link, if it leads to a collecting process.
+    /// Appends what results from a record at the end of a link, if it leads to a collecting process.
     fn add_end(
         &mut self,
         costs: &PacketCosts<'_, '_>,
@@ -51,7 +51,8 @@ impl StepPlan {
         }
     }
 
-    /// The record in this position leaves the holder of this name; what comes of it comes last.
+    /// Returns the step by which the record at this position leaves the holder of this name, and appends what results
+    /// from it.
     pub(crate) fn leave(
         &mut self,
         alloc: Global,
@@ -79,7 +80,7 @@ impl StepPlan {
         })
     }
 
-    /// The record in this position leaves the link; what comes of it comes last.
+    /// Returns the step by which the record at this position leaves the link, and appends what results from it.
     pub(crate) fn arrive(
         &mut self,
         alloc: Global,

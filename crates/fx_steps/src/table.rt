@@ -1,4 +1,4 @@
-//! Room for the least numbers of steps of records that come to the collecting processes.
+//! The table of the least numbers of steps of records that arrive at the collecting processes.
 ghost use Rattle.std.specs.Prelude.{◌≡◌, ◌<◌, ◌++◌, [], ◌∷◌, length, slice_get, IfOk};
 ghost use Rattle.fx_leaf.specs.Tables as by_table;
 ghost use Rattle.fx_steps.specs.CostTables as tabled;
@@ -13,7 +13,7 @@ use fx_tables::{LAYOUTS, Net, Packet};
 use std::alloc::{AllocError, Global};
 use std::marker::Model;
 
-/// Those of records that come to a collecting process, by the number of their layout.
+/// The costs of records that arrive at a collecting process, by the number of their layout.
 #[derive(Drop)]
 pub(crate) struct CostRow {
     entries: ArrayVec<Costs, LAYOUTS>,
@@ -29,7 +29,7 @@ impl Model for CostRow {
 }
 
 impl CostRow {
-    /// A row without entries.
+    /// Returns a row without entries.
     pub(crate) fn new() -> CostRow
         ensures { result ≡ [] }
     {
@@ -38,7 +38,7 @@ impl CostRow {
         }
     }
 
-    /// An entry more comes last.
+    /// Appends an entry.
     pub(crate) fn push(&mut self, costs: Costs)
         requires { length self.old < LAYOUTS }
         ensures { self.new ≡ self.old ++ costs ∷ [] }
@@ -46,7 +46,7 @@ impl CostRow {
         self.entries.push(costs);
     }
 
-    /// The entry for the layout of this number, from 0.
+    /// Returns the entry for the layout of this 0-based number.
     pub(crate) fn at(&self, layout: usize) -> Costs
         ensures { result ≡ tabled.or_never (slice_get self.now layout) }
     {
@@ -57,8 +57,8 @@ impl CostRow {
     }
 }
 
-/// The least numbers of steps of a packet and its records, by table: what a plan lends, and for each collecting process
-/// a row.
+/// The least numbers of steps of a packet and its records, by table: the tables lent by a plan, and a row for each
+/// collecting process.
 #[derive(Drop)]
 pub(crate) struct PacketCosts<'a, 't> {
     pub(crate) tables: &'a Tables<'t>,
@@ -79,35 +79,35 @@ impl<'a, 't> Model for PacketCosts<'a, 't> {
 }
 
 impl<'a, 't> PacketCosts<'a, 't> {
-    /// The network.
+    /// Returns the network.
     pub(crate) fn net(&self) -> &'t Net
         ensures { result.now ≡ self.now.tables.net }
     {
         self.tables.net()
     }
 
-    /// Its layouts.
+    /// Returns the layouts of the network.
     pub(crate) fn layouts(&self) -> &'t [Layout]
         ensures { result.now ≡ self.now.tables.numbering.layouts }
     {
         self.tables.layouts()
     }
 
-    /// The number of the layout of the holder at this place, from 0 each.
+    /// Returns the number of the layout of the holder at this place, both 0-based.
     pub(crate) fn number_of_layout(&self, holder: usize) -> usize
         ensures { result ≡ by_table.number_of_layout self.now.tables.numbering holder }
     {
         self.tables.number_of_layout(holder)
     }
 
-    /// The packet's fields.
+    /// Returns the packet's fields.
     pub(crate) fn fields(&self) -> &'a Fields
         ensures { result.now ≡ self.now.packet.fields }
     {
         &self.packet.fields
     }
 
-    /// The entry for a collecting process and the layout of this number, from 0 each.
+    /// Returns the entry for a collecting process and the layout of this number, both 0-based.
     pub(crate) fn entry(&self, process: usize, layout: usize) -> Costs
         ensures { result ≡ tabled.cost_entry self.now.table process layout }
     {
@@ -118,7 +118,7 @@ impl<'a, 't> PacketCosts<'a, 't> {
     }
 }
 
-/// So many rows without entries. Fails with 900, for want of memory, alone.
+/// Returns the given number of rows without entries. Fails if out of memory.
 pub(crate) fn empty_rows(alloc: Global, count: usize) -> Result<Vec<CostRow>, AllocError>
     ensures { IfOk result (λ rows. length rows.items ≡ count) }
 {

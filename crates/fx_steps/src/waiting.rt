@@ -1,4 +1,4 @@
-//! How many records wait at each holder and on each link.
+//! The number of records that wait at each holder and on each link.
 ghost use Rattle.std.specs.Prelude.{◌≡◌, ◌+◌, ◌<◌, ◌^◌, ◌∷◌, [], List, length, IfOk, replicate};
 ghost use Rattle.std.specs.List.{AllByRecursion};
 ghost use Rattle.fx_steps.specs.Waiting as waits;
@@ -14,14 +14,14 @@ pub(crate) struct Waiting {
     carried: Vec<u64>,
 }
 
-/// So many zeros.
+/// Returns the given number of zeros.
 fn zeros(alloc: Global, count: usize) -> Result<Vec<u64>, AllocError>
     ensures { IfOk result (λ zeros. zeros.items ≡ replicate count 0) }
 {
     vec![in alloc; 0; count]
 }
 
-/// One more waits at this place.
+/// Adds one to the number at this place.
 fn raise(counts: &mut [u64], place: usize)
     requires there { place < length counts.old }
     requires room { waits.total counts.old < 2 ^ 63 }
@@ -30,7 +30,7 @@ fn raise(counts: &mut [u64], place: usize)
     counts[place] += 1;
 }
 
-/// The number of those that wait at this place, of which one leaves.
+/// Takes one from the number at this place, and returns the number as it was before.
 fn lower(counts: &mut [u64], place: usize) -> u64
     requires there { place < length counts.old }
     requires some { waits.HasOneMore counts.old place }
@@ -42,7 +42,7 @@ fn lower(counts: &mut [u64], place: usize) -> u64
 }
 
 impl Waiting {
-    /// None waits anywhere in the network.
+    /// Returns the numbers for a network in which no record waits.
     pub(crate) fn new(alloc: Global, net: &Net) -> Result<Waiting, AllocError>
         ensures { IfOk result (waits.Wait net.now []) }
     {
@@ -52,7 +52,7 @@ impl Waiting {
         })
     }
 
-    /// One more waits.
+    /// Counts one more record.
     fn add(&mut self, pending: Pending)
         requires there { waits.HasPlace (length self.old.held.items) (length
             self.old.carried.items) pending }
@@ -69,7 +69,7 @@ impl Waiting {
         }
     }
 
-    /// All of these wait, too.
+    /// Counts all of these records too.
     pub(crate) fn add_all(&mut self, pending: &[Pending])
         requires there { AllByRecursion (waits.HasPlace (length self.old.held.items) (length
             self.old.carried.items)) pending.now }
@@ -84,7 +84,7 @@ impl Waiting {
         }
     }
 
-    /// The number of those that wait at this holder, of which one leaves.
+    /// Takes one record from this holder, and returns how many waited there before.
     pub(crate) fn leave_holder(&mut self, holder: usize) -> u64
         requires there { holder < length self.old.held.items }
         requires some { waits.HasOneMore self.old.held.items holder }
@@ -94,7 +94,7 @@ impl Waiting {
         lower(self.held.as_mut_slice(), holder)
     }
 
-    /// The number of those that wait on this link, of which one leaves.
+    /// Takes one record from this link, and returns how many waited there before.
     pub(crate) fn leave_link(&mut self, link: usize) -> u64
         requires there { link < length self.old.carried.items }
         requires some { waits.HasOneMore self.old.carried.items link }

@@ -26,7 +26,7 @@ use fx_run_text::Step;
 use fx_tables::{Classes, Crossing, HolderName, Packet};
 use std::alloc::{AllocError, Global};
 
-/// Of two fates the one that costs less, and the first where they cost as much.
+/// Returns the cheaper of two fates, or the first if they cost the same.
 fn cheaper_fate(told: Costs, one: Fate, other: Fate) -> Fate
     ensures either { (result ≡ one) ⊎ (result ≡ other) }
     ensures one { by_fate.cost_of told result ≤ by_fate.cost_of told one }
@@ -39,7 +39,7 @@ fn cheaper_fate(told: Costs, one: Fate, other: Fate) -> Fate
     }
 }
 
-/// Of all fates but the wanted one, a fate that costs least.
+/// Returns a fate of least cost among all except the wanted one.
 fn least_unwanted_fate(told: Costs, exempt: bool) -> Fate
     ensures unwanted { result ≢ wanted_fate exempt }
     ensures least { (f : of_fate.Fate) → f ≢ wanted_fate exempt → f ≢ fates.Differing
@@ -53,7 +53,7 @@ fn least_unwanted_fate(told: Costs, exempt: bool) -> Fate
     )
 }
 
-/// The steps of a run of this packet alone, on this path, that comes to the fate with as few steps as any.
+/// Returns the steps of a shortest run of this packet alone, on this path, that comes to the fate.
 fn build(
     alloc: Global,
     costs: &PacketCosts<'_, '_>,
@@ -92,8 +92,8 @@ fn build(
     Ok(building.into_steps())
 }
 
-/// The steps of a run of this packet alone, on this path, that comes to the fate with as few steps as any, by names that
-/// are made for it.
+/// Returns the steps of a shortest run of this packet alone, on this path, that comes to the fate, with names that are
+/// made for it.
 fn build_by_names(
     alloc: Global,
     costs: &PacketCosts<'_, '_>,
@@ -121,11 +121,12 @@ fn build_by_names(
     build(alloc, costs, names.as_slice(), path, fate)
 }
 
-/// The steps of a run of this packet alone that shows a wrong total, with as few steps as any outcome but the wanted one
-/// has; none where each of them would take more than 1,000,000. What is wanted is that the packet is counted once, or,
-/// where its class is exempt, never. The packet needn't be of its class: its path is that of its numbers.
+/// Returns the steps of a run of this packet alone that shows a wrong total. It is shortest over all outcomes except
+/// the wanted one. Returns `None` if each such run would take more than 1,000,000 steps. The wanted outcome is that the
+/// packet is counted once, or never if its class is exempt. The packet need not be in its class: its path is the one
+/// given by its numbers.
 ///
-/// Fails with 900, at no place, for want of memory.
+/// Fails with 900, at no place, if out of memory.
 pub fn wrong_run(
     alloc: Global,
     tables: &Tables<'_>,
