@@ -1,4 +1,4 @@
-//! Whether a run refutes.
+//! Checking that a run refutes.
 ghost use Rattle.std.specs.Prelude.{◌≡◌, ◌⊎◌, ◌≤◌, ◌↔◌, [], ◌∷◌, length, Ok, IfErr, IfOk, IsTrue, OnOk};
 ghost use Rattle.fx_base.specs.Fault.{fault_at, IsMemory};
 ghost use Rattle.fx_base.specs.declared.fault.Place.TheVariants as places;
@@ -23,7 +23,7 @@ use fx_tables::{Classes, Net, Packet, Record};
 use fx_traffic::Traffic;
 use std::alloc::Global;
 
-/// The opening of a run of this packet alone.
+/// Opens a run of this packet alone. Fails with 502, at line 2, if the packet is not of its class.
 fn open<'a>(
     alloc: Global,
     net: &'a Net,
@@ -54,7 +54,7 @@ fn open<'a>(
     }
 }
 
-/// Makes one step after another. The first stands at line 3 of a refutation's text.
+/// Makes the steps one after another. The first is at line 3 of a refutation's text.
 fn make_steps(state: &mut State<'_>, steps: &[Step]) -> Result<(), Fault>
     requires few { length steps.now ≤ step_limit }
     ensures ok { OnOk result ((s : states.State) → state.old.state ≡ states.told_state s
@@ -77,7 +77,7 @@ fn make_steps(state: &mut State<'_>, steps: &[Step]) -> Result<(), Fault>
     Ok(())
 }
 
-/// The record of one packet under a layout.
+/// Returns the record of one packet under a layout.
 fn own_record(layout: &Layout, packet: &Packet) -> Record
     ensures { result ≡ confirming.own_record layout.now packet.now }
 {
@@ -90,14 +90,14 @@ fn own_record(layout: &Layout, packet: &Packet) -> Record
     }
 }
 
-/// The seed of totals that have one key at most, as those over one packet: any finds it at once.
+/// Returns the seed for totals that have at most one key, like those over one packet. Any seed finds it at once.
 fn of_one_key() -> Seed
     ensures { result ≡ record { first = 0; second = 0 } }
 {
     Seed::new(0, 0)
 }
 
-/// The plain sums over one packet, which are empty where its class is exempt.
+/// Returns the plain sums over one packet, which are empty if its class is exempt.
 fn plain_sums(alloc: Global, net: &Net, classes: &Classes, packet: &Packet) -> Result<Totals, Fault>
     ensures ok { IfOk result (λ t. t ≡ confirming.plain_totals net.now.report_layout
         (traffic.to_count classes.now (packet.now ∷ []))) }
@@ -111,15 +111,15 @@ fn plain_sums(alloc: Global, net: &Net, classes: &Classes, packet: &Packet) -> R
     Ok(totals)
 }
 
-/// Whether totals are those of one packet with this key, and nothing is unassigned.
+/// Returns whether the totals are those of one packet with this key, with nothing unassigned.
 fn agree(ran: &Totals, plain: &Totals, key: &Key) -> bool
     ensures { IsTrue result ↔ confirming.TotalsAgreeAt ran.now plain.now key.now }
 {
     ran.unassigned() == 0 && ran.len() == plain.len() && ran.get(key) == plain.get(key)
 }
 
-/// Whether the run of a refutation's packet alone, in the state that opens it, refutes. The state is
-/// the caller's, so that no error path drops it.
+/// Checks whether the run of a refutation's packet alone refutes, starting from the state that opens it. The state
+/// belongs to the caller, so that no error path drops it.
 fn confirm_run(
     alloc: Global,
     state: &mut State<'_>,
@@ -155,8 +155,8 @@ fn confirm_run(
     Ok((ran, plain))
 }
 
-/// Shows an observer the state in which a refutation's run stops for this fault, if it stops at a step that is
-/// refused, or after the last step.
+/// Shows an observer the state in which a refutation's run stops with this fault, if it stops at a refused step or
+/// after the last step.
 fn show_stop<W: StepWatch>(
     state: &State<'_>,
     refutation: &Refutation,
@@ -167,7 +167,7 @@ fn show_stop<W: StepWatch>(
         (refusals::REFUTATION_STEP, Place::Line(line)) => {
             let place = line.saturating_sub(3);
             if let Some(step) = entry_at(refutation.steps(), place as usize) {
-                // The refusal of the step itself: `step` leaves the state as it was.
+                // This is the refusal of the step itself, because `step` left the state as it was.
                 if let Err(why) = state.effects(step) {
                     watch.on_refused_step(state, step, place.saturating_add(1), &why);
                 }
@@ -178,7 +178,7 @@ fn show_stop<W: StepWatch>(
     }
 }
 
-/// Whether a run of one packet refutes, over the tables of a network.
+/// Checks whether a run of one packet refutes, over the tables of a network.
 fn confirm_over<W: StepWatch>(
     alloc: Global,
     net: &Net,
@@ -202,12 +202,12 @@ fn confirm_over<W: StepWatch>(
     }
 }
 
-/// Whether a run of one packet refutes that each packet is counted exactly once: its totals, and the plain sums over
-/// the packet, which differ, or something is unassigned.
+/// Checks whether a run of one packet refutes that each packet is counted exactly once. Returns its totals and the
+/// plain sums over the packet. They differ, or something is unassigned.
 ///
-/// Fails with the first of: 502, at line 2, where the packet isn't of its class; 503, at the step's number plus 2,
-/// where a step isn't enabled; 504, at no place, where the run isn't complete; 505, at no place, where its totals are
-/// the plain sums and nothing is unassigned; and with 900, at no place, if out of memory.
+/// Fails with the first of: 502, at line 2, if the packet is not of its class; 503, at the step's number plus 2, if a
+/// step is not enabled; 504, at no place, if the run is not complete; 505, at no place, if its totals are the plain
+/// sums and nothing is unassigned. Fails with 900, at no place, if out of memory.
 pub fn confirm(
     alloc: Global,
     plan: &Plan,
@@ -224,8 +224,8 @@ pub fn confirm(
     confirm_watched(alloc, plan, traffic, refutation, &mut Unwatched)
 }
 
-/// Returns what [`confirm`] does, and shows an observer the state before a step that is refused (503), or the
-/// one after the last step (504, 505).
+/// Returns what [`confirm`] does, and shows an observer the state before a step that is refused (503), or the one after
+/// the last step (504, 505).
 pub fn confirm_watched<W: StepWatch>(
     alloc: Global,
     plan: &Plan,

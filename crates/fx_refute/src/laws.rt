@@ -1,4 +1,4 @@
-//! The laws: no code, but contracts over the definitions.
+//! The laws: contracts over the definitions, without code.
 ghost use Rattle.std.specs.Prelude.{◌≡◌, ◌^◌, ◌<◌, ℕ, List, Ok};
 ghost use Rattle.fx_base.specs.Lines.{text_lines};
 ghost use Rattle.fx_machine.specs.Claim.{ExactlyOnce};
@@ -13,7 +13,7 @@ ghost use Rattle.fx_refute.specs.Refutations.{Refutation, Refutes};
 use fx_machine::choices_are_free;
 use fx_run_text::run_lines_have_one_text;
 
-/// Where there is a refutation, not every complete run counts each packet exactly once.
+/// Proves that if there is a refutation, not every complete run counts each packet exactly once.
 pub fn refutations_refute()
     ensures { (net : network.Net) (classes : List traffic.Class) (r : Refutation)
         → r.packet.octets < 2 ^ 64 → Refutes net classes r → ExactlyOnce net classes → ⊥ }
@@ -21,8 +21,8 @@ pub fn refutations_refute()
     choices_are_free();
 }
 
-/// The text of a refutation in either version whose lines have at most 4,096 bytes is read as that refutation, and no
-/// other text is.
+/// Proves that the text of a refutation, in either version, is read as that refutation if its lines have at most 4,096
+/// octets, and that no other text is.
 pub fn refutations_have_one_text()
     ensures read { (version : TextVersion) (r : Refutation) (n : ℕ)
         → IsRefutation version r → AreShort (refutation_lines version r)

@@ -1,4 +1,4 @@
-//! Refutations: a run of one packet that shows a wrong total, its text, and whether it refutes.
+//! Refutations: a run of one packet that shows a wrong total, its text, and the check that it refutes.
 #![tactic(auto)]
 
 mod confirming;

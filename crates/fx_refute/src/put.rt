@@ -8,7 +8,7 @@ use crate::refutation::Refutation;
 use fx_base::{Fault, Sink, put_text};
 use fx_run_text::{Step, put_packet_line, put_step_line};
 
-/// Writes the lines of steps.
+/// Writes the lines of the steps.
 fn put_steps<S: Sink>(sink: &mut S, steps: &[Step]) -> Result<(), Fault>
     ensures ok { OnOk result (Writes (S.taken sink.old) (S.taken sink.new) (steps_text steps.now)) }
     ensures going { OnOk result (KeepsGoing (S.failed sink.old) (S.failed sink.new)) }
@@ -20,10 +20,10 @@ fn put_steps<S: Sink>(sink: &mut S, steps: &[Step]) -> Result<(), Fault>
     Ok(())
 }
 
-/// Writes the text of a refutation in its second version, which
-/// [`read_refutation`](crate::read_refutation) reads as that refutation where no line has more than 4,096 octets.
+/// Writes the text of a refutation in its second version. [`read_refutation`](crate::read_refutation) reads it as that
+/// refutation if no line has more than 4,096 octets.
 ///
-/// Fails with 902, at no place, where a write fails. How much the sink has taken then is open.
+/// Fails with 902, at no place, if a write fails. It is then unspecified how much the sink has taken.
 pub fn put_refutation<S: Sink>(sink: &mut S, refutation: &Refutation) -> Result<(), Fault>
     ensures ok { OnOk result (Writes (S.taken sink.old) (S.taken sink.new)
         (refutation_text Two refutation.now)) }

@@ -13,14 +13,14 @@ use fx_run_text::{RunLine, Step, TextVersion, read_run_line};
 use fx_tables::Packet;
 use std::alloc::Global;
 
-/// Whether two lines are the same.
+/// Returns whether two lines are the same.
 fn is_line(line: &[u8], other: &[u8]) -> bool
     ensures { result ≡ bytes_eq line.now other.now }
 {
     line == other
 }
 
-/// Goes past the first line, which tells the text's version.
+/// Reads the first line, which gives the version of the text.
 fn read_first<R: Source>(lines: &mut LineReader<R>) -> Result<TextVersion, Fault>
     ensures going { OnOk result (lines.new.stopped ≡ None) }
     ensures on { OnOk result (GoesOnToLines lines.old lines.new) }
@@ -42,7 +42,7 @@ fn read_first<R: Source>(lines: &mut LineReader<R>) -> Result<TextVersion, Fault
     }
 }
 
-/// Reads the next line, which has to be there.
+/// Reads the next line, which must exist.
 fn read_next<R: Source>(
     alloc: Global,
     version: TextVersion,
@@ -69,7 +69,7 @@ fn read_next<R: Source>(
     }
 }
 
-/// Goes past the text's end, which comes behind the last line.
+/// Checks that the text ends after the last line.
 fn read_end<R: Source>(lines: &mut LineReader<R>) -> Result<(), Fault>
     requires { lines.old.stopped ≡ None }
     ensures ok { OnOk result ((r : refutations.Refutation)
@@ -84,7 +84,7 @@ fn read_end<R: Source>(lines: &mut LineReader<R>) -> Result<(), Fault>
     Ok(())
 }
 
-/// Reads the packet's line.
+/// Reads the line of the packet.
 fn read_packet<R: Source>(
     alloc: Global,
     version: TextVersion,
@@ -143,12 +143,12 @@ fn read_steps<R: Source>(
 
 /// Reads a refutation from its text, which begins with the next line and ends with the last.
 ///
-/// The text is a line `once-refutation 2`, or `once-refutation 1`, one packet line and up to 1,000,000 step lines
-/// as in a run's text of that version ([`fx_machine::read_run`]), and a line `end`. Whether the packet is of its
-/// class isn't looked at.
+/// The text is a line `once-refutation 2` or `once-refutation 1`, one packet line and up to 1,000,000 step lines as in
+/// a run's text of that version ([`fx_machine::read_run`]), and a line `end`. It is not checked whether the packet is
+/// of its class.
 ///
-/// Fails with 501 at the first line where something is wrong with its form, also at one that is missing; as the reader
-/// of lines does where that stands; and with 900, at no place, for want of memory.
+/// Fails with 501 at the first line whose form is wrong or that is missing; with the fault of the line reader at its
+/// place; and with 900, at no place, if out of memory.
 pub fn read_refutation<R: Source>(
     alloc: Global,
     lines: &mut LineReader<R>,

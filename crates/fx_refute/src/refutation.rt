@@ -1,4 +1,4 @@
-//! What refutes.
+//! Refutations.
 ghost use Rattle.std.specs.Prelude.{◌≡◌, ◌≤◌, length};
 ghost use Rattle.fx_machine.specs.Limits.{step_limit};
 
@@ -6,7 +6,7 @@ use fx_run_text::Step;
 use fx_tables::Packet;
 use std::marker::Model;
 
-/// How many steps there may be.
+/// The maximum number of steps.
 pub const STEPS: usize = 1_000_000;
 
 /// A packet, and the steps of a run over it alone, of which there are at most 1,000,000.
@@ -17,7 +17,7 @@ pub struct Refutation {
 }
 
 impl Drop for Refutation {
-    /// Lets its parts go: proved once, and one call wherever one is let go.
+    /// Drops its parts here, so that each drop elsewhere is one call.
     fn drop(self) {
         let Self {
             packet: _,
@@ -39,7 +39,7 @@ impl Model for Refutation {
 }
 
 impl Refutation {
-    /// The run of this packet with these steps.
+    /// Returns the run of this packet with these steps.
     pub fn new(packet: Packet, steps: Vec<Step>) -> Refutation
         requires { length steps.items ≤ step_limit }
         ensures { result ≡ record { packet = packet; steps = steps.items } }
@@ -47,14 +47,14 @@ impl Refutation {
         Refutation { packet, steps }
     }
 
-    /// The packet.
+    /// Returns the packet.
     pub fn packet(&self) -> &Packet
         ensures { result.now ≡ self.now.packet }
     {
         &self.packet
     }
 
-    /// The steps, in order.
+    /// Returns the steps, in order.
     pub fn steps(&self) -> &[Step]
         ensures value { result.now ≡ self.now.steps }
         ensures few { length result.now ≤ step_limit }
