@@ -1,13 +1,13 @@
-//! What a search finds.
+//! The result of a search.
 
 use fx_cert::Item;
 use fx_refute::Refutation;
 
-/// What a search finds.
+/// The result of a search.
 #[derive(Drop)]
 pub enum Found {
-    /// The items of a certificate, in order, that the checker accepts: what is declared is counted exactly once.
+    /// The items, in order, of a certificate that the checker accepts: the declared traffic is counted exactly once.
     Certificate(Vec<Item>),
-    /// A run of one packet that shows a wrong total: what is declared isn't counted exactly once.
+    /// A run of one packet that shows a wrong total: the declared traffic is not counted exactly once.
     Refutation(Refutation),
 }

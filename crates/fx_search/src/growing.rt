@@ -1,4 +1,4 @@
-//! A certificate that grows, and what is still ahead of it.
+//! A certificate under construction, and the regions that are still ahead of it.
 ghost use Rattle.std.specs.Prelude.{◌≡◌, ◌≤◌, ℕ, List, IfErr, ◌+◌, ◌<◌, ◌++◌, [], ◌∷◌, IfOk, OnOk, option_to_list, IfNone, slice_index_or};
 ghost use Rattle.std.specs.List.{AllByRecursion};
 ghost use Rattle.fx_cert.specs.declared.item.Item.TheVariants as of_item;
@@ -29,7 +29,7 @@ use fx_traffic::Target;
 use std::alloc::{AllocError, Global};
 use std::marker::Model;
 
-/// A region of a target whose tree is still to come.
+/// A region of a target whose tree is not written yet.
 #[derive(Drop)]
 pub(crate) struct Ahead<'a> {
     pub(crate) target: &'a Target<'a>,
@@ -47,8 +47,8 @@ impl<'a> Model for Ahead<'a> {
 }
 
 impl<'a> Ahead<'a> {
-    /// Of the first `active` selection processes, moves those that count packets of the region before the others, and
-    /// returns how many they are.
+    /// Moves those of the first `active` selection processes that count packets of the region before the others, and
+    /// returns their number.
     pub(crate) fn narrow(&self, scratch: &mut PathScratch<'_>, active: usize) -> usize
         requires narrowed { IsNarrowed scratch.old.selections self.now.region active }
         ensures narrowed { IsNarrowed scratch.new.selections self.now.region result }
@@ -66,7 +66,8 @@ impl<'a> Ahead<'a> {
         scratch.narrow(&self.region, active)
     }
 
-    /// What is to be said of the packets of the region that take the target's path, which is begun.
+    /// Returns the verdict on the packets of the region that take the target's path. The path must be begun in
+    /// `scratch`.
     pub(crate) fn judge(
         &self,
         scratch: &mut PathScratch<'_>,
@@ -85,13 +86,13 @@ impl<'a> Ahead<'a> {
         ensures room { HasProcessRoom tables.now scratch.new }
         ensures kept { scratch.new.selections ≡ scratch.old.selections }
     {
-        // For the prover alone: the bounds of a region hold.
+        // The prover needs this call: it shows that the bounds of a region hold.
         let _greatest = self.region.far_corner();
         let target = self.target;
         scratch.judge(tables, target.crossings, &self.region, active)
     }
 
-    /// Where to split the region, which is cut at `other`, so that the split halves what cuts it.
+    /// Returns where to split the region, which is cut at `other`, so that the split halves what cuts it.
     pub(crate) fn halving_bound(
         &self,
         scratch: &PathScratch<'_>,
@@ -122,7 +123,7 @@ impl<'a> Ahead<'a> {
         )
     }
 
-    /// Whether the packets must never be counted.
+    /// Returns whether the packets must never be counted.
     pub(crate) fn exempt(&self) -> bool
         ensures { result ≡ self.now.target.exempt }
     {
@@ -130,7 +131,7 @@ impl<'a> Ahead<'a> {
         target.exempt
     }
 
-    /// The least packet of the region, of one octet.
+    /// Returns the least packet of the region, one octet long.
     pub(crate) fn least_packet(&self) -> Packet
         ensures is { result ≡ least_packet self.now }
         ensures held { Holds self.now.region result.fields }
@@ -144,7 +145,7 @@ impl<'a> Ahead<'a> {
         }
     }
 
-    /// A run that refutes by its least packet, with what is to be said of all packets of the region.
+    /// Returns a run that refutes by the region's least packet, with the verdict on all packets of the region.
     pub(crate) fn refuted(&self, refutation: Refutation, judgement: Judgement) -> RefutedRegion
         ensures { result ≡ record {
           refutation = refutation;
@@ -164,7 +165,7 @@ impl<'a> Ahead<'a> {
         }
     }
 
-    /// A limit that is reached there.
+    /// Returns the limit as reached at this region.
     pub(crate) fn reached(&self, limit: Limit) -> ReachedLimit
         ensures { result ≡ record {
           limit = limit;
@@ -183,7 +184,8 @@ impl<'a> Ahead<'a> {
     }
 }
 
-/// A region of a target whose tree is still to come, and how many of the path's selection processes may count its packets.
+/// A region of a target whose tree is not written yet, and how many of the path's selection processes may count its
+/// packets.
 #[derive(Drop)]
 pub(crate) struct Waiting<'a> {
     pub(crate) ahead: Ahead<'a>,
@@ -193,15 +195,15 @@ pub(crate) struct Waiting<'a> {
 /// The beginning of a certificate.
 #[derive(Drop)]
 pub(crate) struct Growth<'a> {
-    /// What is still ahead of the current target; the last of it comes next.
+    /// The regions still ahead of the current target. The last is next.
     pub(crate) ahead: Vec<Waiting<'a>>,
     /// The items so far.
     pub(crate) items: Vec<Item>,
-    /// How many of them are split and leaf lines.
+    /// The number of split and leaf lines among them.
     pub(crate) lines: u64,
 }
 
-/// The line of a target.
+/// Returns the line of a target.
 fn class_line(class: u64, path: u64) -> Item
     ensures is { result ≡ of_item.Class class path }
     ensures writable { IsWritable result }
@@ -209,7 +211,7 @@ fn class_line(class: u64, path: u64) -> Item
     Item::Class { class, path }
 }
 
-/// The line of a leaf.
+/// Returns the line of a leaf.
 pub(crate) fn leaf(crossing: u64, point: u64, process: u64) -> Item
     ensures is { result ≡ of_item.Leaf crossing point process }
     ensures writable { IsWritable result }
@@ -221,19 +223,19 @@ pub(crate) fn leaf(crossing: u64, point: u64, process: u64) -> Item
     }
 }
 
-/// The line of a split of a region.
+/// Returns the line of a split of a region.
 fn split_item(region: &Region, axis: Axis, at: u128) -> Item
     requires inside { IsStrictlyInside region.now (axis_index axis) at }
     ensures is { result ≡ of_item.Split axis at }
     ensures writable { IsWritable result }
 {
-    // For the prover alone: the bounds of a region stand within their axes.
+    // The prover needs this call: it shows that the bounds of a region lie within their axes.
     let _greatest = region.far_corner();
     Item::Split { axis, at }
 }
 
 impl<'a> Growth<'a> {
-    /// Before the first target's line.
+    /// Returns a certificate before the line of its first target.
     pub(crate) fn new(alloc: Global, version: Version) -> Result<Growth<'a>, AllocError>
         ensures ahead { IfOk result (λ g. g.ahead.items ≡ []) }
         ensures items { IfOk result (λ g. g.items.items ≡ of_item.Header version ∷ []) }
@@ -248,7 +250,7 @@ impl<'a> Growth<'a> {
         })
     }
 
-    /// A target comes next, whose path meets `active` selection processes.
+    /// Makes a target the next region, whose path meets `active` selection processes.
     pub(crate) fn open(&mut self, target: &'a Target<'a>, active: usize) -> Result<(), AllocError>
         ensures ahead { OnOk result (self.new.ahead.items
             ≡ self.old.ahead.items ++ record { ahead = root target.now; active = active } ∷ []) }
@@ -266,7 +268,8 @@ impl<'a> Growth<'a> {
         Ok(())
     }
 
-    /// The first line of a region's tree, behind that of its target where the tree is the target's.
+    /// Appends the first line of a region's tree, preceded by the line of its target if the tree is that of the whole
+    /// target.
     pub(crate) fn add(&mut self, here: &Ahead<'a>, item: Item) -> Result<(), AllocError>
         requires few { self.old.lines < line_limit }
         requires writable { IsWritable item }
@@ -286,8 +289,8 @@ impl<'a> Growth<'a> {
         Ok(())
     }
 
-    /// A split is the region's tree: that of its lower part comes next, then that of its upper part. The first `active`
-    /// selection processes may count packets of the region.
+    /// Makes a split the region's tree. The tree of the lower part is next, then that of the upper part. The first
+    /// `active` selection processes may count packets of the region.
     pub(crate) fn split(
         &mut self,
         here: &Ahead<'a>,

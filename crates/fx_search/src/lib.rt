@@ -1,4 +1,4 @@
-//! Finding certificates, and runs that refute.
+//! The search for certificates and for runs that refute.
 #![tactic(auto)]
 
 mod found;

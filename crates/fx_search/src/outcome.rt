@@ -1,11 +1,11 @@
-//! What a search comes to, with the reasons that it had.
+//! The outcome of a search, with the reasons for it.
 
 use fx_boxes::Region;
 use fx_cert::Item;
 use fx_leaf::Judgement;
 use fx_refute::Refutation;
 
-/// A run of one packet that shows a wrong total, and the region of which the packet is the least.
+/// A run of one packet that shows a wrong total, and the region whose least packet it is.
 #[derive(Drop)]
 pub struct RefutedRegion {
     /// The run.
@@ -14,13 +14,13 @@ pub struct RefutedRegion {
     pub class: u64,
     /// The number of the path, from 1 among those of the class.
     pub path: u64,
-    /// The region: the first in which nothing is cut and whose packets do not have the fate that the class wants.
+    /// The region: the first one that nothing cuts and whose packets do not have the fate that the class wants.
     pub region: Region,
-    /// What becomes of all packets of the region that take the path.
+    /// The verdict on all packets of the region that take the path.
     pub judgement: Judgement,
 }
 
-/// Which limit ends a search.
+/// The limit that ends a search.
 #[derive(Clone, Copy, Debug, PartialEq, Eq)]
 pub enum Limit {
     /// A certificate would need one more split or leaf line than it may have.
@@ -34,7 +34,7 @@ pub enum Limit {
 /// A limit that a search reaches, and where.
 #[derive(Drop)]
 pub struct ReachedLimit {
-    /// Which limit it is.
+    /// The limit.
     pub limit: Limit,
     /// The number of the class, from 1 in document order.
     pub class: u64,
@@ -44,13 +44,13 @@ pub struct ReachedLimit {
     pub region: Region,
 }
 
-/// What a search comes to.
+/// The outcome of a search.
 #[derive(Drop)]
 pub enum Outcome {
-    /// The items of a certificate, in order, that the checker accepts: what is declared is counted exactly once.
+    /// The items, in order, of a certificate that the checker accepts: the declared traffic is counted exactly once.
     Certificate(Vec<Item>),
-    /// What is declared is not counted exactly once.
+    /// A refutation: the declared traffic is not counted exactly once.
     Refuted(RefutedRegion),
-    /// Either would be too large.
+    /// Neither was found within the limits.
     TooLarge(ReachedLimit),
 }

@@ -1,4 +1,4 @@
-//! The search: region by region, along the certificate that it would be.
+//! The search, region by region, in the order of the certificate that it builds.
 ghost use Rattle.std.specs.Prelude.{◌≡◌, ◌≢◌, ◌⊎◌, ◌≤◌, ◌<◌, ◌+◌, ◌++◌, ℕ, List, ◌∷◌, [], true, map, min, if◌then◌else◌, Some, None, IfOk, IfErr, IfSome, OnOk};
 ghost use Rattle.fx_base.specs.Fault.{fault_at, IsMemory};
 ghost use Rattle.fx_base.specs.declared.fault.Place.TheVariants as places;
@@ -36,13 +36,13 @@ use fx_tables::{Class, Classes};
 use fx_traffic::{Target, Traffic};
 use std::alloc::Global;
 
-/// How many split and leaf lines a certificate may have.
+/// The maximum number of split and leaf lines in a certificate.
 const LINES: u64 = 1_000_000;
 
-/// The depth of a split is below this; that of the first is 0.
+/// The bound on the depth of a split, which must be less. The first split has depth 0.
 const DEPTHS: u32 = 512;
 
-/// The leaf that is sound, if it is of the kind that is wanted.
+/// Returns the sound leaf, if it is of the wanted kind.
 fn leaf_for(judgement: Judgement, exempt: bool) -> Option<Item>
     ensures is { result ≡ leaf_item judgement exempt }
     ensures writable { IfSome result IsWritable }
@@ -60,7 +60,7 @@ fn leaf_for(judgement: Judgement, exempt: bool) -> Option<Item>
     }
 }
 
-/// Goes past a region by one more line of the certificate, or returns why the search stops there.
+/// Completes a region by one more line of the certificate, or returns why the search stops there.
 fn take<'a>(
     scratch: &mut PathScratch<'_>,
     bounds: &mut CutBounds,
@@ -112,7 +112,7 @@ fn take<'a>(
     Ok(None)
 }
 
-/// Goes on until nothing of the current target is ahead, or to the first region at which the search stops.
+/// Continues until no region of the current target is ahead, or until the first region at which the search stops.
 fn grow<'a, W: Watch>(
     scratch: &mut PathScratch<'_>,
     bounds: &mut CutBounds,
@@ -150,7 +150,7 @@ fn grow<'a, W: Watch>(
     }
 }
 
-/// Goes on target by target until nothing is ahead, or to the first region at which the search stops.
+/// Continues with one target after another until none is ahead, or until the first region at which the search stops.
 fn grow_all<'a, 't, W: Watch>(
     scratch: &mut PathScratch<'t>,
     bounds: &mut CutBounds,
@@ -185,7 +185,7 @@ fn grow_all<'a, 't, W: Watch>(
     Ok(None)
 }
 
-/// The run of the least packet of a region whose packets do not have the fate that is wanted.
+/// Returns the run of the least packet of a region whose packets do not have the wanted fate.
 fn refute(
     alloc: Global,
     tables: &Tables<'_>,
@@ -214,7 +214,7 @@ fn refute(
     }
 }
 
-/// What a search comes to that stops at a region.
+/// Returns the outcome of a search that stops at a region.
 fn stopped(
     alloc: Global,
     tables: &Tables<'_>,
@@ -237,7 +237,7 @@ fn stopped(
     }
 }
 
-/// The version in which these classes have certificates.
+/// Returns the version in which these classes have certificates.
 fn version_for(classes: &[Class]) -> Version
     ensures { result ≡ found.version_for classes.now }
 {
@@ -249,7 +249,7 @@ fn version_for(classes: &[Class]) -> Version
     Version::One
 }
 
-/// The certificate, behind whose trees its last line comes.
+/// Returns the certificate, with its last line appended after the trees.
 fn certificate(growth: Growth<'_>) -> Result<Outcome, Fault>
     ensures right { (net : Net) (classes : List OfClass) (limit : ℕ)
         → IsGrowing net (targets_of classes) (found.version_for classes)
@@ -267,11 +267,11 @@ fn certificate(growth: Growth<'_>) -> Result<Outcome, Fault>
     Ok(Outcome::Certificate(items))
 }
 
-/// Searches as [`search`] does, and returns with what is found the reasons that the search had: of a refutation, the
-/// region of its packet and what becomes of all packets of that region; of a search that becomes too large, which limit
-/// it reaches and at which region.
+/// Searches as [`search`] does, and also returns the reasons for the result: for a refutation, the region of its packet
+/// and the verdict on all packets of that region; for a search that becomes too large, the limit that it reaches and
+/// the region where.
 ///
-/// Fails with 900, at no place, when out of memory.
+/// Fails with 900, at no place, if out of memory.
 pub fn search_outcome<W: Watch>(
     alloc: Global,
     plan: &Plan,
@@ -280,11 +280,11 @@ pub fn search_outcome<W: Watch>(
     watch: &mut W,
 ) -> Result<Outcome, Fault>
     ensures right { IfOk result (outcomes.IsOutcome (net_of plan.now) traffic.now limit) }
-    // So after a certificate each packet is counted exactly once, and after a run it isn't so.
+    // A certificate means that each packet is counted exactly once, and a run means that not every one is.
     ensures settles { IfOk result (outcomes.Settles (net_of plan.now) traffic.now) }
     ensures err { IfErr result IsMemory }
 {
-    // For the prover alone: no record is stuck in a plan's network.
+    // The prover needs this call: it shows that no record is stuck in a plan's network.
     let _runnable = plan.net();
     let tables = tables_of(plan);
     let most = limit.min(LINES);
@@ -309,18 +309,18 @@ pub fn search_outcome<W: Watch>(
     }
 }
 
-/// Searches for a certificate of at most `limit` split and leaf lines (a limit above 1,000,000 counts as that), each of
-/// whose splits is at a bound of a selection process's region or of a match that cuts what it splits, or for a run of
-/// one packet that refutes.
+/// Searches for a certificate of at most `limit` split and leaf lines (a limit above 1,000,000 counts as 1,000,000), or
+/// for a run of one packet that refutes. Each split of the certificate is at a bound of a selection process's region,
+/// or of a match, that cuts what is split.
 ///
-/// Where it finds a certificate, [`check`](fx_check::check) accepts it: each packet of the traffic is counted exactly
-/// once, and never where its class is exempt. Where it finds a run, [`confirm`](fx_refute::confirm) confirms it: that
-/// isn't so. `watch` is called for each line that is found.
+/// If it finds a certificate, [`check`](fx_check::check) accepts it: each packet of the traffic is counted exactly
+/// once, or never if its class is exempt. If it finds a run, [`confirm`](fx_refute::confirm) confirms it: this is not
+/// so. `watch` is called for each line that is found.
 ///
-/// Fails with 601, at no place, where a certificate that goes on like this needs more lines, or a split at depth 512
-/// (the first has depth 0), or where a region that nothing cuts has no sound leaf of the kind that its class wants and no run of at
-/// most 1,000,000 steps brings its least packet to another fate than the wanted one; and with 900, at no place,
-/// where memory runs out.
+/// Fails with 601, at no place, if a certificate built this way needs more lines or a split at depth 512 (the first has
+/// depth 0), or if a region that nothing cuts has neither a sound leaf of the kind that its class wants nor a run of at
+/// most 1,000,000 steps that brings its least packet to a fate other than the wanted one. Fails with 900, at no place,
+/// if out of memory.
 pub fn search<W: Watch>(
     alloc: Global,
     plan: &Plan,
@@ -329,7 +329,7 @@ pub fn search<W: Watch>(
     watch: &mut W,
 ) -> Result<Found, Fault>
     ensures right { IfOk result (found.IsRight (net_of plan.now) traffic.now limit) }
-    // So after a certificate each packet is counted exactly once, and after a run it isn't so.
+    // A certificate means that each packet is counted exactly once, and a run means that not every one is.
     ensures settles { IfOk result (found.Settles (net_of plan.now) traffic.now) }
     ensures err { IfErr result (IsGivenUp (net_of plan.now) (targets_of traffic.now)
         (fronts.most_lines limit)) }

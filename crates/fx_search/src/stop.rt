@@ -1,4 +1,4 @@
-//! Where a search stops before its certificate is whole.
+//! Where a search stops before its certificate is complete.
 
 use crate::growing::Ahead;
 use crate::outcome::Limit;
@@ -7,9 +7,9 @@ use fx_leaf::Judgement;
 /// Why a search stops at a region.
 #[derive(Clone, Copy)]
 pub(crate) enum Why {
-    /// Its packets do not have the fate that is wanted.
+    /// The packets of the region do not have the wanted fate.
     Wrong(Judgement),
-    /// A certificate that goes on there is too large.
+    /// A certificate that continues there is too large.
     TooLarge(Limit),
 }
 
