@@ -1,4 +1,4 @@
-//! Decides whether the tables of a network are a part of another's.
+//! Checks whether the tables of a network are a part of another's.
 ghost use Rattle.std.specs.Prelude.{◌≡◌, Some, slice_get};
 ghost use Rattle.std.specs.Bool.{OnTrue};
 ghost use Rattle.fx_parts.specs.Checks as checks;
@@ -7,7 +7,7 @@ ghost use Rattle.fx_parts.specs.Parts as parts;
 
 use fx_tables::{AggregationEntry, Exporter, Holder, MatchEntry, Net, Process};
 
-/// Returns the place of the collecting process to which a destination leads, if it leads to one.
+/// Returns the place of the collecting process that a destination leads to, if there is one.
 fn lead(net: &Net, destination: Option<usize>) -> Option<usize>
     ensures { result ≡ meaning.lead net.now destination }
 {
@@ -83,7 +83,7 @@ fn exporter_alike(part: &Net, whole: &Net, places: &[usize], e: &Exporter, f: &E
         && all_leads_alike(part, whole, places, e.destinations(), f.destinations())
 }
 
-/// Returns whether there are exporting processes at both places, and they send to the same places in the same mode.
+/// Returns whether both places have an exporting process, and both send to the same places in the same mode.
 fn exporters_alike(part: &Net, whole: &Net, places: &[usize], m: usize, n: usize) -> bool
     ensures { result ≡ checks.exporters_alike part.now whole.now places.now
         (slice_get part.now.exporters m) (slice_get whole.now.exporters n) }
@@ -128,7 +128,7 @@ fn holder_alike(part: &Net, whole: &Net, places: &[usize], h: &Holder, k: &Holde
         && all_exporters_alike(part, whole, places, h.exporters(), k.exporters())
 }
 
-/// Returns whether there are holders at both places, with the same layout and exporting processes that send alike.
+/// Returns whether both places have a holder, with the same layout and exporting processes that send alike.
 pub(crate) fn holders_alike(part: &Net, whole: &Net, places: &[usize], m: usize, n: usize) -> bool
     ensures { result ≡ checks.holders_alike part.now whole.now places.now
         (slice_get part.now.holders m) (slice_get whole.now.holders n) }
@@ -196,7 +196,7 @@ fn all_aggregations_alike(
     xs.len() == ys.len() && each_aggregation_alike(part, whole, places, xs, ys)
 }
 
-/// Returns whether a collecting process of the part sends on and aggregates as the one at this place of the whole.
+/// Returns whether a collecting process of the part sends on and aggregates like the one at this place in the whole.
 fn processes_alike(part: &Net, whole: &Net, places: &[usize], p: &Process, place: usize) -> bool
     ensures { result ≡ checks.processes_alike part.now whole.now places.now p.now
         (slice_get whole.now.processes place) }

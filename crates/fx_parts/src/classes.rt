@@ -1,4 +1,4 @@
-//! Decides whether a class of a part covers a class of the whole.
+//! Checks whether a class of a part covers a class of the whole.
 ghost use Rattle.std.specs.Prelude.{◌≡◌, IfOk};
 ghost use Rattle.std.specs.Bool.{OnTrue};
 ghost use Rattle.fx_parts.specs.Parts as parts;
@@ -44,8 +44,8 @@ fn paths_alike(
     Ok(true)
 }
 
-/// Returns whether a class of the part has the region of a class of the whole, is exempt if that is, and has for each of
-/// its paths one on which a packet passes the same selection processes, in the same order.
+/// Returns whether a class of the part has the region of a class of the whole, is exempt if that class is, and has, for
+/// each of its paths, a path on which a packet passes the same selection processes in the same order.
 ///
 /// Fails if an allocation fails.
 pub fn classes_alike(

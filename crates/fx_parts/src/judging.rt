@@ -1,4 +1,4 @@
-//! Decides whether certified parts of a network cover the whole of it.
+//! Checks whether certified parts of a network cover the whole of it.
 ghost use Rattle.std.specs.Prelude.{◌≡◌, ℕ, Some, slice_get, IfOk};
 ghost use Rattle.std.specs.Bool.{OnTrue};
 ghost use Rattle.fx_base.specs.Entries.{entry_numbered};
@@ -14,7 +14,7 @@ use fx_tables::{Class, Classes, Net};
 use std::alloc::{AllocError, Global};
 use std::marker::Model;
 
-/// A part of a network: its tables, the place in the whole of each of its collecting processes, and the classes audited
+/// A part of a network: its tables, the place of each of its collecting processes in the whole, and the classes audited
 /// over it.
 #[derive(Drop)]
 pub struct Part<'p> {
@@ -36,7 +36,7 @@ impl<'p> Model for Part<'p> {
 }
 
 impl<'p> Part<'p> {
-    /// Returns a part. `places` has, for each collecting process of the part, its index in the whole, from 0.
+    /// Returns a part. `places` has the 0-based index in the whole of each collecting process of the part.
     pub fn new(net: &'p Net, places: &'p [usize], classes: &'p Classes) -> Part<'p>
         ensures { result ≡ record { net = net.now; places = places.now; classes = classes.now } }
     {
@@ -53,7 +53,7 @@ impl<'p> Part<'p> {
         is_part(self.net, whole, self.places)
     }
 
-    /// Returns whether the class with this number, from 1, covers all paths of a class of the whole.
+    /// Returns whether the class with this 1-based number covers all paths of a class of the whole.
     fn covers(
         &self,
         alloc: Global,
@@ -85,8 +85,8 @@ fn are_parts(whole: &Net, list: &[Part<'_>]) -> bool
     true
 }
 
-/// Returns whether a class of the whole is covered by the class with this number, from 1, of the part at this place,
-/// from 0.
+/// Returns whether a class of the whole is covered by the class with this 1-based number of the part at this 0-based
+/// place.
 fn is_covered(
     alloc: Global,
     whole: &Net,
@@ -127,9 +127,9 @@ fn are_covered(
     Ok(true)
 }
 
-/// Returns whether certified parts cover the whole. `located` has, for each class of the whole, the place of a part, from
-/// 0, and the number of one of its classes, from 1. If they do, each packet of the classes is counted exactly once by
-/// every complete run of the whole, and those of exempt classes never. The tables may have any size.
+/// Returns whether certified parts cover the whole. For each class of the whole, `located` has the 0-based place of a
+/// part and the 1-based number of one of its classes. If they do, every complete run of the whole counts each packet of
+/// the classes exactly once, or never if its class is exempt. The tables may have any size.
 ///
 /// Fails if an allocation fails.
 pub fn parts_cover(

@@ -1,4 +1,4 @@
-//! The laws: no code, but contracts over the definitions.
+//! The laws: contracts over the definitions, without code.
 ghost use Rattle.std.specs.Prelude.{◌≡◌, ℕ, Bool, true, List, Some, slice_get};
 ghost use Rattle.fx_elements.specs.Axes.{Fields};
 ghost use Rattle.fx_boxes.specs.Boxes.{Bounds, IsRegion, holds};
@@ -14,8 +14,8 @@ ghost use Rattle.fx_tables.specs.Network as network;
 ghost use Rattle.fx_tables.specs.Ranks.{IsNetwork};
 ghost use Rattle.fx_parts.specs.Parts.{IsPart, MetersTheSame, TakesInTheSame, Part, AllCertifiedParts, AllCovered};
 
-/// A record has the same fate in a part of a network as in the whole, and so has a packet on a path on which the same
-/// caches take it in.
+/// Proves that a record has the same fate in a part of a network as in the whole, and so does a packet on a path where
+/// the same caches take it in.
 pub fn fates_of_parts()
     ensures records { (part whole : network.Net) (places : List ℕ)
         → IsNetwork part → IsNetwork whole → IsPart part whole places
@@ -27,15 +27,15 @@ pub fn fates_of_parts()
         → TakesInTheSame part whole places region inner outer → (fields : Fields)
         → holds region fields ≡ true
         → packet_fate part fields inner ≡ packet_fate whole fields outer }
-    // Where a packet passes the same selection processes, the same caches take it in.
+    // If a packet passes the same selection processes, the same caches take it in.
     ensures seen { (part whole : network.Net) (places : List ℕ) (region : Bounds)
         (inner outer : List Crossing)
         → MetersTheSame part whole places inner outer
         → TakesInTheSame part whole places region inner outer }
 {}
 
-/// A region has the same verdict in a part as in the whole, whether a leaf or a refusal. So if a tree is sound over the
-/// part, one with the same splits is sound over the whole.
+/// Proves that a region has the same verdict in a part as in the whole, whether a leaf or a refusal. So if a tree is
+/// sound over the part, one with the same splits is sound over the whole.
 pub fn leaves_of_parts()
     ensures verdicts { (part whole : network.Net) (places : List ℕ)
         → IsNetwork part → IsNetwork whole
@@ -50,14 +50,14 @@ pub fn leaves_of_parts()
         → (other : Tree) × SplitAlike tree other × SoundTree whole outer exempt region other }
 {}
 
-/// If a certified part covers each path of each class, each packet of the classes is counted exactly once by every
-/// complete run of the whole network, and those of exempt classes never. So a network larger than one document holds is
-/// checked a part at a time.
+/// Proves that if certified parts cover each path of each class, every complete run of the whole network counts each
+/// packet of the classes exactly once, or never if its class is exempt. So a network larger than one document can hold
+/// is checked one part at a time.
 pub fn parts_count_once()
     ensures once { (whole : network.Net) (classes : List traffic.Class) (parts : List Part)
         → IsNetwork whole → AllCertifiedParts whole parts → AllCovered whole classes parts
         → ExactlyOnce whole classes }
-    // However large the sums are, the totals are the plain sums modulo 2 to the 64.
+    // The totals are the plain sums modulo 2 to the 64, however large the sums are.
     ensures modulo { (whole : network.Net) (classes : List traffic.Class) (parts : List Part)
         → IsNetwork whole → AllCertifiedParts whole parts → AllCovered whole classes parts
         → OnceModulo whole classes }

@@ -1,4 +1,4 @@
-//! Decides whether a packet passes the same selection processes on a path of a part and on one of the whole.
+//! Checks whether a packet passes the same selection processes on a path of a part and on one of the whole.
 ghost use Rattle.std.specs.Prelude.{◌≡◌, ◌++◌, List, flat_map, OnOk, IfOk};
 ghost use Rattle.std.specs.Bool.{OnTrue};
 ghost use Rattle.fx_parts.specs.Parts as parts;
@@ -32,7 +32,7 @@ fn push_all_cached(found: &mut Vec<Selection>, selections: &[Selection]) -> Resu
     Ok(())
 }
 
-/// Appends the selection processes with a cache of an observation point, if it observes the crossing.
+/// Appends the selection processes of an observation point that have a cache, if the point observes the crossing.
 fn push_meters_at(
     found: &mut Vec<Selection>,
     crossing: &Crossing,

@@ -1,4 +1,4 @@
-//! Decides whether tables are those of a network: records only go forward, and no layout has more bits than its axes.
+//! Checks whether tables are those of a network: records only go forward, and no layout has more bits than its axes.
 ghost use Rattle.std.specs.Prelude.{◌≡◌, ℕ, ◌&&◌, length, nat_lt, slice_get, IfOk};
 ghost use Rattle.std.specs.Bool.{OnTrue};
 ghost use Rattle.std.specs.List.{list_all};
@@ -11,15 +11,15 @@ use fx_ranks::rank_order;
 use fx_tables::{Holder, Net};
 use std::alloc::{AllocError, Global};
 
-/// No part of a layout has more bits than its axis.
+/// Proves that no part of a layout has more bits than its axis.
 fn fits(layout: &Layout)
     ensures { Fits layout.now }
 {
-    // For the prover alone: the parts of a layout fit their axes.
+    // The prover needs this call: it shows that the parts of a layout fit their axes.
     let _parts = layout.parts();
 }
 
-/// No part of a holder's layout has more bits than its axis.
+/// Proves that no part of a holder's layout has more bits than its axis.
 fn all_fit(holders: &[Holder])
     ensures { (k : ℕ) → Fits (layout_of (slice_get holders.now k)) }
 {
@@ -34,7 +34,7 @@ fn all_come(come: &[bool]) -> bool
     come.iter().all(|there| *there)
 }
 
-/// Returns whether all places are below this one.
+/// Returns whether all places are below `end`.
 fn all_below(places: &[usize], end: usize) -> bool
     ensures { result ≡ list_all (λ place. nat_lt place end) places.now }
 {
