@@ -14,7 +14,9 @@ use std::alloc::{AllocError, Global};
 /// The 1-based number of a device, and that of a collecting process on it.
 #[derive(Clone, Copy)]
 pub struct ProcessNumber {
+    /// The number of the device.
     pub device: usize,
+    /// The number of the process on that device.
     pub process: usize,
 }
 
@@ -94,7 +96,7 @@ fn push_number(text: &mut String, number: ProcessNumber) -> Result<(), AllocErro
     write!(text, "{}.{}", number.device, number.process)
 }
 
-/// Writes the numbers, separated by single spaces.
+/// Returns the text of the numbers, separated by single spaces.
 fn numbers_text(alloc: Global, numbers: &[ProcessNumber]) -> Result<String, AllocError>
     ensures { IfOk result (λ s. string_bytes s ≡ cycles.numbers_text numbers.now) }
 {
@@ -109,7 +111,7 @@ fn numbers_text(alloc: Global, numbers: &[ProcessNumber]) -> Result<String, Allo
     Ok(text)
 }
 
-/// Writes the numbers of the processes that are not in the rank order, separated by single spaces.
+/// Returns the text of the numbers of the processes that are not in the rank order, separated by single spaces.
 fn cycle_text(alloc: Global, devices: &[NetworkDevice], come: &[bool]) -> Result<String, AllocError>
     ensures { IfOk result (λ s. string_bytes s
         ≡ cycles.stuck_text devices.now (filter (λ place. not (slice_index_or come.now place false))
