@@ -252,7 +252,8 @@ fn all_alike(part: &Net, whole: &Net, places: &[usize]) -> bool
         && (reports_alike(part, whole, places) && part.report_layout().same(whole.report_layout()))
 }
 
-/// Returns whether the first network is a part of the second, given the place there of each of its collecting processes.
+/// Returns whether the first network is a part of the second, given the place there of each of its collecting
+/// processes.
 pub fn is_part(part: &Net, whole: &Net, places: &[usize]) -> bool
     ensures decided { result ≡ checks.is_part part.now whole.now places.now }
     ensures part { OnTrue result (parts.IsPart part.now whole.now places.now) }

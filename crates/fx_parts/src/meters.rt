@@ -163,8 +163,8 @@ fn meters_alike(
     Ok(all_selections_alike(part, whole, places, ss.as_slice(), ts.as_slice()))
 }
 
-/// Returns whether a packet passes the same selection processes with a cache, in the same order, on a path of the part and
-/// on one of the whole.
+/// Returns whether a packet passes the same selection processes with a cache, in the same order, on a path of the part
+/// and on one of the whole.
 ///
 /// Fails if an allocation fails.
 pub fn meters_the_same(
