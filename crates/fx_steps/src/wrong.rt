@@ -92,8 +92,8 @@ fn build(
     Ok(building.into_steps())
 }
 
-/// Returns the steps of a shortest run of this packet alone, on this path, that comes to the fate, with names that are
-/// made for it.
+/// Makes the names of the network's holders, and returns the steps of a shortest run of this packet alone, on this
+/// path, that comes to the fate.
 fn build_by_names(
     alloc: Global,
     costs: &PacketCosts<'_, '_>,
