@@ -1,4 +1,4 @@
-//! Calls of a source, counted.
+//! Counted calls of a source.
 ghost use Rattle.std.specs.Prelude.{◌≡◌, ◌⊎◌, ◌+◌, ◌-◌, ◌≤◌, length, take, true, OnOk, OnErr, IfOk, IfErr};
 ghost use Rattle.fx_base.specs.Limits.{call_limit};
 ghost use Rattle.fx_base.specs.Device.{ReadsInto, IsAsked};
@@ -10,7 +10,7 @@ use crate::fault::Fault;
 use crate::refusals;
 use crate::source::{MOST_CALLS, Source};
 
-/// Calls a source, unless so many calls were made already, and counts the call.
+/// Reads from a source and counts the call. Fails with 901 if the read fails or [`MOST_CALLS`] calls were made already.
 pub(crate) fn read_next<R: Source>(
     source: &mut R,
     buffer: &mut [u8],

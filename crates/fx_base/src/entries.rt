@@ -1,8 +1,8 @@
-//! Entries of a list, by number and by place.
+//! Entries of a list, by number and by index.
 ghost use Rattle.std.specs.Prelude.{◌≡◌, slice_get};
 ghost use Rattle.fx_base.specs.Entries.{now_of, entry_numbered};
 
-/// The entry of this number, from 1, and none where there is no such entry.
+/// Returns the entry with this 1-based number, if there is one.
 pub fn entry_numbered<T>(entries: &[T], number: u64) -> Option<&T>
     ensures { now_of result ≡ entry_numbered entries.now number }
 {
@@ -12,7 +12,7 @@ pub fn entry_numbered<T>(entries: &[T], number: u64) -> Option<&T>
     entry_at(entries, (number - 1) as usize)
 }
 
-/// The entry at this place, from 0, and none where there is no such entry.
+/// Returns the entry at this 0-based index, if there is one.
 pub fn entry_at<T>(entries: &[T], place: usize) -> Option<&T>
     ensures { now_of result ≡ slice_get entries.now place }
 {

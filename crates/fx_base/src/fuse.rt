@@ -1,4 +1,4 @@
-//! A device that fails at a call named beforehand.
+//! A device that fails at a given call.
 ghost use Rattle.std.specs.Prelude.{◌≡◌, ◌≢◌, ◌↔◌, ◌+◌, ◌-◌, ◌%◌, ◌^◌, ◌≤◌, [], length, take, true, false, OnOk, OnErr, IfOk, IfErr, IsErr, IsTrue};
 ghost use Rattle.fx_base.specs.Device.{ReadsInto, Writes};
 ghost use Rattle.fx_base.specs.Fault.{fault_at};
@@ -10,13 +10,13 @@ use crate::refusals;
 use crate::sink::Sink;
 use crate::source::Source;
 
-/// A device that fails at one call, for trials of what a failing device does.
+/// A device that fails at one call, for tests of what a failing device does.
 ///
-/// That call doesn't reach the device. Each other call is the device's own.
+/// The failing call doesn't reach the device. Every other call is passed to the device.
 #[derive(Drop)]
 pub struct Fuse<D> {
     device: D,
-    /// The number of calls up to the one that fails; with 0 none does.
+    /// The number of calls up to the one that fails; if 0, none does.
     calls: u64,
     /// The number of reads, modulo 2 to the 64.
     reads: u64,
@@ -24,7 +24,7 @@ pub struct Fuse<D> {
 }
 
 impl<D> Fuse<D> {
-    /// The device, failing at call `at`, counted from 1. With 0 no call fails of itself.
+    /// Returns the device, failing at call `at`, counted from 1. If `at` is 0, calls fail only if the device does.
     pub fn new(device: D, at: u64) -> Fuse<D>
         ensures device { result.device ≡ device }
         ensures calls { result.calls ≡ at }
@@ -38,7 +38,7 @@ impl<D> Fuse<D> {
         }
     }
 
-    /// The device.
+    /// Returns the device.
     pub fn into_inner(self) -> D
         ensures { result ≡ self.device }
     {
@@ -51,7 +51,7 @@ impl<D> Fuse<D> {
         device
     }
 
-    /// Counts a call, and answers whether it is the one that fails.
+    /// Counts a call and returns whether it is the one that fails.
     fn burns(&mut self) -> bool
         ensures burns { IsTrue result ↔ (self.old.calls ≡ 1) }
         ensures calls { self.new.calls ≡ self.old.calls - 1 }
@@ -82,7 +82,7 @@ impl<D: Source> Source for Fuse<D> {
             × (D.left self.new.device ≡ D.left self.old.device)) }
         ensures asked { self.new.reads ≡ (self.old.reads + 1) % 2 ^ 64 }
 
-        // The call that it names fails, and a call that fails otherwise is one where the device failed.
+        // The given call fails, and any other call fails only if the device fails.
         ensures burns { self.old.calls ≡ 1 → IsErr result }
         ensures device { OnErr result (self.old.calls ≢ 1 → D.failed self.new.device ≡ true) }
         ensures calls { self.new.calls ≡ self.old.calls - 1 }
@@ -114,7 +114,7 @@ impl<D: Sink> Sink for Fuse<D> {
         ensures err { IfErr result (λ e. (e ≡ fault_at failed_write places.None)
             × (self.new.failed ≡ true)) }
 
-        // The call that it names fails, and a call that fails otherwise is one where the device failed.
+        // The given call fails, and any other call fails only if the device fails.
         ensures burns { self.old.calls ≡ 1 → IsErr result }
         ensures device { OnErr result (self.old.calls ≢ 1 → D.failed self.new.device ≡ true) }
         ensures calls { self.new.calls ≡ self.old.calls - 1 }
@@ -135,7 +135,7 @@ impl<D: Sink> Sink for Fuse<D> {
         ensures err { IfErr result (λ e. (e ≡ fault_at failed_write places.None)
             × (self.new.failed ≡ true)) }
 
-        // The call that it names fails, and a call that fails otherwise is one where the device failed.
+        // The given call fails, and any other call fails only if the device fails.
         ensures burns { self.old.calls ≡ 1 → IsErr result }
         ensures device { OnErr result (self.old.calls ≢ 1 → D.failed self.new.device ≡ true) }
         ensures calls { self.new.calls ≡ self.old.calls - 1 }

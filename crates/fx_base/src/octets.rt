@@ -1,10 +1,10 @@
-//! Octets in memory, to be read.
+//! Octets in memory as a source.
 ghost use Rattle.std.specs.Prelude.{◌≡◌, false, Some};
 
 use crate::fault::Fault;
 use crate::source::Source;
 
-/// Octets in memory, read from the front. No read fails.
+/// A source of octets in memory, read from the front. No read fails.
 #[derive(Drop)]
 pub struct Octets<'a> {
     rest: &'a [u8],
@@ -12,7 +12,7 @@ pub struct Octets<'a> {
 }
 
 impl<'a> Octets<'a> {
-    /// A source of these octets.
+    /// Returns a source of these octets.
     pub fn new(octets: &'a [u8]) -> Octets<'a>
         ensures octets { result.rest.now ≡ octets.now }
         ensures calls { result.calls ≡ 0 }

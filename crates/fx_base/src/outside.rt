@@ -1,4 +1,4 @@
-//! The readers and writers of std as devices.
+//! Readers and writers of std as devices.
 ghost use Rattle.std.specs.Prelude.{◌≡◌, false, None};
 
 use crate::fault::Fault;
@@ -7,11 +7,10 @@ use crate::sink::Sink;
 use crate::source::Source;
 use std::io;
 
-/// Any reader or writer of std. It tells no octets. A writer may hold back what it has taken until
-/// it is flushed.
+/// A reader or writer of std. It is opaque: its octets are not known to the specification. A writer may hold back what
+/// it has taken until it is flushed.
 ///
-/// A call fails where the reader's or writer's own call does, or where a write takes none of some
-/// octets.
+/// A call fails if the call of the reader or writer fails, or if a non-empty write takes no octets.
 #[derive(Drop)]
 pub struct Outside<D> {
     device: D,
@@ -21,7 +20,7 @@ pub struct Outside<D> {
 }
 
 impl<D> Outside<D> {
-    /// This reader or writer.
+    /// Wraps a reader or writer.
     pub fn new(device: D) -> Outside<D>
         ensures device { result.device ≡ device }
         ensures ok { result.failed ≡ false }
@@ -34,7 +33,7 @@ impl<D> Outside<D> {
         }
     }
 
-    /// The reader or writer.
+    /// Returns the reader or writer.
     pub fn into_inner(self) -> D
         ensures { result ≡ self.device }
     {

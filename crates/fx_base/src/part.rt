@@ -10,27 +10,27 @@ use crate::source::Source;
 use crate::window::Window;
 use memchr::memchr;
 
-/// The greatest number of bytes of a line, its line feed not counted.
+/// The greatest number of bytes of a line, not counting its line feed.
 pub(crate) const LONGEST: usize = 4096;
 
-/// The number of bytes that are held at once.
+/// The number of bytes that can be held at once.
 pub(crate) const ROOM: usize = 8192;
 
-/// Why a reader stops.
+/// The reason why a reader stops.
 #[derive(Clone, Copy)]
 pub(crate) enum LineStop {
     Device,
     TooLong,
 }
 
-/// The number of bytes of the line at the front of what is held, without its line feed and with it.
+/// The number of bytes of the line at the front of the held octets, without and with its line feed.
 #[derive(Clone, Copy)]
 pub(crate) struct LinePart {
     pub(crate) line: usize,
     pub(crate) taken: usize,
 }
 
-/// Where the first line feed is.
+/// Returns the index of the first line feed.
 fn line_feed(bytes: &[u8]) -> Option<usize>
     ensures found { IfSome result (λ n. (n ≡ line_len bytes.now) × (n < length bytes.now)) }
     ensures none { IfNone result (line_len bytes.now ≡ length bytes.now) }
@@ -38,7 +38,7 @@ fn line_feed(bytes: &[u8]) -> Option<usize>
     memchr(b'\n', bytes)
 }
 
-/// Has the next line held, and answers how much of what is held it is; nothing at the end.
+/// Reads until the next line is held, and returns how many of the held octets it takes; 0 at the end.
 pub(crate) fn find_line<R: Source>(window: &mut Window<R>) -> Result<LinePart, LineStop>
     requires { window.old.room ≡ ROOM }
     ensures octets { octets_of window.new ≡ octets_of window.old }

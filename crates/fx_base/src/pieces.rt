@@ -12,13 +12,13 @@ use crate::fault::Fault;
 use crate::source::Source;
 use std::marker::Model;
 
-/// The greatest number of octets of a piece, which is how many are asked for at once.
+/// The greatest number of octets of a piece, which is the number requested at once.
 pub const PIECE: usize = 4096;
 
 /// Lends the octets of a source one piece at a time, to its end.
 ///
-/// The source is handed to it for each piece, always the same one. It makes 4,294,967,296 calls of
-/// it at most, and takes no memory.
+/// The source, always the same one, is passed in for each piece. The reader calls it at most 4,294,967,296 times and
+/// allocates nothing.
 #[derive(Drop)]
 pub struct PieceReader {
     octets: [u8; PIECE],
@@ -40,7 +40,7 @@ impl Model for PieceReader {
 }
 
 impl PieceReader {
-    /// A reader that has read nothing.
+    /// Returns a reader that has read nothing.
     pub fn new() -> PieceReader
         ensures { result ≡ record { piece = []; calls = 0 } }
     {
@@ -51,10 +51,10 @@ impl PieceReader {
         }
     }
 
-    /// Goes on to the next piece, and answers whether there is one.
+    /// Advances to the next piece and returns whether there is one.
     ///
-    /// Fails with 901, at no place, where the read fails or the source hasn't ended after
-    /// 4,294,967,296 calls. No octet is lost then.
+    /// Fails with 901, at no place, if the read fails or the source hasn't ended after 4,294,967,296 calls. No octet is
+    /// lost then.
     pub fn advance<R: Source>(&mut self, source: &mut R) -> Result<bool, Fault>
         ensures octets { prepend_known self.new.piece (R.left source.new) ≡ R.left source.old }
         ensures there { IfOk result (λ there. there ≡ nat_lt 0 (length self.new.piece)) }
@@ -74,7 +74,7 @@ impl PieceReader {
         Ok(self.len > 0)
     }
 
-    /// The piece that it is at, after [`advance`](PieceReader::advance) answered that there is one.
+    /// Returns the current piece, after [`advance`](PieceReader::advance) returned true.
     pub fn piece(&self) -> &[u8]
         ensures { result.now ≡ self.now.piece }
     {

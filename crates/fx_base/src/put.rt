@@ -1,4 +1,4 @@
-//! Texts and numbers written into a sink. Nothing here takes memory.
+//! Output of texts and numbers to a sink. Nothing here allocates.
 ghost use Rattle.std.specs.Prelude.{OnOk, IfErr, decimal, map};
 ghost use Rattle.fx_base.specs.Device.{Writes, IsWriteFault, KeepsGoing};
 ghost use Rattle.fx_base.specs.Fault.{fault_text, place_behind, place_text, shown};
@@ -9,7 +9,7 @@ use itoa::Buffer;
 
 /// Writes all of a text.
 ///
-/// Fails with 902, at no place, where a write fails. How much the sink has taken then is open.
+/// Fails with 902, at no place, if a write fails. How much the sink has taken is then unspecified.
 pub fn put_text<S: Sink>(sink: &mut S, text: &[u8]) -> Result<(), Fault>
     ensures ok { OnOk result (Writes (S.taken sink.old) (S.taken sink.new) text.now) }
     ensures going { OnOk result (KeepsGoing (S.failed sink.old) (S.failed sink.new)) }
@@ -24,7 +24,7 @@ pub fn put_text<S: Sink>(sink: &mut S, text: &[u8]) -> Result<(), Fault>
 
 /// Writes a number of up to 128 bits in decimal, without leading zeros.
 ///
-/// Fails as [`put_text`].
+/// Fails like [`put_text`].
 pub fn put_number_wide<S: Sink>(sink: &mut S, number: u128) -> Result<(), Fault>
     ensures ok { OnOk result (Writes (S.taken sink.old) (S.taken sink.new) (decimal number)) }
     ensures going { OnOk result (KeepsGoing (S.failed sink.old) (S.failed sink.new)) }
@@ -36,7 +36,7 @@ pub fn put_number_wide<S: Sink>(sink: &mut S, number: u128) -> Result<(), Fault>
 
 /// Writes a number in decimal, without leading zeros.
 ///
-/// Fails as [`put_text`].
+/// Fails like [`put_text`].
 pub fn put_number<S: Sink>(sink: &mut S, number: u64) -> Result<(), Fault>
     ensures ok { OnOk result (Writes (S.taken sink.old) (S.taken sink.new) (decimal number)) }
     ensures going { OnOk result (KeepsGoing (S.failed sink.old) (S.failed sink.new)) }
@@ -59,7 +59,7 @@ fn put_shown<S: Sink>(sink: &mut S, text: &[u8]) -> Result<(), Fault>
 
 /// Writes a place as it is printed.
 ///
-/// Fails as [`put_text`].
+/// Fails like [`put_text`].
 pub fn put_place<S: Sink>(sink: &mut S, place: &Place) -> Result<(), Fault>
     ensures ok { OnOk result (Writes (S.taken sink.old) (S.taken sink.new) (place_text place.now)) }
     ensures going { OnOk result (KeepsGoing (S.failed sink.old) (S.failed sink.new)) }
@@ -79,7 +79,7 @@ pub fn put_place<S: Sink>(sink: &mut S, place: &Place) -> Result<(), Fault>
     }
 }
 
-/// Writes a space and a place behind what stands before it, or nothing where there is no place.
+/// Writes a space and a place, or nothing if there is no place.
 fn put_behind<S: Sink>(sink: &mut S, place: &Place) -> Result<(), Fault>
     ensures ok { OnOk result (Writes (S.taken sink.old) (S.taken sink.new)
         (place_behind place.now)) }
@@ -95,9 +95,9 @@ fn put_behind<S: Sink>(sink: &mut S, place: &Place) -> Result<(), Fault>
     }
 }
 
-/// Writes a refusal as it is printed: its number in decimal and, behind a space, its place.
+/// Writes a refusal as it is printed: its number in decimal, followed by a space and its place if it has one.
 ///
-/// Fails as [`put_text`].
+/// Fails like [`put_text`].
 pub fn put_fault<S: Sink>(sink: &mut S, fault: &Fault) -> Result<(), Fault>
     ensures ok { OnOk result (Writes (S.taken sink.old) (S.taken sink.new) (fault_text fault.now)) }
     ensures going { OnOk result (KeepsGoing (S.failed sink.old) (S.failed sink.new)) }

@@ -1,4 +1,4 @@
-//! Room of a fixed size in memory, to be written.
+//! A buffer of fixed size in memory as a sink.
 ghost use Rattle.std.specs.Prelude.{◌≡◌, ◌≤◌, [], length, take, true, false, Some, OnOk, OnErr, IfOk, IfErr};
 ghost use Rattle.fx_base.specs.Device.{Writes};
 ghost use Rattle.fx_base.specs.Fault.{fault_at};
@@ -9,7 +9,7 @@ use crate::fault::Fault;
 use crate::refusals;
 use crate::sink::Sink;
 
-/// Room of a fixed size in memory. A write takes what fits, and fails where nothing does.
+/// A sink of fixed size in memory. A write takes what fits, and fails if nothing does.
 #[derive(Drop)]
 pub struct Room<'a> {
     octets: &'a mut [u8],
@@ -21,7 +21,7 @@ pub struct Room<'a> {
 impl<'a> Room<'a> {
     ghost use Rattle.fx_base.specs.Room.{room_octets, room_size};
 
-    /// Room of this slice's length, which has taken nothing.
+    /// Returns an empty sink over this slice.
     pub fn new(octets: &'a mut [u8]) -> Room<'a>
         ensures empty { room_octets result ≡ [] }
         ensures size { room_size result ≡ length octets.old }
@@ -34,7 +34,7 @@ impl<'a> Room<'a> {
         }
     }
 
-    /// The octets that it has taken.
+    /// Returns the octets that it has taken.
     pub fn octets(&self) -> &[u8]
         ensures { result.now ≡ room_octets self.now }
     {
@@ -60,7 +60,7 @@ impl Sink for Room<'_> {
         ensures err { IfErr result (λ e. (e ≡ fault_at failed_write places.None)
             × (self.new.failed ≡ true)) }
 
-        // It fails only where it is full, and then holds what it held.
+        // A write fails only if the sink is full, and leaves its octets unchanged.
         ensures full { OnErr result (length (room_octets self.old) ≡ room_size self.old) }
         ensures kept { OnErr result (room_octets self.new ≡ room_octets self.old) }
         ensures size { room_size self.new ≡ room_size self.old }

@@ -1,4 +1,4 @@
-//! What octets go to.
+//! Destinations of octets.
 ghost use Rattle.std.specs.Prelude.{◌≡◌, ℕ, ◌≤◌, List, [], length, take, Bool, true, false, Option, OnOk, IfOk, IfErr};
 ghost use Rattle.fx_base.specs.Device.{Writes};
 ghost use Rattle.fx_base.specs.Fault.{fault_at};
@@ -7,10 +7,13 @@ ghost use Rattle.fx_base.specs.Refusals.{failed_write};
 
 use crate::fault::Fault;
 
-/// What octets go to, seen as the octets that it has taken, where it tells them, as whether its
-/// last call failed, and as whether it may hold back octets that it has taken.
+/// A destination of octets.
+///
+/// The specification sees it as the octets that it has taken, if it is known, whether its last call failed, and whether
+/// it may hold back octets that it has taken. A sink is *known* if its octets are known to the specification, and
+/// *opaque* otherwise.
 pub trait Sink: Drop {
-    /// The octets taken, where it tells them.
+    /// The octets taken, if the sink is known.
     ghost taken: { Self → Option (List ℕ) };
 
     /// Whether the last call failed.
@@ -19,10 +22,9 @@ pub trait Sink: Drop {
     /// Whether it may hold back octets that it has taken, up to the next flush.
     ghost holds_back: { Self → Bool };
 
-    /// Takes some of the octets, from their front, and answers their number, which is 0 only
-    /// where there are none.
+    /// Takes some of the octets, from the front, and returns their number, which is 0 only if there are none.
     ///
-    /// Fails with 902, at no place. What it has taken then is open.
+    /// Fails with 902, at no place. What it has taken is then unspecified.
     fn write(&mut self, octets: &[u8]) -> Result<usize, Fault>
         ensures count { IfOk result (λ n. n ≤ length octets.now) }
         ensures some { IfOk result (λ n. n ≡ 0 → octets.now ≡ []) }
@@ -32,9 +34,9 @@ pub trait Sink: Drop {
         ensures err { IfErr result (λ e. (e ≡ fault_at failed_write places.None)
             × (failed self.new ≡ true)) };
 
-    /// Hands on what it holds back.
+    /// Passes on what it holds back.
     ///
-    /// Fails with 902, at no place. What it holds back then is open.
+    /// Fails with 902, at no place. What it holds back is then unspecified.
     fn flush(&mut self) -> Result<(), Fault>
         ensures ok { OnOk result ((failed self.new ≡ false) × (holds_back self.new ≡ false)) }
         ensures octets { OnOk result (taken self.new ≡ taken self.old) }
@@ -42,7 +44,7 @@ pub trait Sink: Drop {
             × (failed self.new ≡ true)) };
 }
 
-/// A sink that is lent.
+/// A borrowed sink.
 impl<S: Sink> Sink for &mut S {
     ghost taken = { λ s. S.taken s.now };
 

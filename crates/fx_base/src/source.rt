@@ -1,4 +1,4 @@
-//! What octets come from.
+//! Sources of octets.
 ghost use Rattle.std.specs.Prelude.{◌≡◌, ℕ, ◌+◌, ◌%◌, ◌^◌, ◌≤◌, List, length, take, Bool, true, false, Option, OnOk, IfOk, IfErr};
 ghost use Rattle.fx_base.specs.Device.{ReadsInto};
 ghost use Rattle.fx_base.specs.Fault.{fault_at};
@@ -10,20 +10,22 @@ use crate::fault::Fault;
 /// The number of calls after which a source that hasn't ended counts as failing.
 pub const MOST_CALLS: u64 = 4_294_967_296;
 
-/// What octets come from, seen as the octets that it has left, where it tells them, as whether its
-/// last call failed, and as the number of its calls.
+/// A source of octets.
+///
+/// The specification sees it as the octets that it has left, if it is known, whether its last call failed, and the
+/// number of its calls. A source is *known* if its octets are known to the specification, and *opaque* otherwise.
 pub trait Source: Drop {
-    /// The octets left, where it tells them.
+    /// The octets left, if the source is known.
     ghost left: { Self → Option (List ℕ) };
 
     /// Whether the last call failed.
     ghost failed: { Self → Bool };
 
-    /// How many calls were made of it, modulo 2 to the 64.
+    /// The number of calls made, modulo 2 to the 64.
     ghost calls: { Self → ℕ };
 
-    /// Puts the next octets at the buffer's front, and answers their number: none at the end, or
-    /// where the buffer is empty.
+    /// Reads the next octets into the front of the buffer and returns their number, which is 0 at the end or if the
+    /// buffer is empty.
     ///
     /// Fails with 901, at no place, and then no octet is lost.
     fn read(&mut self, buffer: &mut [u8]) -> Result<usize, Fault>
@@ -38,7 +40,7 @@ pub trait Source: Drop {
         ensures asked { calls self.new ≡ (calls self.old + 1) % 2 ^ 64 };
 }
 
-/// A source that is lent.
+/// A borrowed source.
 impl<S: Source> Source for &mut S {
     ghost left = { λ s. S.left s.now };
 

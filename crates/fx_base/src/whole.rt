@@ -10,10 +10,10 @@ use crate::pieces::PieceReader;
 use crate::source::Source;
 use std::alloc::Global;
 
-/// All octets that a source has left.
+/// Reads all octets that a source has left.
 ///
-/// Fails with 901 where a read fails, or where the source hasn't ended after 4,294,967,296 calls,
-/// and with 900 for want of memory, each at no place.
+/// Fails with 901 if a read fails or the source hasn't ended after 4,294,967,296 calls, and with 900 if out of memory,
+/// each at no place.
 pub fn read_whole<R: Source>(alloc: Global, source: &mut R) -> Result<Vec<u8>, Fault>
     ensures all { IfOk result (λ octets. MayBeLeft (R.left source.old) octets.items) }
     ensures end { OnOk result (IfSome (R.left source.old) (λ _. R.left source.new ≡ Some [])) }

@@ -1,4 +1,4 @@
-//! The octets of a source, of which some are held.
+//! A buffered window on the octets of a source.
 ghost use Rattle.std.specs.Prelude.{◌≡◌, ◌⊎◌, ◌+◌, ◌-◌, ◌≤◌, ◌<◌, [], length, take, drop, true, OnOk, OnErr, IfOk, IfErr, IfSome, slice_range};
 ghost use Rattle.std.specs.Io.KnownBytes.{prepend_known};
 ghost use Rattle.fx_base.specs.Limits.{call_limit};
@@ -14,11 +14,10 @@ use crate::source::Source;
 use std::alloc::Global;
 use std::marker::Model;
 
-/// The octets of a source, of which the first are held in a buffer of a fixed room.
+/// The octets of a source, the first of which are held in a buffer of fixed size.
 ///
-/// What was read stays held until it is passed over, so a reader can look at as many octets at once
-/// as there is room for. It makes 4,294,967,296 calls of its source at most, and takes memory only
-/// when it is made.
+/// What was read stays held until it is passed over, so a reader can look at as many octets at once as the buffer has
+/// room for. It calls its source at most 4,294,967,296 times and allocates only when it is made.
 #[derive(Drop)]
 pub struct Window<R: Source> {
     source: R,
@@ -46,7 +45,7 @@ impl<R: Source> Model for Window<R> {
     ghost invariant = { λ w. IsWindow (length w.bytes.items) w.start w.end w.calls };
 }
 
-/// Reads behind the first `end` octets.
+/// Reads into the buffer after its first `end` octets.
 fn read_behind<R: Source>(
     source: &mut R,
     bytes: &mut [u8],
@@ -71,7 +70,7 @@ fn read_behind<R: Source>(
     read_next(source, &mut bytes[end..], calls)
 }
 
-/// Reads behind the first octets until there are as many as wanted, or the source ends.
+/// Reads after the first octets until there are as many as wanted or the source ends.
 fn gather<R: Source>(
     source: &mut R,
     bytes: &mut [u8],
@@ -116,9 +115,9 @@ fn to_front(bytes: &mut [u8], start: usize, end: usize)
 }
 
 impl<R: Source> Window<R> {
-    /// A window on a source, which holds nothing yet, with room for so many octets.
+    /// Returns an empty window on a source, with room for this number of octets.
     ///
-    /// Fails with 900, at no place, for want of memory.
+    /// Fails with 900, at no place, if out of memory.
     pub fn new(alloc: Global, source: R, room: usize) -> Result<Window<R>, Fault>
         ensures ok { IfOk result (λ w. w ≡ record {
           room = room;
@@ -139,11 +138,11 @@ impl<R: Source> Window<R> {
         })
     }
 
-    /// Reads until it holds as many octets as wanted, for which it has to have room, or the source
-    /// has ended. It calls its source only if it holds fewer.
+    /// Reads until it holds as many octets as wanted, for which it must have room, or the source has ended. It calls
+    /// its source only if it holds fewer.
     ///
-    /// Fails with 901, at no place, where a read fails or the source hasn't ended after
-    /// 4,294,967,296 calls. No octet is lost then.
+    /// Fails with 901, at no place, if a read fails or the source hasn't ended after 4,294,967,296 calls. No octet is
+    /// lost then.
     pub fn fill(&mut self, want: usize) -> Result<(), Fault>
         requires { want ≤ self.old.room }
         ensures octets { octets_of self.new ≡ octets_of self.old }
@@ -181,7 +180,7 @@ impl<R: Source> Window<R> {
         )
     }
 
-    /// The octets that it holds.
+    /// Returns the octets that it holds.
     pub fn octets(&self) -> &[u8]
         ensures value { result.now ≡ self.now.held }
         ensures room { length result.now ≤ self.now.room }
@@ -189,7 +188,7 @@ impl<R: Source> Window<R> {
         &self.bytes[self.start..self.end]
     }
 
-    /// The source, which stands behind the octets that it holds.
+    /// Returns the source, which is past the octets that the window holds.
     pub fn get_ref(&self) -> &R
         ensures left { R.left result.now ≡ self.now.left }
         ensures failed { R.failed result.now ≡ self.now.failed }
@@ -198,7 +197,7 @@ impl<R: Source> Window<R> {
         &self.source
     }
 
-    /// Passes over the first octets, of which it has to hold so many.
+    /// Passes over the first `n` octets, which it must hold.
     pub fn pass(&mut self, n: usize)
         requires { n ≤ length self.old.held }
         ensures { self.new ≡ record self.old { held = drop n self.old.held } }
