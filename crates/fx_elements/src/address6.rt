@@ -1,4 +1,4 @@
-//! Addresses of IPv6 in all of their spellings (RFC 4291, section 2.2).
+//! IPv6 addresses in all of their spellings (RFC 4291, section 2.2).
 ghost use Rattle.std.specs.Prelude.{◌≡◌, ◌<◌, ◌≤◌, ◌+◌, ◌*◌, ◌^◌, ◌⊎◌, ℕ, List, Some, IfSome, option_and_then, option_map};
 ghost use Rattle.fx_elements.specs.Groups.{groups};
 ghost use Rattle.fx_elements.specs.Address6.{any_hex_of, any_group_of, last_of, side_of, cut_at_zeros, address6_of, prefix6_of, IsUncompressed, IsCompressed, no_groups, side_with};
@@ -6,7 +6,7 @@ ghost use Rattle.fx_elements.specs.Address6.{any_hex_of, any_group_of, last_of, 
 use crate::groups::read_hex;
 use crate::spelling::{read_number, read_quad, split_at_byte};
 
-/// The value of a hexadecimal digit of either case.
+/// Returns the value of a hexadecimal digit of either case.
 #[tactic(auto, unfolding(crate::specs::Address6::any_hex_of, crate::specs::Groups::hex_of))]
 fn read_any_hex(digit: u8) -> Option<u128>
     ensures value { result ≡ any_hex_of digit }
@@ -18,7 +18,7 @@ fn read_any_hex(digit: u8) -> Option<u128>
     }
 }
 
-/// The number that two hexadecimal digits of either case make.
+/// Returns the number that two hexadecimal digits of either case spell.
 #[inline(always)]
 fn read_any_pair(high: u8, low: u8) -> Option<u128>
     ensures value { result ≡ option_and_then
@@ -28,7 +28,7 @@ fn read_any_pair(high: u8, low: u8) -> Option<u128>
     Some(read_any_hex(high)? * 16 + read_any_hex(low)?)
 }
 
-/// The group that one to four hexadecimal digits of either case spell.
+/// Returns the group that one to four hexadecimal digits of either case spell.
 fn read_any_group(text: &[u8]) -> Option<u128>
     ensures value { result ≡ any_group_of text.now }
     ensures bound { IfSome result (λ v. v < 65536) }
@@ -42,14 +42,14 @@ fn read_any_group(text: &[u8]) -> Option<u128>
     }
 }
 
-/// Groups side by side: how many, 8 at most, and the number that they make, 16 bits each.
+/// Consecutive groups: their number, at most 8, and their combined value, 16 bits each.
 #[derive(Clone, Copy)]
 struct Side {
     count: u32,
     value: u128,
 }
 
-/// The side with the last piece behind it: a group, or at the end of the address a dotted quad, which is two.
+/// Appends the last piece to the side: a group or, at the end of the address, a dotted quad, which is two groups.
 #[tactic(auto, unfolding(crate::specs::Address6::last_of, crate::specs::Address6::side_with))]
 fn read_last(side: Side, ends: bool, text: &[u8]) -> Option<Side>
     requires few { side.count ≤ 7 }
@@ -76,7 +76,8 @@ fn read_last(side: Side, ends: bool, text: &[u8]) -> Option<Side>
     })
 }
 
-/// The groups of one side of `::`, or of an address without it; None where the text spells none or more than eight.
+/// Returns the groups of one side of `::`, or of an address without it, or None if the text spells none or more than
+/// eight.
 fn read_side(text: &[u8], ends: bool) -> Option<Side>
     ensures { result ≡ side_with no_groups (side_of ends text.now) }
 {
@@ -99,7 +100,7 @@ fn read_side(text: &[u8], ends: bool) -> Option<Side>
     None
 }
 
-/// The parts before and after the first `::`.
+/// Returns the parts before and after the first `::`.
 fn cut_zeros(text: &[u8]) -> Option<(&[u8], &[u8])>
     ensures { option_map (λ p. (p.0.now, p.1.now)) result ≡ cut_at_zeros text.now }
 {
@@ -111,8 +112,8 @@ fn cut_zeros(text: &[u8]) -> Option<(&[u8], &[u8])>
     None
 }
 
-/// The address of IPv6 that the text spells: eight groups, `::` in place of zero groups once, a dotted quad at the
-/// end (RFC 4291, section 2.2). No zone, no brackets, no white space.
+/// Returns the IPv6 address that the text spells: eight groups, with zero groups replaced once by `::`, and optionally
+/// a dotted quad at the end (RFC 4291, section 2.2). Zones, brackets and white space are not accepted.
 pub fn read_address6(text: &[u8]) -> Option<u128>
     ensures value { result ≡ address6_of text.now }
     ensures bound { IfSome result (λ v. v < 2 ^ 128) }
@@ -133,7 +134,7 @@ pub fn read_address6(text: &[u8]) -> Option<u128>
     Some(one_zero * 0x1_0000u128.pow(7 - before.count) + after.value)
 }
 
-/// The address of IPv6 and the number of leading bits of `address/n`.
+/// Returns the IPv6 address and the number of leading bits of `address/n`.
 #[tactic(auto, unfolding(crate::specs::Address6::prefix6_of))]
 pub fn read_prefix6(text: &[u8]) -> Option<(u128, u128)>
     ensures value { result ≡ prefix6_of text.now }
@@ -148,9 +149,9 @@ pub fn read_prefix6(text: &[u8]) -> Option<(u128, u128)>
     Some((address, bits))
 }
 
-/// An address of IPv6 is spelled by eight groups, or compressed, by groups before and after `::`, which stands for one
-/// or more zero groups, and by nothing else (RFC 4291, section 2.2); so each text spells one at most. The written form
-/// is one of its spellings.
+/// An IPv6 address is spelled either in full by eight groups, or compressed by groups before and after a `::` that
+/// denotes one or more zero groups, and in no other way (RFC 4291, section 2.2). So each text spells at most one
+/// address. The written form is one of the spellings.
 pub fn many_spellings()
     ensures uncompressed { (text : List ℕ) (v : ℕ)
         → IsUncompressed text v → address6_of text ≡ Some v }

@@ -1,13 +1,13 @@
-//! The axes: what tells packets and flows apart.
+//! The axes, which distinguish packets and flows.
 ghost use Rattle.std.specs.Prelude.{◌≡◌, ◌^◌, ◌+◌, ◌<◌, ◌==◌, map, length, slice_index};
 ghost use Rattle.fx_elements.specs.Axes.{axis_index, axis_width, axis_count, is_address, is_wide};
 ghost use Rattle.fx_elements.specs.Elements.{element_number, prefix_number, prefix_length_number};
 
-/// How many axes there are.
+/// The number of axes.
 pub const AXES: usize = 9;
 
-/// An information element that a packet carries and that flows are told apart by (RFC 7012, sections 5.4 and 5.5).
-/// The variants stand in the order in which keys are written and compared.
+/// An information element that packets carry and that distinguishes flows (RFC 7012, sections 5.4 and 5.5). The
+/// variants are in the order in which keys are written and compared.
 #[derive(Clone, Copy, Debug, Default, PartialEq, Eq)]
 pub enum Axis {
     /// sourceIPv4Address, 32 bits.
@@ -58,7 +58,7 @@ pub const EVERY_AXIS: [Axis; AXES] = [
 ];
 
 impl Axis {
-    /// The axis's place in the order, from 0.
+    /// Returns the 0-based index of the axis in the order.
     pub fn index(self) -> usize
         ensures place { result ≡ axis_index self }
         ensures bound { result < axis_count }
@@ -76,7 +76,7 @@ impl Axis {
         }
     }
 
-    /// Whether the axis's values are addresses, which may be cut to a prefix.
+    /// Returns whether the values of the axis are addresses, which may be cut to a prefix.
     pub fn is_address(self) -> bool
         ensures { result ≡ is_address self }
     {
@@ -86,14 +86,14 @@ impl Axis {
         )
     }
 
-    /// Whether they are addresses of IPv6.
+    /// Returns whether the values of the axis are IPv6 addresses.
     pub fn is_wide(self) -> bool
         ensures { result ≡ is_wide self }
     {
         matches!(self, Axis::Source6 | Axis::Destination6)
     }
 
-    /// The number of the axis's element in the IANA registry.
+    /// Returns the number of the axis's element in the IANA registry.
     pub fn element_number(self) -> u16
         ensures { result ≡ element_number self }
     {
@@ -110,7 +110,8 @@ impl Axis {
         }
     }
 
-    /// The number of the element that an address's prefix is; 0, which is no element's, where there are no addresses.
+    /// Returns the number of the element for a prefix of the axis's addresses, or 0, which no element has, if its
+    /// values are not addresses.
     pub fn prefix_number(self) -> u16
         ensures { result ≡ prefix_number self }
     {
@@ -123,7 +124,7 @@ impl Axis {
         }
     }
 
-    /// The number of the element that such a prefix's length is.
+    /// Returns the number of the element for the length of such a prefix.
     pub fn prefix_length_number(self) -> u16
         ensures { result ≡ prefix_length_number self }
     {
@@ -137,7 +138,7 @@ impl Axis {
     }
 }
 
-/// How many bits a value on the axis has.
+/// Returns the number of bits of a value on the axis.
 pub fn width(axis: Axis) -> u32
     ensures bits { result ≡ axis_width axis }
     ensures bound { result < 129 }
@@ -150,7 +151,7 @@ pub fn width(axis: Axis) -> u32
     }
 }
 
-/// The greatest value on the axis.
+/// Returns the greatest value on the axis.
 pub fn top(axis: Axis) -> u128
     ensures value { result ≡ slice_index TOPS (axis_index axis) }
     ensures width { result + 1 ≡ 2 ^ axis_width axis }

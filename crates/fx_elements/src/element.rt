@@ -4,10 +4,10 @@ ghost use Rattle.fx_elements.specs.Elements.{element_named, element_numbered, na
 
 use crate::axis::Axis;
 
-/// An information element (RFC 7012), as far as the accounting of flows tells it apart.
+/// An information element (RFC 7012), insofar as flow accounting distinguishes it.
 #[derive(Clone, Copy, Debug, PartialEq, Eq)]
 pub enum Element {
-    /// A field of packets by which flows are told apart.
+    /// A field of packets that distinguishes flows.
     OnAxis(Axis),
     /// octetDeltaCount (1): the octets since the previous report, IP header and payload.
     OctetDeltaCount,
@@ -20,14 +20,14 @@ pub enum Element {
     /// The leading bits of the address on an axis: sourceIPv4Prefix (44), destinationIPv4Prefix (45),
     /// sourceIPv6Prefix (170) and destinationIPv6Prefix (169).
     Prefix(Axis),
-    /// How many leading bits such a prefix has: sourceIPv4PrefixLength (9), destinationIPv4PrefixLength (13),
+    /// The number of leading bits of such a prefix: sourceIPv4PrefixLength (9), destinationIPv4PrefixLength (13),
     /// sourceIPv6PrefixLength (29) and destinationIPv6PrefixLength (30).
     PrefixLength(Axis),
-    /// Any other element of the registry, or an element of an enterprise.
+    /// Any other element of the registry, or an enterprise-specific element.
     Other,
 }
 
-/// The element of this name among the last lines of the registry, from sourceIPv4Prefix (44) on.
+/// Returns the element with this name among the last lines of the registry, from sourceIPv4Prefix (44) on.
 fn by_last_name(name: &str) -> Element
     ensures { result ≡ named_in (drop 14 registry) name.now }
 {
@@ -43,7 +43,7 @@ fn by_last_name(name: &str) -> Element
     }
 }
 
-/// The element of this name among the lines of the registry from destinationTransportPort (11) on.
+/// Returns the element with this name among the lines of the registry from destinationTransportPort (11) on.
 fn by_later_name(name: &str) -> Element
     ensures { result ≡ named_in (drop 7 registry) name.now }
 {
@@ -59,7 +59,7 @@ fn by_later_name(name: &str) -> Element
     }
 }
 
-/// The element of this name. Names are compared exactly; an unknown one is another element's.
+/// Returns the element with this name, or [`Element::Other`] if the name is unknown. Names are compared exactly.
 pub fn by_name(name: &str) -> Element
     ensures { result ≡ element_named name.now }
 {
@@ -75,7 +75,7 @@ pub fn by_name(name: &str) -> Element
     }
 }
 
-/// The element of this number of an enterprise, where 0 stands for the IANA registry.
+/// Returns the element with this number of an enterprise, where 0 means the IANA registry.
 pub fn by_id(number: u16, enterprise: u32) -> Element
     ensures { result ≡ element_numbered number enterprise }
 {

@@ -1,10 +1,10 @@
-//! Addresses of IPv6 in their written form: eight groups in lower case, without leading zeros.
+//! The written form of IPv6 addresses: eight groups in lower case, without leading zeros.
 ghost use Rattle.std.specs.Prelude.{◌≡◌, ◌<◌, ◌+◌, ◌*◌, ◌^◌, ◌==◌, ◌&&◌, length, nat_lt, slice_index, IfSome, option_and_then, option_map};
 ghost use Rattle.fx_elements.specs.Groups.{hex_of, group_of, groups_of};
 
 use crate::spelling::split_at_byte;
 
-/// The value of a hexadecimal digit in lower case.
+/// Returns the value of a lower-case hexadecimal digit.
 #[tactic(auto, unfolding(crate::specs::Groups::hex_of))]
 pub fn read_hex(digit: u8) -> Option<u128>
     ensures value { result ≡ hex_of digit }
@@ -17,7 +17,7 @@ pub fn read_hex(digit: u8) -> Option<u128>
     }
 }
 
-/// The number that two hexadecimal digits in lower case make.
+/// Returns the number that two lower-case hexadecimal digits spell.
 #[inline(always)]
 fn read_pair(high: u8, low: u8) -> Option<u128>
     ensures value { result ≡ option_and_then
@@ -27,7 +27,7 @@ fn read_pair(high: u8, low: u8) -> Option<u128>
     Some(read_hex(high)? * 16 + read_hex(low)?)
 }
 
-/// Whether a zero stands before other digits.
+/// Returns whether a zero precedes other digits.
 #[inline(always)]
 fn has_leading_zero(text: &[u8]) -> bool
     ensures { result ≡ (nat_lt 1 (length text.now) && slice_index text.now 0 == 48) }
@@ -35,7 +35,7 @@ fn has_leading_zero(text: &[u8]) -> bool
     text.len() > 1 && text[0] == b'0'
 }
 
-/// The number that has this hexadecimal text of one to four digits.
+/// Returns the number that this hexadecimal text of one to four digits spells.
 fn read_group(text: &[u8]) -> Option<u128>
     ensures value { result ≡ group_of text.now }
     ensures bound { IfSome result (λ v. v < 65536) }
@@ -52,10 +52,10 @@ fn read_group(text: &[u8]) -> Option<u128>
     }
 }
 
-/// How many colons stand between the eight groups of an address.
+/// The number of colons between the eight groups of an address.
 const COLONS: usize = 7;
 
-/// The address of IPv6 whose eight groups these are.
+/// Returns the IPv6 address with these eight groups.
 pub fn read_groups(text: &[u8]) -> Option<u128>
     ensures value { result ≡ groups_of text.now }
     ensures bound { IfSome result (λ v. v < 2 ^ 128) }

@@ -1,4 +1,5 @@
-//! Information elements: the axes that tell packets apart, the elements by name and number, and how values are spelled.
+//! Information elements: the axes that distinguish packets, the elements by name and number, and the spelling of
+//! values.
 #![tactic(auto)]
 
 mod address6;

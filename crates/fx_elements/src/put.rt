@@ -1,4 +1,4 @@
-//! Values as they are printed.
+//! Output of values.
 ghost use Rattle.std.specs.Prelude.{◌≡◌, ◌<◌, ◌≤◌, ◌^◌, ◌-◌, ◌*◌, ◌/◌, ◌%◌, OnOk, IfErr};
 ghost use Rattle.fx_base.specs.Device.{Writes, IsWriteFault, KeepsGoing};
 ghost use Rattle.fx_elements.specs.Axes.{axis_width};
@@ -24,7 +24,7 @@ fn put_quad<S: Sink>(sink: &mut S, address: u128) -> Result<(), Fault>
     put_number_wide(sink, address % 0x100)
 }
 
-/// A hexadecimal digit, in lower case.
+/// Returns a lower-case hexadecimal digit.
 fn digit(value: u128) -> u8
     requires { value < 16 }
     ensures { result ≡ hex_digit value }
@@ -60,7 +60,7 @@ fn put_group<S: Sink>(sink: &mut S, value: u128) -> Result<(), Fault>
     )
 }
 
-/// Writes half of an address of IPv6, four groups.
+/// Writes half of an IPv6 address, four groups.
 #[tactic(auto, unfolding(crate::specs::Groups::half))]
 fn put_half<S: Sink>(sink: &mut S, part: u128) -> Result<(), Fault>
     requires { part < 2 ^ 64 }
@@ -77,7 +77,7 @@ fn put_half<S: Sink>(sink: &mut S, part: u128) -> Result<(), Fault>
     put_group(sink, part % 0x1_0000)
 }
 
-/// Writes an address of IPv6 as its eight groups.
+/// Writes an IPv6 address as its eight groups.
 #[tactic(auto, unfolding(crate::specs::Groups::groups))]
 fn put_groups<S: Sink>(sink: &mut S, address: u128) -> Result<(), Fault>
     ensures ok { OnOk result (Writes (S.taken sink.old) (S.taken sink.new) (groups address)) }
@@ -105,7 +105,7 @@ fn put_whole<S: Sink>(sink: &mut S, axis: Axis, value: u128) -> Result<(), Fault
     }
 }
 
-/// The first value that begins with these leading bits.
+/// Returns the first value that begins with these leading bits.
 fn first_with(axis: Axis, bits: u32, value: u128) -> u128
     requires fewer { bits ≤ axis_width axis }
     requires fits { value < 2 ^ bits }
@@ -117,7 +117,7 @@ fn first_with(axis: Axis, bits: u32, value: u128) -> u128
     value * (1u128 << (width(axis) - bits))
 }
 
-/// Writes how many bits a value has, where they are fewer than the axis's.
+/// Writes the number of bits of a value, if there are fewer than the axis has.
 fn put_bits<S: Sink>(sink: &mut S, axis: Axis, bits: u32) -> Result<(), Fault>
     ensures ok { OnOk result (Writes (S.taken sink.old) (S.taken sink.new) (bits_text axis bits)) }
     ensures going { OnOk result (KeepsGoing (S.failed sink.old) (S.failed sink.new)) }
@@ -130,11 +130,10 @@ fn put_bits<S: Sink>(sink: &mut S, axis: Axis, bits: u32) -> Result<(), Fault>
     put_number(sink, u64::from(bits))
 }
 
-/// Writes the leading bits of a value of the axis: the value that has them and zeros behind them, an address as
-/// a dotted quad, any other as a decimal number; behind it a slash and the number of bits where they are fewer
-/// than the axis's.
+/// Writes the leading bits of a value of the axis: the value that has these bits followed by zeros, as an address or a
+/// decimal number, and then a slash and the number of bits if there are fewer than the axis has.
 ///
-/// Fails with 902, at no place, where a write fails. How much the sink has taken then is open.
+/// Fails with 902, at no place, if a write fails. How much the sink has taken is then unspecified.
 pub fn put_value<S: Sink>(sink: &mut S, axis: Axis, bits: u32, value: u128) -> Result<(), Fault>
     requires fewer { bits ≤ axis_width axis }
     requires fits { value < 2 ^ bits }

@@ -1,4 +1,4 @@
-//! How numbers, addresses and prefixes are spelled, and how a text is read as one.
+//! The spelling of numbers, addresses and prefixes, and how texts are read as such.
 ghost use Rattle.std.specs.Prelude.{◌≡◌, ◌<◌, ◌≤◌, ◌^◌, ◌-◌, ◌+◌, ℕ, List, length, IfSome, IfNone, option_and_then, option_map, Some, ◌↔◌, slice_index};
 ghost use Rattle.std.specs.Fmt.{decimal};
 ghost use Rattle.fx_elements.specs.Spelling.{cut_at, digits_of, largest, number_of, quad_of, prefix_of, quad, prefix};
@@ -7,7 +7,7 @@ ghost use Rattle.fx_elements.specs.Axes.{axis_index, tops};
 ghost use Rattle.fx_elements.specs.Values.{written_on, value_text};
 ghost use Rattle.fx_elements.specs.declared.axis.Axis.{Axis};
 
-/// The parts before and after the first byte that is `at`.
+/// Returns the parts before and after the first byte equal to `at`.
 #[inline(always)]
 pub fn split_at_byte(text: &[u8], at: u8) -> Option<(&[u8], &[u8])>
     ensures { option_map (λ p. (p.0.now, p.1.now)) result ≡ cut_at at text.now }
@@ -20,10 +20,10 @@ pub fn split_at_byte(text: &[u8], at: u8) -> Option<(&[u8], &[u8])>
     None
 }
 
-/// A number up to this one has room for a digit more in 64 bits.
+/// A number up to this one can take another digit within 64 bits.
 const ROOMY: u64 = (u64::MAX - 9) / 10;
 
-/// The number of at most `top` that these digits spell, however many they are.
+/// Returns the number of at most `top` that these digits spell, however many there are.
 fn read_wide_digits(text: &[u8], top: u128) -> Option<u128>
     ensures value { result ≡ digits_of top text.now }
     ensures bound { IfSome result (λ n. n ≤ top) }
@@ -42,13 +42,13 @@ fn read_wide_digits(text: &[u8], top: u128) -> Option<u128>
     Some(n)
 }
 
-/// The number of at most `top` that these digits spell.
+/// Returns the number of at most `top` that these digits spell.
 #[inline(always)]
 fn read_digits(text: &[u8], top: u128) -> Option<u128>
     ensures value { result ≡ digits_of top text.now }
     ensures bound { IfSome result (λ n. n ≤ top) }
 {
-    // Numbers of 64 bits take a few instructions a digit, wider ones a division.
+    // Numbers of 64 bits take a few instructions per digit, wider ones a division.
     let mut n: u64 = 0;
     for b in text {
         if !b.is_ascii_digit() {
@@ -66,7 +66,7 @@ fn read_digits(text: &[u8], top: u128) -> Option<u128>
     Some(number)
 }
 
-/// The number of at most `top` whose decimal text this is.
+/// Returns the number of at most `top` with this decimal text.
 #[tactic(auto, unfolding(crate::specs::Spelling::number_of))]
 #[inline(always)]
 pub fn read_number(text: &[u8], top: u128) -> Option<u128>
@@ -80,7 +80,7 @@ pub fn read_number(text: &[u8], top: u128) -> Option<u128>
     }
 }
 
-/// The number below 2 to the 64 whose decimal text this is.
+/// Returns the number below 2 to the 64 with this decimal text.
 #[inline(always)]
 pub fn read_u64(text: &[u8]) -> Option<u64>
     ensures { result ≡ number_of largest text.now }
@@ -88,7 +88,7 @@ pub fn read_u64(text: &[u8]) -> Option<u64>
     Some(read_number(text, u64::MAX as u128)? as u64)
 }
 
-/// The number of at most 255 that these digits spell.
+/// Returns the number of at most 255 that these digits spell.
 #[inline(always)]
 fn read_few_digits(text: &[u8]) -> Option<u64>
     ensures value { result ≡ digits_of 255 text.now }
@@ -107,7 +107,7 @@ fn read_few_digits(text: &[u8]) -> Option<u64>
     Some(n)
 }
 
-/// The number of at most 255 whose decimal text this is.
+/// Returns the number of at most 255 with this decimal text.
 #[tactic(auto, unfolding(crate::specs::Spelling::number_of))]
 #[inline(always)]
 fn read_octet(text: &[u8]) -> Option<u64>
@@ -121,7 +121,7 @@ fn read_octet(text: &[u8]) -> Option<u64>
     }
 }
 
-/// The number before the first full stop, of at most 255, and what stands behind it.
+/// Returns the number of at most 255 before the first full stop, and the text after the full stop.
 #[inline(always)]
 fn read_first_octet(text: &[u8]) -> Option<(u64, &[u8])>
     ensures value { option_map {U = ℕ × List ℕ} (λ p. (p.0, p.1.now)) result
@@ -134,7 +134,7 @@ fn read_first_octet(text: &[u8]) -> Option<(u64, &[u8])>
     Some((octet, rest))
 }
 
-/// The address whose dotted quad this is.
+/// Returns the address with this dotted quad.
 pub fn read_quad(text: &[u8]) -> Option<u128>
     ensures value { result ≡ quad_of text.now }
     ensures bound { IfSome result (λ v. v < 2 ^ 32) }
@@ -146,7 +146,7 @@ pub fn read_quad(text: &[u8]) -> Option<u128>
     Some((((a * 256 + b) * 256 + c) * 256 + d) as u128)
 }
 
-/// The address and the number of leading bits of `a.b.c.d/n`.
+/// Returns the address and the number of leading bits of `a.b.c.d/n`.
 #[tactic(auto, unfolding(crate::specs::Spelling::prefix_of))]
 pub fn read_prefix(text: &[u8]) -> Option<(u128, u128)>
     ensures value { result ≡ prefix_of text.now }
@@ -161,8 +161,8 @@ pub fn read_prefix(text: &[u8]) -> Option<(u128, u128)>
     Some((address, bits))
 }
 
-/// A number, an address, a value in its written form and a prefix of IPv4 each have one spelling: it is read, and
-/// nothing else is.
+/// Numbers, addresses and values in written form, and IPv4 prefixes, each have exactly one spelling, and nothing else
+/// is read as them.
 pub fn one_spelling()
     ensures number { (top n : ℕ) → top < 2 ^ 128 → n ≤ top → number_of top (decimal n) ≡ Some n }
     ensures only_number { (top n : ℕ) (text : List ℕ) → top < 2 ^ 128 → number_of top text ≡ Some n

@@ -1,4 +1,4 @@
-//! What the text of a value means.
+//! The meaning of a value's text.
 ghost use Rattle.std.specs.Prelude.{◌≡◌, ◌≤◌, ◌<◌, ◌^◌, ◌-◌, ◌+◌, ℕ, List, Some, IfSome, option_map, slice_index};
 ghost use Rattle.fx_elements.specs.declared.axis.Axis.{Axis};
 ghost use Rattle.fx_elements.specs.Axes.{axis_width, axis_index, tops};
@@ -18,7 +18,7 @@ pub struct Range {
     pub bits: u32,
 }
 
-/// The value on the axis whose written form this is: a dotted quad, eight groups, a decimal number.
+/// Returns the value on the axis with this written form: a dotted quad, eight groups, or a decimal number.
 #[inline(always)]
 pub fn read_written(axis: Axis, text: &[u8]) -> Option<u128>
     ensures value { result ≡ written_on axis text.now }
@@ -33,7 +33,8 @@ pub fn read_written(axis: Axis, text: &[u8]) -> Option<u128>
     }
 }
 
-/// The value on the axis that the text spells; an address of IPv6 may be spelled in any way (RFC 4291, section 2.2).
+/// Returns the value on the axis that the text spells. An IPv6 address may be spelled in any way (RFC 4291, section
+/// 2.2).
 pub fn read_on(axis: Axis, text: &[u8]) -> Option<u128>
     ensures value { result ≡ value_on axis text.now }
     ensures bound { IfSome result (λ v. v ≤ slice_index tops (axis_index axis)) }
@@ -45,7 +46,8 @@ pub fn read_on(axis: Axis, text: &[u8]) -> Option<u128>
     }
 }
 
-/// The address on the axis and the number of leading bits that the text spells; None on an axis without addresses.
+/// Returns the address on the axis and the number of leading bits that the text spells, or None on an axis without
+/// addresses.
 fn read_prefix_on(axis: Axis, text: &[u8]) -> Option<(u128, u128)>
     ensures value { result ≡ prefix_on axis text.now }
     ensures bound { IfSome result (λ p. (p.0 < 2 ^ axis_width axis) × (0 < p.1)
@@ -60,7 +62,7 @@ fn read_prefix_on(axis: Axis, text: &[u8]) -> Option<(u128, u128)>
     }
 }
 
-/// The addresses of so many bits that begin with the leading bits of this one.
+/// Returns the addresses of the given width that begin with the leading bits of this address.
 fn addresses(width: u128, address: u128, bits: u128) -> Range
     requires some { 0 < bits }
     requires fewer { bits ≤ width }
@@ -77,11 +79,11 @@ fn addresses(width: u128, address: u128, bits: u128) -> Range
     }
 }
 
-/// The values of the element that the text spells: one value on an axis, the addresses of a prefix element.
-/// None where the text spells none, or the element has no values here.
+/// Returns the values of the element that the text spells: one value on an axis, or the addresses of a prefix element.
+/// Returns None if the text spells none, or the element has no values here.
 ///
-/// Numbers are decimal without leading zeros and within the axis; addresses are dotted quads, those of IPv6 as in
-/// RFC 4291, section 2.2; prefixes are an address and `/n`, n from 1 to 32, of IPv6 to 128.
+/// Numbers are decimal without leading zeros and within the axis. Addresses are dotted quads, or spelled as in RFC
+/// 4291, section 2.2, for IPv6. Prefixes are an address and `/n`, where n is from 1 to 32, or to 128 for IPv6.
 pub fn read_value(element: Element, text: &str) -> Option<Range>
     ensures { result ≡ values_of element text.now }
 {
@@ -107,7 +109,7 @@ pub fn read_value(element: Element, text: &str) -> Option<Range>
     }
 }
 
-/// What is read on an axis stands within it, and so do prefixes.
+/// Values and prefixes that are read on an axis are within it.
 pub fn values_fit()
     ensures value { (axis : Axis) (text : List ℕ) (v : ℕ) → value_on axis text ≡ Some v
         → v ≤ slice_index tops (axis_index axis) }

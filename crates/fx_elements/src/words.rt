@@ -9,7 +9,7 @@ use crate::spelling::{read_u64, split_at_byte};
 use crate::values::read_written;
 use std::marker::Model;
 
-/// The words of a line that are still to be read. One space stands between two of them.
+/// The words of a line that are not yet read. One space separates two words.
 #[derive(Drop)]
 pub struct Words<'a> {
     rest: Option<&'a [u8]>,
@@ -25,14 +25,14 @@ impl<'a> Model for Words<'a> {
 }
 
 impl<'a> Words<'a> {
-    /// The words of a line.
+    /// Returns the words of a line.
     pub fn new(line: &'a [u8]) -> Words<'a>
         ensures { result ≡ words line.now }
     {
         Words { rest: Some(line) }
     }
 
-    /// The first word, and the words behind it.
+    /// Returns the first word and the words after it.
     #[inline(always)]
     pub fn word(self) -> Option<(&'a [u8], Words<'a>)>
         ensures { option_map (λ p. (p.0.now, p.1)) result ≡ first_word self.entry }
@@ -44,7 +44,7 @@ impl<'a> Words<'a> {
         }
     }
 
-    /// The number in the first word, below 2 to the 64, and the words behind it.
+    /// Returns the number in the first word, below 2 to the 64, and the words after it.
     #[inline(always)]
     pub fn number(self) -> Option<(u64, Words<'a>)>
         ensures { result ≡ number_first self.entry }
@@ -54,7 +54,7 @@ impl<'a> Words<'a> {
         Some((number, rest))
     }
 
-    /// The value on the axis whose written form the first word is, and the words behind it.
+    /// Returns the value on the axis with the first word as its written form, and the words after it.
     #[inline(always)]
     pub fn value(self, axis: Axis) -> Option<(u128, Words<'a>)>
         ensures value { result ≡ value_first axis self.entry }
@@ -65,7 +65,7 @@ impl<'a> Words<'a> {
         Some((value, rest))
     }
 
-    /// Whether no word is left.
+    /// Returns whether no word is left.
     pub fn is_empty(self) -> bool
         ensures { result ≡ none_left self.entry }
     {
@@ -73,7 +73,7 @@ impl<'a> Words<'a> {
     }
 }
 
-/// Whether two words are the same.
+/// Returns whether two words are equal.
 pub fn is_word(word: &[u8], other: &[u8]) -> bool
     ensures { result ≡ bytes_eq word.now other.now }
 {
