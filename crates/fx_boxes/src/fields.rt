@@ -7,15 +7,15 @@ ghost use Rattle.fx_boxes.specs.Boxes.{IsFields};
 use fx_elements::{AXES, Axis, TOPS};
 use std::marker::Model;
 
-/// How many axes have values of 32 bits at most; they are the first.
+/// The number of axes with values of at most 32 bits, which come first.
 const NARROW: usize = 7;
-/// How many axes have wider values.
+/// The number of axes with wider values.
 const WIDE: usize = 2;
 
 /// A value for each axis.
 #[derive(Clone, Copy, Debug)]
 pub struct Fields {
-    // Runs keep many packets: no value takes more room than it needs.
+    // Runs keep many packets, so no value takes more room than it needs.
     narrow: [u32; NARROW],
     wide: [u128; WIDE],
 }
@@ -44,7 +44,7 @@ impl Model for Fields {
 }
 
 impl Fields {
-    /// The fields with these values, if each is on its axis.
+    /// Returns the fields with these values, if each is within its axis.
     pub fn new(values: [u128; AXES]) -> Option<Fields>
         ensures some { IfSome result (λ f. f ≡ values) }
         ensures exact { IsSome result ↔ IsFields values }
@@ -57,7 +57,7 @@ impl Fields {
         Some(Fields::of(values))
     }
 
-    /// The value on an axis.
+    /// Returns the value on an axis.
     #[inline(always)]
     pub fn get(&self, axis: Axis) -> u128
         ensures { result ≡ slice_index self.now (axis_index axis) }
@@ -65,7 +65,7 @@ impl Fields {
         self.value_at(axis.index())
     }
 
-    /// The values as an array.
+    /// Returns the values as an array.
     pub fn array(&self) -> [u128; AXES]
         ensures value { result ≡ self.now }
         ensures kept { IsFields result }
@@ -84,7 +84,7 @@ impl Fields {
         ]
     }
 
-    /// The value at a place in the order of the axes.
+    /// Returns the value at an index in the order of the axes.
     #[inline(always)]
     pub fn value_at(&self, k: usize) -> u128
         requires { k < AXES }
@@ -98,7 +98,7 @@ impl Fields {
         }
     }
 
-    /// The value at a place in the order of the axes becomes this one.
+    /// Sets the value at an index in the order of the axes.
     pub(crate) fn set_at(&mut self, k: usize, value: u128)
         requires place { k < AXES }
         requires bound { value ≤ slice_index tops k }
@@ -111,7 +111,7 @@ impl Fields {
         }
     }
 
-    /// The fields with these values.
+    /// Returns the fields with these values.
     pub fn of(values: [u128; AXES]) -> Fields
         requires { IsFields values }
         ensures { result ≡ values }

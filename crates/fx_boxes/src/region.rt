@@ -6,7 +6,7 @@ use crate::fields::Fields;
 use fx_elements::{AXES, Axis, TOPS};
 use std::marker::Model;
 
-/// The fields whose value on each axis is from a low to a high.
+/// The fields whose value on each axis is between a low and a high one, inclusive.
 #[derive(Clone, Copy, Debug, PartialEq, Eq)]
 pub struct Region {
     low: Fields,
@@ -26,7 +26,7 @@ impl Model for Region {
 }
 
 impl Region {
-    /// All fields.
+    /// Returns the region of all fields.
     pub fn whole() -> Region
         ensures { (f : List ℕ) → IsFields f → Holds result f }
     {
@@ -36,7 +36,7 @@ impl Region {
         }
     }
 
-    /// The region from the least fields to the greatest, if no low is above its high.
+    /// Returns the region from the least fields to the greatest, if no low is above its high.
     pub fn between(low: &Fields, high: &Fields) -> Option<Region>
         ensures exact { IsSome result ↔ ((k : ℕ) → k < axis_count
             → slice_index low.now k ≤ slice_index high.now k) }
@@ -56,7 +56,7 @@ impl Region {
         })
     }
 
-    /// Whether the fields are in the region.
+    /// Returns whether the fields are in the region.
     pub fn holds(&self, fields: &Fields) -> bool
         ensures test { result ≡ holds self.now fields.now }
         ensures fact { IsTrue result ↔ Holds self.now fields.now }
@@ -76,7 +76,7 @@ impl Region {
         true
     }
 
-    /// The two parts of the region: values on the axis below `at`, and those from `at` on.
+    /// Splits the region in two: values on the axis below `at`, and those from `at` on.
     pub fn split(&self, axis: Axis, at: u128) -> Option<(Region, Region)>
         ensures exact { IsSome result ↔ IsStrictlyInside self.now (axis_index axis) at }
         ensures parts { IfSome result (λ parts. (parts.0 ≡ below_part self.now (axis_index axis) at)
@@ -89,7 +89,7 @@ impl Region {
         if !self.can_split(axis, at) {
             return None;
         }
-        // For the prover alone: there is a low and a high on each axis.
+        // Only for the prover: there is a low and a high on each axis.
         let _low = self.low.array();
         let _high = self.high.array();
         let mut below = *self;
@@ -97,7 +97,7 @@ impl Region {
         Some((below, above))
     }
 
-    /// Whether a split at this value of the axis leaves fields on both sides.
+    /// Returns whether a split at this value of the axis leaves fields on both sides.
     pub fn can_split(&self, axis: Axis, at: u128) -> bool
         ensures { IsTrue result ↔ IsStrictlyInside self.now (axis_index axis) at }
     {
@@ -105,7 +105,7 @@ impl Region {
         self.low.value_at(k) < at && at <= self.high.value_at(k)
     }
 
-    /// Keeps the fields whose value on the axis is below `at`, and answers those whose value is `at` or more.
+    /// Keeps the fields whose value on the axis is below `at`, and returns those whose value is `at` or more.
     pub fn split_off(&mut self, axis: Axis, at: u128) -> Region
         requires { IsStrictlyInside self.old (axis_index axis) at }
         ensures kept { self.new ≡ below_part self.old (axis_index axis) at }
@@ -118,7 +118,7 @@ impl Region {
         above
     }
 
-    /// Whether all fields of this region are in the other.
+    /// Returns whether all fields of this region are in the other.
     pub fn inside(&self, other: &Region) -> bool
         ensures { IsTrue result ↔ IsInside self.now other.now }
     {
@@ -132,7 +132,7 @@ impl Region {
         true
     }
 
-    /// Whether no fields are in both regions.
+    /// Returns whether no fields are in both regions.
     pub fn disjoint(&self, other: &Region) -> bool
         ensures { IsTrue result ↔ IsDisjoint self.now other.now }
     {
@@ -146,7 +146,7 @@ impl Region {
         false
     }
 
-    /// The fields that are in both regions, if there are any.
+    /// Returns the fields that are in both regions, if there are any.
     pub fn meet(&self, other: &Region) -> Option<Region>
         ensures none { IsNone result ↔ IsDisjoint self.now other.now }
         ensures both { IfSome result (λ both. (f : List ℕ)
@@ -167,7 +167,7 @@ impl Region {
         })
     }
 
-    /// The least fields of the region.
+    /// Returns the least fields of the region.
     pub fn corner(&self) -> Fields
         ensures least { result ≡ self.now.low }
         ensures held { Holds self.now result }
@@ -175,7 +175,7 @@ impl Region {
         self.low
     }
 
-    /// The greatest fields of the region.
+    /// Returns the greatest fields of the region.
     pub fn far_corner(&self) -> Fields
         ensures greatest { result ≡ self.now.high }
         ensures held { Holds self.now result }
