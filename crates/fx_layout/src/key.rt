@@ -1,4 +1,4 @@
-//! The values that packets have under a layout.
+//! Keys: the values of packets under a layout.
 ghost use Rattle.std.specs.Prelude.{◌≡◌, ◌↔◌, ℕ, ◌-◌, ◌/◌, ◌^◌, ◌<◌, ◌≤◌, ◌&&◌, Bool, true, false, [], IfSome, is_some, length, bytes_eq};
 ghost use Rattle.fx_layout.specs.Keys as keys;
 ghost use Rattle.fx_elements.specs.Axes as axes;
@@ -27,7 +27,7 @@ impl Model for Key {
     ghost invariant = { λ k. keys.HasBits k.layout k.values };
 }
 
-/// The leading `bits` of a value that has `width` bits.
+/// Returns the leading `bits` of a value of `width` bits.
 pub fn leading_bits(width: u32, bits: u32, value: u128) -> u128
     requires { width ≤ 128 }
     ensures { result ≡ keys.leading_bits width bits value }
@@ -39,7 +39,7 @@ pub fn leading_bits(width: u32, bits: u32, value: u128) -> u128
     value >> cut
 }
 
-/// The leading bits of what the values have for an axis, 0 where they have none.
+/// Returns the leading bits of the value for an axis, or 0 if there is none.
 fn cut_part(parts: &[Part], values: &[u128], axis: Axis, bits: u32) -> u128
     requires { keys.Fits parts.now }
     ensures { result ≡ keys.cut_in parts.now values.now axis bits }
@@ -59,7 +59,7 @@ fn cut_part(parts: &[Part], values: &[u128], axis: Axis, bits: u32) -> u128
     }
 }
 
-/// These values take the place of the others.
+/// Replaces the values in `into` by these.
 fn copy_values(into: &mut ArrayVec<u128, AXES>, values: &[u128])
     requires { length values.now ≤ AXES }
     ensures { into.new.items ≡ values.now }
@@ -74,14 +74,14 @@ fn copy_values(into: &mut ArrayVec<u128, AXES>, values: &[u128])
     }
 }
 
-/// Whether the values are the same.
+/// Returns whether the values are equal.
 fn same_values(a: &[u128], b: &[u128]) -> bool
     ensures { result ≡ bytes_eq a.now b.now }
 {
     a == b
 }
 
-/// Whether the first values come before the second, by the first value that differs.
+/// Returns whether the first values precede the second, by the first value that differs.
 fn values_before(a: &[u128], b: &[u128]) -> bool
     ensures { result ≡ keys.comes_before a.now b.now }
 {
@@ -97,12 +97,12 @@ fn values_before(a: &[u128], b: &[u128]) -> bool
     }
 }
 
-/// The values that a packet with these fields has under a layout take the place of the others.
+/// Replaces the values in `into` by those of a packet with these fields under a layout.
 fn read_values(into: &mut ArrayVec<u128, AXES>, layout: &Layout, fields: &Fields)
     ensures value { into.new.items ≡ (keys.key_of layout.now fields.now).values }
     ensures bits { keys.HasBits layout.now into.new.items }
 {
-    // For the prover alone: each value stands within its axis.
+    // Only for the prover: each value is within its axis.
     let _first = fields.value_at(0);
     into.clear();
     for part in layout.parts() {
@@ -111,7 +111,7 @@ fn read_values(into: &mut ArrayVec<u128, AXES>, layout: &Layout, fields: &Fields
 }
 
 impl Key {
-    /// The key of a packet with these fields.
+    /// Returns the key of a packet with these fields.
     pub(crate) fn of_packet(layout: &Layout, fields: &Fields) -> Key
         ensures { result ≡ keys.key_of layout.now fields.now }
     {
@@ -123,7 +123,7 @@ impl Key {
         }
     }
 
-    /// The key of a packet with these fields takes the place of this one, in its room: see [`Layout::key_of`].
+    /// Replaces this key, in its own memory, by that of a packet with these fields: see [`Layout::key_of`].
     pub fn become_of_packet(&mut self, layout: &Layout, fields: &Fields)
         ensures { self.new ≡ keys.key_of layout.now fields.now }
     {
@@ -131,7 +131,7 @@ impl Key {
         read_values(&mut self.values.items, layout, fields);
     }
 
-    /// The key with these values, one for each part of the layout.
+    /// Returns the key with these values, one for each part of the layout.
     pub fn of_values(layout: &Layout, values: &Values) -> Key
         requires { keys.HasBits layout.now values.now }
         ensures { result ≡ record { layout = layout.now; values = values.now } }
@@ -142,7 +142,7 @@ impl Key {
         }
     }
 
-    /// The key under the layout without parts, which all packets have.
+    /// Returns the key under the layout without parts, which all packets have.
     pub fn of_all() -> Key
         ensures { result ≡ record { layout = []; values = [] } }
     {
@@ -152,7 +152,7 @@ impl Key {
         }
     }
 
-    /// The key that [`of_values`](Key::of_values) answers takes the place of this one, in its room.
+    /// Replaces this key, in its own memory, by the one that [`of_values`](Key::of_values) returns.
     pub fn become_of_values(&mut self, layout: &Layout, values: &Values)
         requires { keys.HasBits layout.now values.now }
         ensures { self.new ≡ record { layout = layout.now; values = values.now } }
@@ -161,14 +161,14 @@ impl Key {
         copy_values(&mut self.values.items, values.items.as_slice());
     }
 
-    /// The key's layout.
+    /// Returns the layout of the key.
     pub fn layout(&self) -> &Layout
         ensures { result.now ≡ self.now.layout }
     {
         &self.layout
     }
 
-    /// A value for each part of the layout; each is below 2 to the power of its part's bits.
+    /// Returns a value for each part of the layout; each is below 2 to the power of its part's bits.
     pub fn values(&self) -> &[u128]
         ensures value { result.now ≡ self.now.values }
         ensures bits { keys.HasBits self.now.layout result.now }
@@ -177,7 +177,7 @@ impl Key {
         self.values.items.as_slice()
     }
 
-    /// The same by themselves, to look up what stands under the key.
+    /// Returns the values alone, for looking up what is stored under the key.
     pub fn own_values(&self) -> &Values
         ensures value { result.now ≡ self.now.values }
         ensures bits { keys.HasBits self.now.layout result.now }
@@ -185,7 +185,7 @@ impl Key {
         &self.values
     }
 
-    /// Whether the two keys are the same: equal layouts and equal values.
+    /// Returns whether the two keys are the same: equal layouts and equal values.
     pub fn same(&self, other: &Key) -> bool
         ensures { result ≡ keys.same_key self.now other.now }
     {
@@ -193,21 +193,21 @@ impl Key {
             && same_values(self.values.as_slice(), other.values.as_slice())
     }
 
-    /// Whether the key's values come before those of the other, in axis order.
+    /// Returns whether the values of the key precede those of the other, in axis order.
     pub fn comes_before(&self, other: &Key) -> bool
         ensures { result ≡ keys.comes_before self.now.values other.now.values }
     {
         values_before(self.values.as_slice(), other.values.as_slice())
     }
 
-    /// The leading bits of what the key has for an axis, 0 where it has none.
+    /// Returns the leading bits of the key's value for an axis, or 0 if it has none.
     pub fn bits_on(&self, axis: Axis, bits: u32) -> u128
         ensures { result ≡ keys.bits_on self.now axis bits }
     {
         cut_part(self.layout.parts(), self.values.as_slice(), axis, bits)
     }
 
-    /// The same key once more.
+    /// Returns a copy of the key.
     pub fn copy(&self) -> Key
         ensures { result ≡ self.now }
     {
@@ -217,7 +217,7 @@ impl Key {
         }
     }
 
-    /// The key under a coarser layout, or None where its own layout doesn't refine that.
+    /// Returns the key under a coarser layout, or None if the key's own layout doesn't refine it.
     pub fn project(&self, layout: &Layout) -> Option<Key>
         ensures exact { is_some result ≡ keys.refines self.now.layout layout.now }
         ensures value { IfSome result (λ key. key ≡ keys.project self.now layout.now) }
@@ -235,8 +235,8 @@ impl Key {
         })
     }
 
-    /// Projects the values of the key alone: under a coarser layout `values` become those of the key that
-    /// [`project`](Key::project) answers. False, and they stay, where its own layout doesn't refine that.
+    /// Projects only the values of the key: `values` become those of the key that [`project`](Key::project) returns.
+    /// Returns false and leaves `values` unchanged if the key's own layout doesn't refine the other.
     pub fn project_values(&self, layout: &Layout, values: &mut Values) -> bool
         ensures exact { result ≡ keys.refines self.now.layout layout.now }
         ensures value { result ≡ true → values.new ≡ (keys.project self.now layout.now).values }
@@ -254,8 +254,8 @@ impl Key {
     }
 }
 
-/// The laws of keys: projecting a packet's key gives its key under the coarser layout, projections compose,
-/// and the test for the same key tells equality.
+/// The laws of keys: projecting a packet's key gives its key under the coarser layout, projections compose, and the
+/// test for the same key decides equality.
 pub fn keys_project()
     ensures packet { (layout : keys.Layout) (other : keys.Layout) (fields : axes.Fields)
         → keys.Fits layout → keys.refines layout other ≡ true

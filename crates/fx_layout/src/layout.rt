@@ -1,4 +1,4 @@
-//! Which leading bits of which axes make a key.
+//! Layouts: the leading bits of axes that make up a key.
 ghost use Rattle.std.specs.Prelude.{◌≡◌, ℕ, ◌-◌, ◌/◌, ◌^◌, ◌<◌, ◌≤◌, ◌&&◌, not, Bool, true, false, List, [], IsSome, IfSome, is_some, length, nat_lt};
 ghost use Rattle.std.specs.List.{position_or_len};
 ghost use Rattle.fx_layout.specs.Keys as keys;
@@ -10,15 +10,15 @@ use fx_boxes::Fields;
 use fx_elements::{AXES, Axis, width};
 use std::marker::Model;
 
-/// An axis and how many of its leading bits, at least one.
+/// An axis and the number of its leading bits, at least one.
 #[derive(Clone, Copy, Debug, Default, PartialEq, Eq)]
 pub struct Part {
     pub axis: Axis,
     pub bits: u32,
 }
 
-/// Which leading bits of which axes make a key: each axis at most once, in axis order. An address may have
-/// any number of its bits, any other axis all of them.
+/// The leading bits of axes that make up a key: each axis at most once, in axis order. An address may have any number
+/// of its bits, any other axis all of them.
 #[derive(Debug, Drop)]
 pub struct Layout {
     parts: ArrayVec<Part, AXES>,
@@ -34,7 +34,7 @@ impl Model for Layout {
     ghost invariant = { λ l. keys.IsLayout l.parts.items };
 }
 
-/// Whether a layout may have the part.
+/// Returns whether a layout may have the part.
 fn can_stand(part: Part) -> bool
     ensures { result ≡ keys.can_stand part }
 {
@@ -42,7 +42,7 @@ fn can_stand(part: Part) -> bool
     part.bits >= 1 && (part.bits == bits || (part.axis.is_address() && part.bits <= bits))
 }
 
-/// Whether the parts have the axis with at least so many bits.
+/// Returns whether the parts have the axis with at least this many bits.
 fn parts_read(parts: &[Part], axis: Axis, bits: u32) -> bool
     ensures { result ≡ keys.reads parts.now axis bits }
 {
@@ -58,7 +58,7 @@ fn parts_read(parts: &[Part], axis: Axis, bits: u32) -> bool
     }
 }
 
-/// The place of the first part of a later axis, or behind all parts.
+/// Returns the index of the first part of a later axis, or the number of parts if there is none.
 fn place_for(parts: &[Part], axis: Axis) -> usize
     ensures bound { result ≤ length parts.now }
     ensures place { result ≡ position_or_len
@@ -72,7 +72,7 @@ fn place_for(parts: &[Part], axis: Axis) -> usize
     parts.len()
 }
 
-/// These parts take the place of the others.
+/// Replaces the parts in `into` by these.
 fn copy_parts(into: &mut ArrayVec<Part, AXES>, parts: &[Part])
     requires { length parts.now ≤ AXES }
     ensures { into.new.items ≡ parts.now }
@@ -84,7 +84,7 @@ fn copy_parts(into: &mut ArrayVec<Part, AXES>, parts: &[Part])
 }
 
 impl Layout {
-    /// The layout without parts: all packets have one key.
+    /// Returns the layout without parts, under which all packets have one key.
     pub fn new() -> Layout
         ensures { result ≡ [] }
     {
@@ -93,7 +93,7 @@ impl Layout {
         }
     }
 
-    /// The layout with a part more, or None where it has the axis already or an axis can't have so many bits.
+    /// Returns the layout with one more part, or None if it has the axis already or the axis can't have this many bits.
     pub fn with(&self, axis: Axis, bits: u32) -> Option<Layout>
         ensures exact { is_some result ≡ (keys.can_stand (record { axis = axis; bits = bits })
             && not (is_some (keys.part_at self.now axis))) }
@@ -109,7 +109,7 @@ impl Layout {
         Some(Layout { parts })
     }
 
-    /// The parts, in axis order.
+    /// Returns the parts, in axis order.
     pub fn parts(&self) -> &[Part]
         ensures value { result.now ≡ self.now }
         ensures kept { keys.IsLayout result.now }
@@ -117,14 +117,14 @@ impl Layout {
         self.parts.as_slice()
     }
 
-    /// Whether the layout has the axis with at least so many bits.
+    /// Returns whether the layout has the axis with at least this many bits.
     pub fn reads(&self, axis: Axis, bits: u32) -> bool
         ensures { result ≡ keys.reads self.now axis bits }
     {
         parts_read(self.parts.as_slice(), axis, bits)
     }
 
-    /// Whether the layout reads all parts of the other.
+    /// Returns whether the layout reads all parts of the other.
     pub fn refines(&self, other: &Layout) -> bool
         ensures { result ≡ keys.refines self.now other.now }
     {
@@ -137,14 +137,14 @@ impl Layout {
         true
     }
 
-    /// Whether the two layouts are the same.
+    /// Returns whether the two layouts are the same.
     pub fn same(&self, other: &Layout) -> bool
         ensures { result ≡ keys.same_layout self.now other.now }
     {
         same_parts(self.parts.as_slice(), other.parts.as_slice())
     }
 
-    /// The same layout once more.
+    /// Returns a copy of the layout.
     pub fn copy(&self) -> Layout
         ensures { result ≡ self.now }
     {
@@ -153,17 +153,17 @@ impl Layout {
         Layout { parts }
     }
 
-    /// Becomes the same as the other layout, in its own room.
+    /// Makes this layout equal to the other, in its own memory.
     pub(crate) fn become_copy_of(&mut self, other: &Layout)
         ensures { self.new ≡ other.now }
     {
-        // Mostly it is the same already.
+        // It is usually the same already.
         if !self.same(other) {
             copy_parts(&mut self.parts, other.parts.as_slice());
         }
     }
 
-    /// The key of a packet with these fields.
+    /// Returns the key of a packet with these fields.
     pub fn key_of(&self, fields: &Fields) -> Key
         ensures { result ≡ keys.key_of self.now fields.now }
     {

@@ -1,5 +1,5 @@
-//! Layouts and keys: which leading bits of which axes tell flows apart, and the values that a packet has there; and the
-//! hash by which keys are found.
+//! Layouts and keys: which leading bits of which axes distinguish flows, the values of packets there, and the hash that
+//! is used to find keys.
 #![tactic(auto)]
 
 mod key;

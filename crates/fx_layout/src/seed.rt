@@ -1,16 +1,16 @@
-//! A hash of keys that whoever sends packets doesn't know.
+//! A hash of keys that senders of packets can't predict.
 ghost use Rattle.std.specs.Prelude.{◌≡◌, ◌+◌, ◌≤◌, length};
 ghost use Rattle.fx_layout.specs.Seeds as seeds;
 
 use std::hash::{BuildHasher, Hasher};
 
-/// How many octets are hashed at once.
+/// The number of octets that are hashed at once.
 const WORD: usize = 8;
 
-/// Two numbers by which keys are hashed.
+/// Two numbers that seed the hash of keys.
 ///
-/// Stores and totals find keys by a hash, and keys whose hashes are alike one after another. Whoever knows the numbers
-/// can choose such keys, so a program that reads what others send takes numbers at random. What is answered doesn't
+/// Stores and totals look keys up by a hash, and search keys with the same hash one after another. Whoever knows the
+/// numbers can choose such keys, so a program that reads what others send takes random numbers. The results don't
 /// depend on them.
 #[derive(Clone, Copy)]
 pub struct Seed {
@@ -19,7 +19,7 @@ pub struct Seed {
 }
 
 impl Seed {
-    /// The seed of two numbers.
+    /// Returns the seed of two numbers.
     pub fn new(first: u64, second: u64) -> Seed
         ensures { result ≡ record { first = first; second = second } }
     {
@@ -40,14 +40,14 @@ impl BuildHasher for Seed {
     }
 }
 
-/// The hash of the octets so far, by a [`Seed`].
+/// The hash of the octets so far, under a [`Seed`].
 #[derive(Clone, Copy)]
 pub struct SeededHasher {
     state: u64,
     second: u64,
 }
 
-/// The halves of the product, joined by an exclusive or.
+/// Returns the exclusive or of the halves of the product.
 fn folded_product(a: u64, b: u64) -> u64
     ensures { result ≡ seeds.folded_product a b }
 {
@@ -55,7 +55,7 @@ fn folded_product(a: u64, b: u64) -> u64
     (product & 0xFFFF_FFFF_FFFF_FFFF) as u64 ^ (product >> 64) as u64
 }
 
-/// The number of eight octets, the lowest first.
+/// Returns the number of eight octets, lowest first.
 fn read_word(octets: &[u8], at: usize) -> u64
     requires { at + 8 ≤ length octets.now }
     ensures { result ≡ seeds.word octets.now at }
@@ -94,7 +94,7 @@ impl Hasher for SeededHasher {
         self.state = state;
     }
 
-    // Numbers that keys have are hashed without being written as octets first.
+    // The numbers of keys are hashed without being written as octets first.
     fn write_usize(&mut self, i: usize) {
         self.state = folded_product(i as u64 ^ self.state, self.second);
     }

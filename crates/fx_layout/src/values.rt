@@ -1,4 +1,4 @@
-//! The values of a key by themselves, to look keys of one layout up and to order them.
+//! The values of a key alone, for looking up and ordering keys of one layout.
 ghost use Rattle.std.specs.Prelude.{◌≡◌, [], length, ◌++◌, ◌∷◌, ◌<◌, ◌≤◌, Some, nat_eq, refl};
 ghost use Rattle.std.specs.Ordering.{nat_cmp};
 ghost use Rattle.std.specs.Cmp.{on_equiv, on_total, on_po, on_per, partial_equiv_from_equiv};
@@ -14,8 +14,8 @@ use std::cmp::Ordering;
 use std::hash::{Hash, Hasher};
 use std::marker::Model;
 
-/// The values of a key without its layout: among keys of one layout they tell the keys apart, and order them
-/// by the first value that differs, in axis order.
+/// The values of a key without its layout. They distinguish keys of one layout, and order them by the first value that
+/// differs, in axis order.
 #[derive(Debug, Drop)]
 pub struct Values {
     pub(crate) items: ArrayVec<u128, AXES>,
@@ -30,7 +30,7 @@ impl Model for Values {
 }
 
 impl Values {
-    /// No values.
+    /// Returns no values.
     pub fn new() -> Values
         ensures { result ≡ [] }
     {
@@ -39,21 +39,21 @@ impl Values {
         }
     }
 
-    /// The values of the key.
+    /// Returns the values of the key.
     pub fn of(key: &Key) -> Values
         ensures { result ≡ key.now.values }
     {
         key.own_values().copy()
     }
 
-    /// No values any more.
+    /// Removes all values.
     pub fn clear(&mut self)
         ensures { self.new ≡ [] }
     {
         self.items.clear();
     }
 
-    /// A value more, for which there has to be room: there are no more values than axes.
+    /// Appends a value, for which there must be room: there are no more values than axes.
     pub fn push(&mut self, value: u128)
         requires { length self.old < AXES }
         ensures { self.new ≡ self.old ++ value ∷ [] }
@@ -61,7 +61,7 @@ impl Values {
         self.items.push(value);
     }
 
-    /// The same values once more.
+    /// Returns a copy of the values.
     pub fn copy(&self) -> Values
         ensures { result ≡ self.now }
     {
@@ -72,7 +72,7 @@ impl Values {
         Values { items }
     }
 
-    /// The values, in axis order.
+    /// Returns the values, in axis order.
     pub fn as_slice(&self) -> &[u128]
         ensures { result.now ≡ self.now }
     {
