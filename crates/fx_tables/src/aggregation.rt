@@ -4,17 +4,17 @@ ghost use Rattle.std.specs.Prelude.{◌≡◌};
 use fx_elements::Axis;
 use std::marker::Model;
 
-/// The leading bits of an axis have this value.
+/// A condition that the leading bits of an axis have this value.
 #[derive(Clone, Copy, Debug, PartialEq, Eq)]
 pub struct MatchEntry {
     pub axis: Axis,
-    /// How many leading bits.
+    /// The number of leading bits.
     pub bits: u32,
-    /// What they are, as a number.
+    /// Their value, as a number.
     pub value: u128,
 }
 
-/// An aggregation (RFC 7015): the place of its holder, from 0, and its match.
+/// An aggregation (RFC 7015): the 0-based index of its holder, and its match.
 #[derive(Debug, Drop)]
 pub struct AggregationEntry {
     pub(crate) holder: usize,
@@ -30,21 +30,21 @@ impl Model for AggregationEntry {
 }
 
 impl AggregationEntry {
-    /// An aggregation that takes in the records in which all these entries hold.
+    /// Returns an aggregation that takes in the records that satisfy all these entries.
     pub fn new(holder: usize, matches: Vec<MatchEntry>) -> AggregationEntry
         ensures { result ≡ record { holder = holder; matches = matches.items } }
     {
         AggregationEntry { holder, matches }
     }
 
-    /// The place of its holder.
+    /// Returns the index of its holder.
     pub fn holder(&self) -> usize
         ensures { result ≡ self.now.holder }
     {
         self.holder
     }
 
-    /// The entries of its match.
+    /// Returns the entries of its match.
     pub fn matches(&self) -> &[MatchEntry]
         ensures { result.now ≡ self.now.matches }
     {

@@ -4,8 +4,8 @@ ghost use Rattle.std.specs.Prelude.{◌≡◌};
 use crate::observation::Point;
 use std::marker::Model;
 
-/// A device: its observation points, and the places of its caches in the table of holders and of its
-/// collecting processes in the table of processes, from 0.
+/// A device: its observation points, and the 0-based indices of its caches in the table of holders and of its
+/// collecting processes in the table of processes.
 #[derive(Debug, Drop)]
 pub struct DeviceEntry {
     pub(crate) points: Vec<Point>,
@@ -27,7 +27,7 @@ impl Model for DeviceEntry {
 }
 
 impl DeviceEntry {
-    /// A device with these points, caches and collecting processes.
+    /// Returns a device with these points, caches and collecting processes.
     pub fn new(points: Vec<Point>, caches: Vec<usize>, processes: Vec<usize>) -> DeviceEntry
         ensures { result ≡ record {
           points = points.items;
@@ -43,21 +43,21 @@ impl DeviceEntry {
         }
     }
 
-    /// Its observation points.
+    /// Returns its observation points.
     pub fn points(&self) -> &[Point]
         ensures { result.now ≡ self.now.points }
     {
         self.points.as_slice()
     }
 
-    /// The places of its caches in the table of holders.
+    /// Returns the indices of its caches in the table of holders.
     pub fn caches(&self) -> &[usize]
         ensures { result.now ≡ self.now.caches }
     {
         self.caches.as_slice()
     }
 
-    /// The places of its collecting processes in the table of processes.
+    /// Returns the indices of its collecting processes in the table of processes.
     pub fn processes(&self) -> &[usize]
         ensures { result.now ≡ self.now.processes }
     {

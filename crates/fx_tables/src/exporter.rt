@@ -3,8 +3,8 @@ ghost use Rattle.std.specs.Prelude.{◌≡◌};
 
 use std::marker::Model;
 
-/// An exporting process (RFC 6728, section 4.4): where it sends records. Each destination has the place of
-/// its link in the network's table, from 0, or none where it leads outside the network.
+/// An exporting process (RFC 6728, section 4.4): where it sends records. Each destination has the 0-based index of its
+/// link in the network's table, or none if it leads outside the network.
 #[derive(Debug, Drop)]
 pub struct Exporter {
     pub(crate) parallel: bool,
@@ -20,7 +20,8 @@ impl Model for Exporter {
 }
 
 impl Exporter {
-    /// An exporting process with these destinations, which sends each record to all of them or to any one.
+    /// Returns an exporting process with these destinations, which sends each record either to all of them or to any
+    /// one.
     pub fn new(parallel: bool, destinations: Vec<Option<usize>>) -> Exporter
         ensures { result ≡ record { parallel = parallel; destinations = destinations.items } }
     {
@@ -30,14 +31,14 @@ impl Exporter {
         }
     }
 
-    /// Whether each record is sent to all destinations, and not to any one of them.
+    /// Returns whether each record is sent to all destinations rather than to any one of them.
     pub fn parallel(&self) -> bool
         ensures { result ≡ self.now.parallel }
     {
         self.parallel
     }
 
-    /// The links of its destinations.
+    /// Returns the links of its destinations.
     pub fn destinations(&self) -> &[Option<usize>]
         ensures { result.now ≡ self.now.destinations }
     {

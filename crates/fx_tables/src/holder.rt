@@ -1,11 +1,11 @@
-//! What holds records.
+//! Holders of records.
 ghost use Rattle.std.specs.Prelude.{◌≡◌};
 
 use fx_layout::Layout;
 use std::marker::Model;
 
-/// A cache or an aggregation: the layout of the records that it holds, and the places of its exporting
-/// processes in the network's table, from 0.
+/// A cache or an aggregation: the layout of the records that it holds, and the 0-based indices of its exporting
+/// processes in the network's table.
 #[derive(Debug, Drop)]
 pub struct Holder {
     pub(crate) layout: Layout,
@@ -21,21 +21,21 @@ impl Model for Holder {
 }
 
 impl Holder {
-    /// A holder of records of this layout that names these exporting processes.
+    /// Returns a holder of records of this layout that names these exporting processes.
     pub fn new(layout: Layout, exporters: Vec<usize>) -> Holder
         ensures { result ≡ record { layout = layout; exporters = exporters.items } }
     {
         Holder { layout, exporters }
     }
 
-    /// The layout of the records that it holds.
+    /// Returns the layout of the records that it holds.
     pub fn layout(&self) -> &Layout
         ensures { result.now ≡ self.now.layout }
     {
         &self.layout
     }
 
-    /// The places of the exporting processes that it names.
+    /// Returns the indices of the exporting processes that it names.
     pub fn exporters(&self) -> &[usize]
         ensures { result.now ≡ self.now.exporters }
     {

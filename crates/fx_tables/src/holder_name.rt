@@ -1,6 +1,6 @@
-//! What a step names that holds records.
+//! Names of holders of records in steps.
 
-/// What holds records, by number: a device, what is on it and what is in that. All numbers count from 1.
+/// A holder of records by number: a device, what is on it, and what is in that. All numbers are 1-based.
 #[derive(Clone, Copy, Debug, PartialEq, Eq)]
 pub enum HolderName {
     /// A cache of a device (RFC 6728, section 4.3).

@@ -1,8 +1,8 @@
-//! What is to be held where.
+//! A key to be held, and its holder.
 
 use fx_layout::Key;
 
-/// A holder, by its place in the network's table, from 0, and the key of a record that it is to take in.
+/// The 0-based index of a holder in the network's table, and the key of a record that it is to take in.
 #[derive(Debug, Drop)]
 pub struct Holding {
     pub holder: usize,

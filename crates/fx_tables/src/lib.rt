@@ -1,5 +1,5 @@
-//! The tables of a network by number and by place, its classes of packets, and what is looked up in them: where a
-//! packet is metered, which aggregations take in a record, and what holds it.
+//! The tables of a network by number and by index, its classes of packets, and look-ups in them: where a packet is
+//! metered, which aggregations take in a record, and which holder holds it.
 #![tactic(auto)]
 
 mod aggregation;

@@ -1,4 +1,4 @@
-//! How many layouts a network may have.
+//! The limit on the layouts of a network.
 
-/// The greatest number of different layouts that the records of a network may have: `layout_limit` of the definitions.
+/// The greatest number of different layouts of a network's records: `layout_limit` of the definitions.
 pub const LAYOUTS: usize = 64;

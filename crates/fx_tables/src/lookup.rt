@@ -1,4 +1,4 @@
-//! Look-ups by number and by place.
+//! Look-ups by number and by index.
 ghost use Rattle.std.specs.Prelude.{◌≡◌, ◌↔◌, IsTrue, slice_get};
 ghost use Rattle.fx_tables.specs.Classes as traffic;
 ghost use Rattle.fx_tables.specs.Network as network;
@@ -15,7 +15,7 @@ use crate::traffic::{Class, Classes, Crossing};
 use fx_base::{entry_at, entry_numbered};
 use fx_layout::Layout;
 
-/// The layout of the records of the holder at this place, and the empty one where there is none.
+/// Returns the layout of the records of the holder at this index, or the empty one if there is no such holder.
 pub(crate) fn layout_at(holders: &[Holder], place: usize) -> Layout
     ensures { result ≡ network.layout_of (slice_get holders.now place) }
 {
@@ -25,7 +25,7 @@ pub(crate) fn layout_at(holders: &[Holder], place: usize) -> Layout
     }
 }
 
-/// The exporting processes that the holder at this place names.
+/// Returns the exporting processes that the holder at this index names.
 fn named_by(holders: &[Holder], place: usize) -> &[usize]
     ensures { result.now ≡ network.named_by (slice_get holders.now place) }
 {
@@ -35,7 +35,7 @@ fn named_by(holders: &[Holder], place: usize) -> &[usize]
     }
 }
 
-/// The observation points of the device of this number.
+/// Returns the observation points of the device with this number.
 pub(crate) fn points_of(devices: &[DeviceEntry], number: u64) -> &[Point]
     ensures { result.now ≡ network.points_of (network.entry_numbered devices.now number) }
 {
@@ -45,7 +45,7 @@ pub(crate) fn points_of(devices: &[DeviceEntry], number: u64) -> &[Point]
     }
 }
 
-/// The caches of the device of this number.
+/// Returns the caches of the device with this number.
 fn caches_of(devices: &[DeviceEntry], number: u64) -> &[usize]
     ensures { result.now ≡ network.caches_of (network.entry_numbered devices.now number) }
 {
@@ -55,7 +55,7 @@ fn caches_of(devices: &[DeviceEntry], number: u64) -> &[usize]
     }
 }
 
-/// The collecting processes of the device of this number.
+/// Returns the collecting processes of the device with this number.
 fn processes_of(devices: &[DeviceEntry], number: u64) -> &[usize]
     ensures { result.now ≡ network.processes_of (network.entry_numbered devices.now number) }
 {
@@ -65,7 +65,7 @@ fn processes_of(devices: &[DeviceEntry], number: u64) -> &[usize]
     }
 }
 
-/// The aggregations of the collecting process at this place.
+/// Returns the aggregations of the collecting process at this index.
 fn aggregations_at(processes: &[Process], place: Option<usize>) -> &[AggregationEntry]
     ensures { result.now ≡ network.aggregations_of (network.process_at processes.now place) }
 {
@@ -78,7 +78,7 @@ fn aggregations_at(processes: &[Process], place: Option<usize>) -> &[Aggregation
     }
 }
 
-/// The place of the holder of the aggregation of this number.
+/// Returns the index of the holder of the aggregation with this number.
 fn holder_of(aggregations: &[AggregationEntry], number: u64) -> Option<usize>
     ensures { result ≡ network.held_at (network.entry_numbered aggregations.now number) }
 {
@@ -88,7 +88,7 @@ fn holder_of(aggregations: &[AggregationEntry], number: u64) -> Option<usize>
     }
 }
 
-/// The place of the holder of this name.
+/// Returns the index of the holder with this name.
 fn place_of_holder(
     devices: &[DeviceEntry],
     processes: &[Process],
@@ -112,7 +112,7 @@ fn place_of_holder(
     }
 }
 
-/// The crossings that a packet makes.
+/// Returns the crossings that a packet makes.
 fn path_of<'a>(classes: &'a [Class], packet: &Packet) -> &'a [Crossing]
     ensures { result.now ≡ traffic.path classes.now packet.now }
 {
@@ -126,30 +126,30 @@ fn path_of<'a>(classes: &'a [Class], packet: &Packet) -> &'a [Crossing]
 }
 
 impl Net {
-    /// The layout of the records of the holder at this place of the network's table, from 0, and the empty one
-    /// where there is none.
+    /// Returns the layout of the records of the holder at this 0-based index of the network's table, or the empty one
+    /// if there is no such holder.
     pub fn layout_at(&self, place: usize) -> Layout
         ensures { result ≡ network.layout_of (slice_get self.now.holders place) }
     {
         layout_at(self.holders.as_slice(), place)
     }
 
-    /// The exporting processes, by their places in the network's table, of the holder at this place; none where
-    /// there is none.
+    /// Returns the exporting processes, by their indices in the network's table, of the holder at this index, or none
+    /// if there is no such holder.
     pub fn named_by(&self, place: usize) -> &[usize]
         ensures { result.now ≡ network.named_by (slice_get self.now.holders place) }
     {
         named_by(self.holders.as_slice(), place)
     }
 
-    /// The observation points of the device of this number, from 1; none where there is none.
+    /// Returns the observation points of the device with this 1-based number, or none if there is no such device.
     pub fn points_of(&self, device: u64) -> &[Point]
         ensures { result.now ≡ network.points_of (network.entry_numbered self.now.devices device) }
     {
         points_of(self.devices.as_slice(), device)
     }
 
-    /// The place of the holder of this name in the network's table, from 0, if it is there.
+    /// Returns the 0-based index of the holder with this name in the network's table, if there is one.
     pub fn holder_place(&self, name: HolderName) -> Option<usize>
         ensures { result ≡ network.holder_place self.now name }
     {
@@ -158,15 +158,16 @@ impl Net {
 }
 
 impl Classes {
-    /// The crossings of a packet, by its numbers of a class and of a path, from 1; none where there is no such class or
-    /// path.
+    /// Returns the crossings of a packet, by its 1-based numbers of a class and of a path, or none if there is no such
+    /// class or path.
     pub fn path_of(&self, packet: &Packet) -> &[Crossing]
         ensures { result.now ≡ traffic.path self.now packet.now }
     {
         path_of(self.as_slice(), packet)
     }
 
-    /// Whether a packet is of an exempt class, by its number, from 1: it must never be counted.
+    /// Returns whether a packet, by the 1-based number of its class, belongs to an exempt class and so must never be
+    /// counted.
     pub fn exempts(&self, packet: &Packet) -> bool
         ensures { result ≡ traffic.exempts (network.entry_numbered self.now packet.now.class) }
     {
@@ -176,8 +177,8 @@ impl Classes {
         }
     }
 
-    /// Whether a packet is one of these classes' packets: its class and its path are there, by their numbers
-    /// from 1, and the class's region holds its fields.
+    /// Returns whether a packet belongs to these classes: the classes have its class and path, by their 1-based
+    /// numbers, and the region of the class holds its fields.
     pub fn contains(&self, packet: &Packet) -> bool
         ensures value { result ≡ traffic.is_of packet.now
             (network.entry_numbered self.now packet.now.class) }

@@ -1,4 +1,4 @@
-//! Packets are metered where they cross an interface.
+//! Metering of packets where they cross an interface.
 ghost use Rattle.std.specs.Prelude.{◌≡◌, ◌++◌, [], OnOk, IfOk, if◌then◌else◌, bytes_eq, slice_get};
 ghost use Rattle.std.specs.List.{list_any};
 ghost use Rattle.fx_layout.specs.Keys as keys;
@@ -17,7 +17,7 @@ use fx_boxes::{Fields, Region};
 use fx_layout::{Key, Layout};
 use std::alloc::{AllocError, Global};
 
-/// Whether the packets of this region include this one.
+/// Returns whether the packets of this region include this one.
 fn selects(region: &Option<Region>, fields: &Fields) -> bool
     ensures { result ≡ met.selects region.now fields.now }
 {
@@ -27,7 +27,7 @@ fn selects(region: &Option<Region>, fields: &Fields) -> bool
     }
 }
 
-/// Whether the name is among these.
+/// Returns whether the name is among these.
 fn has_name(names: &[Name], name: &str) -> bool
     ensures { result ≡ list_any (λ own. bytes_eq own name.now) names.now }
 {
@@ -40,7 +40,7 @@ fn has_name(names: &[Name], name: &str) -> bool
 }
 
 impl Point {
-    /// Whether the point is at the interface of the crossing, and sees packets in its direction.
+    /// Returns whether the point is at the interface of the crossing and sees packets in its direction.
     pub fn watches(&self, crossing: &Crossing) -> bool
         ensures { result ≡ met.watches self.now crossing.now }
     {
@@ -53,7 +53,7 @@ impl Point {
     }
 }
 
-/// The occurrence at a selection process comes last, if it selects the packet and has a cache.
+/// Appends the occurrence at a selection process, if it selects the packet and has a cache.
 fn push_met(
     found: &mut Vec<Occurrence>,
     point: usize,
@@ -77,7 +77,7 @@ fn push_met(
     Ok(())
 }
 
-/// The occurrences at a point come last.
+/// Appends the occurrences at a point.
 fn push_met_by(
     found: &mut Vec<Occurrence>,
     point: usize,
@@ -93,7 +93,7 @@ fn push_met_by(
     Ok(())
 }
 
-/// The occurrences at a point come last, if it watches the crossing.
+/// Appends the occurrences at a point, if it watches the crossing.
 fn push_met_at(
     found: &mut Vec<Occurrence>,
     number: usize,
@@ -111,7 +111,7 @@ fn push_met_at(
     Ok(())
 }
 
-/// The occurrences of a packet at the points of a device come last.
+/// Appends the occurrences of a packet at the points of a device.
 fn push_met_of(
     found: &mut Vec<Occurrence>,
     points: &[Point],
@@ -127,7 +127,7 @@ fn push_met_of(
     Ok(())
 }
 
-/// The key that a packet with these fields has in the holder at a place.
+/// Returns the key of a packet with these fields in the holder at an index.
 fn key_at(holders: &[Holder], place: usize, fields: &Fields) -> Key
     ensures { result ≡ keys.key_of (network.layout_of (slice_get holders.now place)) fields.now }
 {
@@ -137,7 +137,7 @@ fn key_at(holders: &[Holder], place: usize, fields: &Fields) -> Key
     }
 }
 
-/// The cache of an occurrence, and the key that a packet with these fields has there.
+/// Returns the cache of an occurrence, and the key of a packet with these fields there.
 fn holding_of(holders: &[Holder], occurrence: &Occurrence, fields: &Fields) -> Holding
     ensures { result ≡ holdings.holding_of holders.now fields.now occurrence.now }
 {
@@ -148,9 +148,9 @@ fn holding_of(holders: &[Holder], occurrence: &Occurrence, fields: &Fields) -> H
 }
 
 impl Net {
-    /// Where a packet with these fields is metered at a crossing: at each observation point of the crossing's
-    /// device that is at its interface and sees its direction, by each selection process that selects the
-    /// packet and has a cache (RFC 6728, section 4). Fails for want of memory alone.
+    /// Returns where a packet with these fields is metered at a crossing: at each observation point of the crossing's
+    /// device that is at its interface and sees its direction, by each selection process that selects the packet and
+    /// has a cache (RFC 6728, section 4). Fails only if out of memory.
     pub fn occurrences(
         &self,
         alloc: Global,
@@ -165,9 +165,8 @@ impl Net {
         Ok(found)
     }
 
-    /// Adds to the list where a packet with these fields is metered at a crossing, as [`Net::occurrences`] answers
-    /// it.
-    /// Fails for want of memory alone; the list may have some of them then.
+    /// Appends to the list where a packet with these fields is metered at a crossing, as [`Net::occurrences`] returns
+    /// it. Fails only if out of memory; the list may then have some of them.
     pub fn push_occurrences(
         &self,
         found: &mut Vec<Occurrence>,
@@ -181,16 +180,16 @@ impl Net {
         push_met_of(found, points, crossing, fields)
     }
 
-    /// The cache that meters a packet with these fields at an occurrence, and the key that the packet has there: that of
-    /// the cache's layout, and of the empty one where the network has no such cache.
+    /// Returns the cache that meters a packet with these fields at an occurrence, and the packet's key there: under the
+    /// cache's layout, or under the empty one if the network has no such cache.
     pub fn holding(&self, occurrence: &Occurrence, fields: &Fields) -> Holding
         ensures { result ≡ holdings.holding_of self.now.holders fields.now occurrence.now }
     {
         holding_of(self.holders(), occurrence, fields)
     }
 
-    /// The caches of these occurrences, each with the key that a packet with these fields has there, in order.
-    /// Fails for want of memory alone.
+    /// Returns the caches of these occurrences in order, each with the key of a packet with these fields there. Fails
+    /// only if out of memory.
     pub fn holdings(
         &self,
         alloc: Global,

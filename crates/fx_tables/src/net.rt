@@ -9,7 +9,7 @@ use crate::process::Process;
 use fx_layout::Layout;
 use std::marker::Model;
 
-/// A network: its devices, and the tables of what they name by place, from 0.
+/// A network: its devices, and the tables of what they name by 0-based index.
 #[derive(Debug)]
 pub struct Net {
     pub(crate) devices: Vec<DeviceEntry>,
@@ -22,7 +22,7 @@ pub struct Net {
 }
 
 impl Drop for Net {
-    /// Lets its parts go: proved once, and one call wherever one is let go.
+    /// Drops its parts here, so that each drop elsewhere is one call.
     fn drop(self) {
         let Self {
             devices: _,
@@ -53,8 +53,8 @@ impl Model for Net {
 }
 
 impl Net {
-    /// The network with these tables. `links` has the place of the collecting process to which each link
-    /// leads; `report` is the place of the collecting process that tallies, under the layout `report_layout`.
+    /// Returns the network with these tables. `links` has the index of the collecting process that each link leads to;
+    /// `report` is the index of the collecting process that tallies, under the layout `report_layout`.
     pub fn new(
         devices: Vec<DeviceEntry>,
         exporters: Vec<Exporter>,
@@ -86,54 +86,54 @@ impl Net {
         }
     }
 
-    /// The devices.
+    /// Returns the devices.
     pub fn devices(&self) -> &[DeviceEntry]
         ensures { result.now ≡ self.now.devices }
     {
         self.devices.as_slice()
     }
 
-    /// The exporting processes.
+    /// Returns the exporting processes.
     pub fn exporters(&self) -> &[Exporter]
         ensures { result.now ≡ self.now.exporters }
     {
         self.exporters.as_slice()
     }
 
-    /// The caches and aggregations.
+    /// Returns the caches and aggregations.
     pub fn holders(&self) -> &[Holder]
         ensures { result.now ≡ self.now.holders }
     {
         self.holders.as_slice()
     }
 
-    /// The collecting processes.
+    /// Returns the collecting processes.
     pub fn processes(&self) -> &[Process]
         ensures { result.now ≡ self.now.processes }
     {
         self.processes.as_slice()
     }
 
-    /// The place of the collecting process to which each link leads.
+    /// Returns the index of the collecting process that each link leads to.
     pub fn links(&self) -> &[usize]
         ensures { result.now ≡ self.now.links }
     {
         self.links.as_slice()
     }
 
-    /// The place of the collecting process that tallies.
+    /// Returns the index of the collecting process that tallies.
     pub fn report(&self) -> usize
         ensures { result ≡ self.now.report }
     {
         self.report
     }
 
-    /// The layout under which it tallies.
+    /// Returns the layout under which it tallies.
     pub fn report_layout(&self) -> &Layout
         ensures value { result.now ≡ self.now.report_layout }
         ensures layout { IsLayout self.now.report_layout }
     {
-        // For the prover alone: what a layout keeps.
+        // Only for the prover: the invariant of a layout.
         let _parts = self.report_layout.parts();
         &self.report_layout
     }

@@ -10,7 +10,7 @@ use std::marker::Model;
 pub struct Selection {
     /// The fields of the packets that it selects, if it selects any.
     pub region: Option<Region>,
-    /// The place of its cache in the network's table of holders, from 0, if it has a cache.
+    /// The 0-based index of its cache in the network's table of holders, if it has a cache.
     pub holder: Option<usize>,
 }
 
@@ -37,7 +37,7 @@ impl Model for Point {
 }
 
 impl Point {
-    /// A point that sees the packets that come into the device by these interfaces, go out by them, or both.
+    /// Returns a point that sees the packets that enter the device by these interfaces, leave by them, or both.
     pub fn new(
         interfaces: Vec<Name>,
         ingress: bool,
@@ -60,7 +60,7 @@ impl Point {
         }
     }
 
-    /// The selection processes that get the packets that it sees.
+    /// Returns the selection processes that get the packets that it sees.
     pub fn selections(&self) -> &[Selection]
         ensures { result.now ≡ self.now.selections }
     {
@@ -68,13 +68,13 @@ impl Point {
     }
 }
 
-/// Where a packet is metered at a crossing.
+/// A place where a packet is metered at a crossing.
 #[derive(Clone, Copy, Debug, PartialEq, Eq)]
 pub struct Occurrence {
-    /// The number of the observation point on the device, from 1.
+    /// The 1-based number of the observation point on the device.
     pub point: usize,
-    /// The number of the selection process among the point's, from 1.
+    /// The 1-based number of the selection process within the point.
     pub process: usize,
-    /// The place of its cache in the network's table of holders, from 0.
+    /// The 0-based index of its cache in the network's table of holders.
     pub holder: usize,
 }

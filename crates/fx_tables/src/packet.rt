@@ -7,8 +7,8 @@ pub struct Packet {
     pub fields: Fields,
     /// The octets of the packet, IP header and payload.
     pub octets: u64,
-    /// The number of its class, from 1.
+    /// The 1-based number of its class.
     pub class: u64,
-    /// The number of its path among its class's, from 1.
+    /// The 1-based number of its path within its class.
     pub path: u64,
 }

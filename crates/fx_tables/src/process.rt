@@ -4,8 +4,7 @@ ghost use Rattle.std.specs.Prelude.{◌≡◌};
 use crate::aggregation::AggregationEntry;
 use std::marker::Model;
 
-/// A collecting process (RFC 6728, section 4.5): the places of its exporting processes, from 0, and its
-/// aggregations.
+/// A collecting process (RFC 6728, section 4.5): the 0-based indices of its exporting processes, and its aggregations.
 #[derive(Debug, Drop)]
 pub struct Process {
     pub(crate) exporters: Vec<usize>,
@@ -25,7 +24,7 @@ impl Model for Process {
 }
 
 impl Process {
-    /// A collecting process that names these exporting processes and has these aggregations.
+    /// Returns a collecting process that names these exporting processes and has these aggregations.
     pub fn new(exporters: Vec<usize>, aggregations: Vec<AggregationEntry>) -> Process
         ensures { result ≡ record {
           exporters = exporters.items;
@@ -39,14 +38,14 @@ impl Process {
         }
     }
 
-    /// The places of the exporting processes that it names.
+    /// Returns the indices of the exporting processes that it names.
     pub fn exporters(&self) -> &[usize]
         ensures { result.now ≡ self.now.exporters }
     {
         self.exporters.as_slice()
     }
 
-    /// Its aggregations.
+    /// Returns its aggregations.
     pub fn aggregations(&self) -> &[AggregationEntry]
         ensures { result.now ≡ self.now.aggregations }
     {

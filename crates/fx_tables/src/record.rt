@@ -12,14 +12,14 @@ pub struct Record {
 }
 
 impl Record {
-    /// The layout of the record's key.
+    /// Returns the layout of the record's key.
     pub fn layout(&self) -> &Layout
         ensures { result.now ≡ self.now.key.layout }
     {
         self.key.layout()
     }
 
-    /// A record of no packets, under the key that all packets have.
+    /// Returns a record of no packets, under the key that all packets have.
     pub fn of_all() -> Record
         ensures { result ≡ record {
           key = record { layout = []; values = [] };
@@ -35,7 +35,7 @@ impl Record {
         }
     }
 
-    /// The same record.
+    /// Returns a copy of the record.
     pub fn copy(&self) -> Record
         ensures { result ≡ self.now }
     {

@@ -1,4 +1,4 @@
-//! Which aggregations of a collecting process take in a record.
+//! The aggregations of a collecting process that take in a record.
 ghost use Rattle.std.specs.Prelude.{◌≡◌, ◌++◌, ◌&&◌, ◌==◌, IfOk, OnOk};
 ghost use Rattle.std.specs.List.{list_all};
 ghost use Rattle.fx_layout.specs.Keys as keys;
@@ -13,7 +13,7 @@ use crate::process::Process;
 use fx_layout::Key;
 use std::alloc::{AllocError, Global};
 
-/// Whether the key has the leading bits of this entry, with its value.
+/// Returns whether the key's leading bits have the value of this entry.
 fn matches_entry(key: &Key, entry: &MatchEntry) -> bool
     ensures { result ≡ (keys.reads key.now.layout entry.now.axis entry.now.bits
         && keys.bits_on key.now entry.now.axis entry.now.bits == entry.now.value) }
@@ -21,7 +21,7 @@ fn matches_entry(key: &Key, entry: &MatchEntry) -> bool
     key.layout().reads(entry.axis, entry.bits) && key.bits_on(entry.axis, entry.bits) == entry.value
 }
 
-/// Whether the key has the leading bits of all these entries, with their values.
+/// Returns whether the key's leading bits have the values of all these entries.
 fn matches(key: &Key, entries: &[MatchEntry]) -> bool
     ensures { result ≡ list_all (λ e. keys.reads key.now.layout e.axis e.bits
         && keys.bits_on key.now e.axis e.bits == e.value) entries.now }
@@ -34,7 +34,7 @@ fn matches(key: &Key, entries: &[MatchEntry]) -> bool
     true
 }
 
-/// The aggregation comes last with the projected key, if it takes the key.
+/// Appends the aggregation with the projected key, if it takes the key.
 fn push_intake(
     holdings: &mut Vec<Holding>,
     holders: &[Holder],
@@ -55,7 +55,7 @@ fn push_intake(
     Ok(())
 }
 
-/// The aggregations that take the key, with the projected keys.
+/// Returns the aggregations that take the key, with the projected keys.
 fn intakes_of(
     alloc: Global,
     holders: &[Holder],
@@ -73,8 +73,8 @@ fn intakes_of(
 }
 
 impl Net {
-    /// The aggregations of a collecting process that take in a record with this key, each with the key that the record
-    /// has there, in the order of the process (RFC 7015). Fails for want of memory alone.
+    /// Returns the aggregations of a collecting process that take in a record with this key, each with the record's key
+    /// there, in the order of the process (RFC 7015). Fails only if out of memory.
     pub fn takers(
         &self,
         alloc: Global,

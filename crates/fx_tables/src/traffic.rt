@@ -6,14 +6,14 @@ use fx_base::Name;
 use fx_boxes::{Fields, Region};
 use std::marker::Model;
 
-/// A packet crosses an interface of a device.
+/// A packet's crossing of an interface of a device.
 #[derive(Debug, Drop)]
 pub struct Crossing {
-    /// The number of the device, from 1.
+    /// The 1-based number of the device.
     pub device: u64,
-    /// The interface's name on the device.
+    /// The name of the interface on the device.
     pub interface: Name,
-    /// Whether the packet comes into the device.
+    /// Whether the packet enters the device.
     pub inwards: bool,
 }
 
@@ -33,14 +33,14 @@ impl Model for Path {
 }
 
 impl Path {
-    /// The path with these crossings, in this order.
+    /// Returns the path with these crossings, in this order.
     pub fn new(crossings: Vec<Crossing>) -> Path
         ensures { result ≡ crossings.items }
     {
         Path { crossings }
     }
 
-    /// The crossings, in order.
+    /// Returns the crossings, in order.
     pub fn as_slice(&self) -> &[Crossing]
         ensures { result.now ≡ self.now }
     {
@@ -48,8 +48,8 @@ impl Path {
     }
 }
 
-/// A class of packets: the fields that they may have, the paths that they may take, and whether
-/// they are exempt from being counted.
+/// A class of packets: the fields that they may have, the paths that they may take, and whether they are exempt from
+/// being counted.
 #[derive(Debug, Drop)]
 pub struct Class {
     pub(crate) region: Region,
@@ -66,8 +66,8 @@ impl Model for Class {
 }
 
 impl Class {
-    /// The class of the packets with fields in this region, each of which takes one of these paths.
-    /// Those of an exempt class must never be counted.
+    /// Returns the class of the packets with fields in this region, each of which takes one of these paths. Packets of
+    /// an exempt class must never be counted.
     pub fn new(region: Region, paths: Vec<Path>, exempt: bool) -> Class
         ensures { result ≡ record { region = region; paths = paths.items; exempt = exempt } }
     {
@@ -78,28 +78,28 @@ impl Class {
         }
     }
 
-    /// The fields that its packets may have.
+    /// Returns the fields that its packets may have.
     pub fn region(&self) -> Region
         ensures { result ≡ self.now.region }
     {
         self.region
     }
 
-    /// Whether its packets may have these fields.
+    /// Returns whether its packets may have these fields.
     pub fn holds(&self, fields: &Fields) -> bool
         ensures { result ≡ holds self.now.region fields.now }
     {
         self.region.holds(fields)
     }
 
-    /// The paths that its packets may take.
+    /// Returns the paths that its packets may take.
     pub fn paths(&self) -> &[Path]
         ensures { result.now ≡ self.now.paths }
     {
         self.paths.as_slice()
     }
 
-    /// Whether its packets must never be counted.
+    /// Returns whether its packets must never be counted.
     pub fn exempt(&self) -> bool
         ensures { result ≡ self.now.exempt }
     {
@@ -114,7 +114,7 @@ pub struct Classes {
 }
 
 impl Drop for Classes {
-    /// Lets its parts go: proved once, and one call wherever one is let go.
+    /// Drops its parts here, so that each drop elsewhere is one call.
     fn drop(self) {
         let Self { items: _ } = self;
     }
@@ -130,14 +130,14 @@ impl Model for Classes {
 }
 
 impl Classes {
-    /// These classes, in this order.
+    /// Returns these classes, in this order.
     pub fn new(items: Vec<Class>) -> Classes
         ensures { result ≡ items.items }
     {
         Classes { items }
     }
 
-    /// The classes, in order.
+    /// Returns the classes, in order.
     pub fn as_slice(&self) -> &[Class]
         ensures { result.now ≡ self.now }
     {
