@@ -9,7 +9,7 @@ ghost use Rattle.fx_run_text.specs.RunText.{lines_text};
 ghost use Rattle.fx_run_text.specs.declared.run_line.RunLine as of_line;
 ghost use Rattle.fx_run_text.specs.declared.text_version.TextVersion.{TextVersion};
 
-/// In either version the line of a packet, of a step and of the end is read as that, and no other line is.
+/// In either version, the lines of packets, of steps and of the end are read as such, and no other line is.
 pub fn run_lines_have_one_text()
     ensures read { (version : TextVersion) (x : of_line.RunLine) → IsRunLine version x
         → line_of version (words (run_line_text version x)) ≡ Some x }

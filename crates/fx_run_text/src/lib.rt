@@ -1,4 +1,4 @@
-//! Runs as they are written: packets, steps, and their text.
+//! Runs in written form: packets, steps, and their text.
 #![tactic(auto)]
 
 mod laws;

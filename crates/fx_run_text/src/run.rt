@@ -23,21 +23,21 @@ impl Model for Run {
 }
 
 impl Run {
-    /// The packets.
+    /// Returns the packets.
     pub fn packets(&self) -> &[Packet]
         ensures { result.now ≡ self.now.packets }
     {
         self.packets.as_slice()
     }
 
-    /// The steps.
+    /// Returns the steps.
     pub fn steps(&self) -> &[Step]
         ensures { result.now ≡ self.now.steps }
     {
         self.steps.as_slice()
     }
 
-    /// The packets and the steps, without taking memory.
+    /// Returns the packets and the steps without allocating.
     pub fn into_parts(self) -> (Vec<Packet>, Vec<Step>)
         ensures packets { result.0.items ≡ self.packets }
         ensures steps { result.1.items ≡ self.steps }
@@ -46,7 +46,7 @@ impl Run {
         (packets, steps)
     }
 
-    /// A run with these packets and no steps.
+    /// Returns a run with these packets and no steps.
     pub(crate) fn of_packets(alloc: Global, packets: Vec<Packet>) -> Run
         ensures { result ≡ record { packets = packets.items; steps = [] } }
     {
@@ -56,7 +56,7 @@ impl Run {
         }
     }
 
-    /// Adds a step as the last one.
+    /// Appends a step.
     pub(crate) fn add_step(&mut self, step: Step) -> Result<(), AllocError>
         ensures { OnOk result (self.new ≡ with_step self.old step) }
     {

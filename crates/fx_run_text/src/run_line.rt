@@ -10,7 +10,7 @@ use fx_elements::{AXES, Axis, Words, is_word, read_u64};
 use fx_tables::{HolderName, Packet};
 use std::alloc::{AllocError, Global};
 
-/// What a step does, without what it chooses. All numbers and positions count from 1.
+/// The action of a step, without its choices. All numbers and positions are 1-based.
 #[derive(Clone, Copy)]
 pub(crate) enum StepAction {
     Cross { packet: u64, crossing: u64 },
@@ -19,7 +19,7 @@ pub(crate) enum StepAction {
 }
 
 impl StepAction {
-    /// The step that does this with these choices.
+    /// Returns the step with this action and these choices.
     fn with(self, choices: Choices) -> Step
         ensures { result ≡ step_with self choices }
     {
@@ -43,18 +43,18 @@ impl StepAction {
     }
 }
 
-/// What a line behind the first says.
+/// The content of a line after the first.
 #[derive(Debug, Drop)]
 pub enum RunLine {
     /// A packet of the run.
     Packet(Packet),
     /// A step of the run.
     Step(Step),
-    /// The run's end.
+    /// The end of the run.
     End,
 }
 
-/// What was read of a line behind the first. The values of a packet stand in the place that was given for them.
+/// The content read from a line after the first. The values of a packet are in the place that was passed in for them.
 #[derive(Drop)]
 pub(crate) enum ReadLine {
     Packet,
@@ -63,7 +63,7 @@ pub(crate) enum ReadLine {
 }
 
 impl ReadLine {
-    /// What the line says, where this is in the place for a packet.
+    /// Returns the content of the line, given what is in the place for a packet.
     fn with(self, packet: Packet) -> RunLine
         ensures { result ≡ line_with packet self }
     {
@@ -75,7 +75,7 @@ impl ReadLine {
     }
 }
 
-/// A place for a packet.
+/// Returns a place for a packet.
 pub(crate) fn blank_packet() -> Packet {
     Packet {
         fields: Fields::of([0; AXES]),
@@ -85,7 +85,7 @@ pub(crate) fn blank_packet() -> Packet {
     }
 }
 
-/// The values on the axes behind the first six.
+/// The values on the axes after the first six.
 #[derive(Clone, Copy)]
 struct LastFields {
     version: u128,
@@ -93,7 +93,7 @@ struct LastFields {
     destination: u128,
 }
 
-/// The values on the axes behind the first six: in the first version those of a packet of IPv4.
+/// Reads the values on the axes after the first six; in the first version they are those of an IPv4 packet.
 #[tactic(auto, unfolding(crate::specs::RunReading::last_first))]
 #[inline(always)]
 fn read_last(version: TextVersion, words: Words<'_>) -> Option<(LastFields, Words<'_>)>
@@ -124,7 +124,7 @@ fn read_last(version: TextVersion, words: Words<'_>) -> Option<(LastFields, Word
     }
 }
 
-/// The values on all axes, in order.
+/// Reads the values on all axes, in order.
 #[tactic(auto, unfolding(crate::specs::RunReading::fields_first))]
 fn read_fields(version: TextVersion, words: Words<'_>) -> Option<(Fields, Words<'_>)>
     ensures { result ≡ fields_first version words.entry }
@@ -150,7 +150,7 @@ fn read_fields(version: TextVersion, words: Words<'_>) -> Option<(Fields, Words<
     Some((fields, words))
 }
 
-/// Reads what stands behind the word of a packet into the place for it.
+/// Reads the part of a packet's line after its first word into the place for the packet.
 #[tactic(auto, unfolding(crate::specs::RunReading::packet_of))]
 fn read_packet(version: TextVersion, words: Words<'_>, packet: &mut Packet) -> Option<()>
     ensures { option_map (λ _. packet.new) result ≡ packet_of version words.entry }
@@ -171,7 +171,7 @@ fn read_packet(version: TextVersion, words: Words<'_>, packet: &mut Packet) -> O
     Some(())
 }
 
-/// The numbers of a cache.
+/// Reads the numbers of a cache.
 #[tactic(auto, unfolding(crate::specs::RunReading::cache_first))]
 fn read_cache(words: Words<'_>) -> Option<(HolderName, Words<'_>)>
     ensures { result ≡ cache_first words.entry }
@@ -181,7 +181,7 @@ fn read_cache(words: Words<'_>) -> Option<(HolderName, Words<'_>)>
     Some((HolderName::Cache { device, cache }, words))
 }
 
-/// The numbers of an aggregation.
+/// Reads the numbers of an aggregation.
 #[tactic(auto, unfolding(crate::specs::RunReading::aggregation_first))]
 fn read_aggregation(words: Words<'_>) -> Option<(HolderName, Words<'_>)>
     ensures { result ≡ aggregation_first words.entry }
@@ -199,7 +199,7 @@ fn read_aggregation(words: Words<'_>) -> Option<(HolderName, Words<'_>)>
     ))
 }
 
-/// A cache or an aggregation.
+/// Reads a cache or an aggregation.
 #[tactic(auto, unfolding(crate::specs::RunReading::holder_first))]
 fn read_holder(words: Words<'_>) -> Option<(HolderName, Words<'_>)>
     ensures { result ≡ holder_first words.entry }
@@ -214,7 +214,7 @@ fn read_holder(words: Words<'_>) -> Option<(HolderName, Words<'_>)>
     }
 }
 
-/// The numbers of a crossing that is made.
+/// Reads the numbers of a crossing.
 #[tactic(auto, unfolding(crate::specs::RunReading::cross_first))]
 fn read_cross(words: Words<'_>) -> Option<(StepAction, Words<'_>)>
     ensures { result ≡ cross_first words.entry }
@@ -224,7 +224,7 @@ fn read_cross(words: Words<'_>) -> Option<(StepAction, Words<'_>)>
     Some((StepAction::Cross { packet, crossing }, words))
 }
 
-/// The holder and the position of a record that leaves it.
+/// Reads the holder and the position of a record that leaves it.
 #[tactic(auto, unfolding(crate::specs::RunReading::expire_first))]
 fn read_expire(words: Words<'_>) -> Option<(StepAction, Words<'_>)>
     ensures { result ≡ expire_first words.entry }
@@ -234,7 +234,7 @@ fn read_expire(words: Words<'_>) -> Option<(StepAction, Words<'_>)>
     Some((StepAction::Expire { holder, position }, words))
 }
 
-/// The link and the position of a record that arrives.
+/// Reads the link and the position of a record that arrives.
 #[tactic(auto, unfolding(crate::specs::RunReading::arrive_first))]
 fn read_arrive(words: Words<'_>) -> Option<(StepAction, Words<'_>)>
     ensures { result ≡ arrive_first words.entry }
@@ -244,7 +244,7 @@ fn read_arrive(words: Words<'_>) -> Option<(StepAction, Words<'_>)>
     Some((StepAction::Arrive { link, position }, words))
 }
 
-/// What a step of this kind does.
+/// Reads the action of a step of this kind.
 #[tactic(auto, unfolding(crate::specs::RunReading::action_of))]
 fn read_action<'a>(kind: &[u8], words: Words<'a>) -> Option<(StepAction, Words<'a>)>
     ensures { result ≡ action_of kind.now words.entry }
@@ -260,7 +260,7 @@ fn read_action<'a>(kind: &[u8], words: Words<'a>) -> Option<(StepAction, Words<'
     }
 }
 
-/// A choice: `n` for a new record, or a number.
+/// Reads a choice: `n` for a new record, or a number.
 fn read_choice(word: &[u8]) -> Option<Option<u64>>
     ensures { result ≡ choice_of word.now }
 {
@@ -271,7 +271,7 @@ fn read_choice(word: &[u8]) -> Option<Option<u64>>
     Some(Some(number))
 }
 
-/// The choices that all of these words are.
+/// Reads all of these words as choices.
 fn read_choices(alloc: Global, words: Words<'_>) -> Result<Option<Choices>, AllocError>
     ensures { IfOk result (λ choices. choices ≡ choices_behind [] words.entry) }
 {
@@ -289,7 +289,7 @@ fn read_choices(alloc: Global, words: Words<'_>) -> Result<Option<Choices>, Allo
     }
 }
 
-/// A step of this kind.
+/// Reads a step of this kind.
 #[tactic(auto, unfolding(crate::specs::RunReading::step_of))]
 fn read_step(alloc: Global, kind: &[u8], words: Words<'_>) -> Result<Option<Step>, AllocError>
     ensures { IfOk result (λ step. step ≡ step_of kind.now words.entry) }
@@ -303,7 +303,7 @@ fn read_step(alloc: Global, kind: &[u8], words: Words<'_>) -> Result<Option<Step
     Ok(Some(action.with(choices)))
 }
 
-/// Reads what a line of this kind says, a packet into the place for it.
+/// Reads the content of a line of this kind, a packet into the place for it.
 #[tactic(auto, unfolding(crate::specs::RunReading::line_of_kind))]
 #[inline(always)]
 fn read_kind(
@@ -329,7 +329,7 @@ fn read_kind(
     }
 }
 
-/// Reads what a line behind the first says, if it is well-formed, a packet into the place for it.
+/// Reads the content of a line after the first, if it is well-formed, a packet into the place for it.
 #[inline(always)]
 pub(crate) fn read_line(
     alloc: Global,
@@ -346,9 +346,9 @@ pub(crate) fn read_line(
     read_kind(alloc, version, kind, words, packet)
 }
 
-/// What a line behind the first says, if it is well-formed: a packet, a step, or the run's end.
+/// Reads the content of a line after the first, if it is well-formed: a packet, a step, or the end of the run.
 ///
-/// Fails for want of memory.
+/// Fails if out of memory.
 pub fn read_run_line(
     alloc: Global,
     version: TextVersion,

@@ -1,4 +1,4 @@
-//! Writing the lines of a run's text.
+//! Output of the lines of a run's text.
 ghost use Rattle.std.specs.Prelude.{◌++◌, ◌∷◌, [], decimal, map, OnOk, IfErr};
 ghost use Rattle.fx_base.specs.Device.{Writes, IsWriteFault, KeepsGoing};
 ghost use Rattle.fx_elements.specs.Axes.{field};
@@ -16,7 +16,7 @@ use fx_boxes::Fields;
 use fx_elements::{Axis, EVERY_AXIS, put_value, width};
 use fx_tables::{HolderName, Packet};
 
-/// Writes a number behind a space.
+/// Writes a space and a number.
 fn put_spaced<S: Sink>(sink: &mut S, number: u64) -> Result<(), Fault>
     ensures ok { OnOk result (Writes (S.taken sink.old) (S.taken sink.new)
         (spaced_words (decimal number
@@ -28,7 +28,7 @@ fn put_spaced<S: Sink>(sink: &mut S, number: u64) -> Result<(), Fault>
     put_number(sink, number)
 }
 
-/// Writes the value on an axis behind a space.
+/// Writes a space and the value on an axis.
 #[tactic(auto, using(crate::proofs::RunPutting::field_fits))]
 fn put_field<S: Sink>(sink: &mut S, fields: &Fields, axis: Axis) -> Result<(), Fault>
     ensures ok { OnOk result (Writes (S.taken sink.old) (S.taken sink.new)
@@ -37,13 +37,13 @@ fn put_field<S: Sink>(sink: &mut S, fields: &Fields, axis: Axis) -> Result<(), F
     ensures going { OnOk result (KeepsGoing (S.failed sink.old) (S.failed sink.new)) }
     ensures err { IfErr result (IsWriteFault (S.failed sink.new)) }
 {
-    // For the prover alone: each value stands within its axis.
+    // Only for the prover: each value is within its axis.
     let _first = fields.value_at(0);
     put_text(sink, b" ")?;
     put_value(sink, axis, width(axis), fields.get(axis))
 }
 
-/// Writes the values on these axes, each behind a space.
+/// Writes the values on these axes, each preceded by a space.
 fn put_on_axes<S: Sink>(sink: &mut S, fields: &Fields, axes: &[Axis]) -> Result<(), Fault>
     ensures ok { OnOk result (Writes (S.taken sink.old) (S.taken sink.new)
         (spaced_words (map (λ axis. value_text axis (field fields.now axis)) axes.now))) }
@@ -56,7 +56,7 @@ fn put_on_axes<S: Sink>(sink: &mut S, fields: &Fields, axes: &[Axis]) -> Result<
     Ok(())
 }
 
-/// Writes a choice behind a space.
+/// Writes a space and a choice.
 fn put_choice<S: Sink>(sink: &mut S, choice: Option<u64>) -> Result<(), Fault>
     ensures ok { OnOk result (Writes (S.taken sink.old) (S.taken sink.new) (spaced_words
         (choice_word choice ∷ []))) }
@@ -69,7 +69,7 @@ fn put_choice<S: Sink>(sink: &mut S, choice: Option<u64>) -> Result<(), Fault>
     }
 }
 
-/// Writes choices, each behind a space.
+/// Writes choices, each preceded by a space.
 fn put_choices<S: Sink>(sink: &mut S, choices: &[Option<u64>]) -> Result<(), Fault>
     ensures ok { OnOk result (Writes (S.taken sink.old) (S.taken sink.new) (spaced_words
         (map choice_word choices.now))) }
@@ -82,7 +82,7 @@ fn put_choices<S: Sink>(sink: &mut S, choices: &[Option<u64>]) -> Result<(), Fau
     Ok(())
 }
 
-/// Writes the words of a cache, each behind a space.
+/// Writes the words of a cache, each preceded by a space.
 fn put_cache<S: Sink>(sink: &mut S, device: u64, cache: u64) -> Result<(), Fault>
     ensures ok { OnOk result (Writes (S.taken sink.old) (S.taken sink.new)
         (spaced_words (holder_words
@@ -95,7 +95,7 @@ fn put_cache<S: Sink>(sink: &mut S, device: u64, cache: u64) -> Result<(), Fault
     put_spaced(sink, cache)
 }
 
-/// Writes the words of an aggregation, each behind a space.
+/// Writes the words of an aggregation, each preceded by a space.
 fn put_aggregation<S: Sink>(
     sink: &mut S,
     device: u64,
@@ -113,7 +113,7 @@ fn put_aggregation<S: Sink>(
     put_spaced(sink, aggregation)
 }
 
-/// Writes what holds records, each word behind a space.
+/// Writes the words of a holder, each preceded by a space.
 fn put_holder<S: Sink>(sink: &mut S, holder: HolderName) -> Result<(), Fault>
     ensures ok { OnOk result (Writes (S.taken sink.old) (S.taken sink.new) (spaced_words
         (holder_words holder))) }
@@ -144,10 +144,10 @@ fn put_packet<S: Sink>(sink: &mut S, packet: &Packet) -> Result<(), Fault>
     put_spaced(sink, packet.octets)
 }
 
-/// Writes a packet's line: the word `packet`, the numbers of its class and path, its values on all axes, and its
+/// Writes the line of a packet: the word `packet`, the numbers of its class and path, its values on all axes, and its
 /// octets. A line feed ends it.
 ///
-/// Fails with 902, at no place, where a write fails. How much the sink has taken then is open.
+/// Fails with 902, at no place, if a write fails. How much the sink has taken is then unspecified.
 pub fn put_packet_line<S: Sink>(sink: &mut S, packet: &Packet) -> Result<(), Fault>
     ensures ok { OnOk result (Writes (S.taken sink.old) (S.taken sink.new)
         (run_line_text Two (line.Packet packet.now) ++ 10 ∷ [])) }
@@ -158,7 +158,7 @@ pub fn put_packet_line<S: Sink>(sink: &mut S, packet: &Packet) -> Result<(), Fau
     put_text(sink, b"\n")
 }
 
-/// Writes the words of a crossing that is made.
+/// Writes the words of a crossing.
 fn put_cross<S: Sink>(
     sink: &mut S,
     packet: u64,
@@ -238,9 +238,9 @@ fn put_step<S: Sink>(sink: &mut S, step: &Step) -> Result<(), Fault>
     }
 }
 
-/// Writes a step's line, which [`read_run_line`](crate::read_run_line) reads as that step. A line feed ends it.
+/// Writes the line of a step, which [`read_run_line`](crate::read_run_line) reads as that step. A line feed ends it.
 ///
-/// Fails with 902, at no place, where a write fails. How much the sink has taken then is open.
+/// Fails with 902, at no place, if a write fails. How much the sink has taken is then unspecified.
 pub fn put_step_line<S: Sink>(sink: &mut S, step: &Step) -> Result<(), Fault>
     ensures ok { OnOk result (Writes (S.taken sink.old) (S.taken sink.new) (run_line_text Two
         (line.Step step.now) ++ 10 ∷ [])) }

@@ -17,18 +17,18 @@ use fx_elements::is_word;
 use fx_tables::{Classes, Packet};
 use std::alloc::Global;
 
-/// What was read of a run's text up to its first step, or to its end.
+/// The beginning of a run's text, up to its first step or its end.
 #[derive(Debug, Drop)]
 pub struct RunBeginning {
-    /// The version that the first line tells.
+    /// The version given by the first line.
     pub version: TextVersion,
-    /// The run's packets, in order.
+    /// The packets of the run, in order.
     pub packets: Vec<Packet>,
-    /// The first step, or none where the run has no steps and its text was read to the end.
+    /// The first step, or none if the run has no steps and its text was read to the end.
     pub first: Option<Step>,
 }
 
-/// Goes past the first line, which tells the text's version.
+/// Reads the first line, which gives the version of the text.
 fn read_first<R: Source>(lines: &mut LineReader<R>) -> Result<TextVersion, Fault>
     ensures going { OnOk result (lines.new.stopped ≡ None) }
     ensures on { OnOk result (GoesOnToLines lines.old lines.new) }
@@ -79,7 +79,7 @@ fn read_next<R: Source>(
     }
 }
 
-/// Goes past the text's end, which comes behind the last line.
+/// Reads the end of the text, which follows the last line.
 fn read_end<R: Source>(lines: &mut LineReader<R>) -> Result<(), Fault>
     requires { lines.old.stopped ≡ None }
     ensures ok { OnOk result ((run : Run) → MayEnd lines.old run (Ok run)) }
@@ -92,11 +92,11 @@ fn read_end<R: Source>(lines: &mut LineReader<R>) -> Result<(), Fault>
     Ok(())
 }
 
-/// Reads the beginning of a run's text (see [`read_run`]), which begins with the next line: goes past the first line
-/// and the packets' lines to the first step or, in a run without steps, to the text's end. The steps behind the first
-/// are left to [`read_next_step`].
+/// Reads the beginning of a run's text (see [`read_run`]), starting at the next line: the first line and the packets'
+/// lines, up to the first step or, in a run without steps, to the end of the text. The steps after the first are left
+/// to [`read_next_step`].
 ///
-/// Fails as [`read_run`] does where that stands in these lines, and else with 900, at no place, for want of memory.
+/// Fails like [`read_run`] if the error is in these lines, and otherwise with 900, at no place, if out of memory.
 pub fn read_packets<R: Source>(
     alloc: Global,
     classes: &Classes,
@@ -141,11 +141,11 @@ pub fn read_packets<R: Source>(
     }
 }
 
-/// Reads the next step of a run's text (see [`read_run`]) of which a step was read before, or none where the line `end`
-/// comes and the text's end behind it.
+/// Reads the next step of a run's text (see [`read_run`]) after an earlier step, or none at the line `end` followed by
+/// the end of the text.
 ///
-/// Fails as [`read_run`] does where that stands in these lines, so with 855 at a packet's line, and else with 900, at
-/// no place, for want of memory.
+/// Fails like [`read_run`] if the error is in these lines, so with 855 at the line of a packet, and otherwise with 900,
+/// at no place, if out of memory.
 pub fn read_next_step<R: Source>(
     alloc: Global,
     version: TextVersion,
@@ -172,21 +172,21 @@ pub fn read_next_step<R: Source>(
 
 /// Reads a run from its text, which begins with the next line and ends with the last.
 ///
-/// The text is a line `once-run 2`; a line `packet CLASS PATH SOURCE DESTINATION PROTOCOL SOURCE-PORT
-/// DESTINATION-PORT CLASS-OF-SERVICE VERSION SOURCE6 DESTINATION6 OCTETS` for each packet, with addresses as
-/// dotted quads or as eight groups (lower case, no leading zeros, no `::`); a line for each step, which is
-/// `cross PACKET CROSSING CHOICES`, `expire cache DEVICE CACHE POSITION CHOICES`,
-/// `expire aggregation DEVICE PROCESS AGGREGATION POSITION CHOICES` or `arrive LINK POSITION CHOICES`; and a
-/// line `end`. One space stands between two words, a line feed ends each line, and numbers are decimal without
-/// leading zeros, below 2 to the 64 or within their axis. A choice is `n`, a new record, or a number.
+/// The text is a line `once-run 2`; a line `packet CLASS PATH SOURCE DESTINATION PROTOCOL SOURCE-PORT DESTINATION-PORT
+/// CLASS-OF-SERVICE VERSION SOURCE6 DESTINATION6 OCTETS` for each packet, with addresses as dotted quads or as eight
+/// groups (lower case, no leading zeros, no `::`); a line for each step, which is `cross PACKET CROSSING CHOICES`,
+/// `expire cache DEVICE CACHE POSITION CHOICES`, `expire aggregation DEVICE PROCESS AGGREGATION POSITION CHOICES` or
+/// `arrive LINK POSITION CHOICES`; and a line `end`. One space separates two words, a line feed ends each line, and
+/// numbers are decimal without leading zeros, below 2 to the 64 or within their axis. A choice is `n`, for a new
+/// record, or a number.
 ///
-/// A text whose first line is `once-run 1` has the six values up to the class of service in a packet's line; its
-/// packets are of IPv4, with the version 4 and zeros as addresses of IPv6.
+/// If the first line is `once-run 1`, the line of a packet has the six values up to the class of service, and packets
+/// are of IPv4, with version 4 and zeros as IPv6 addresses.
 ///
-/// Fails, at the first line where something is wrong, with 854 where the first line is neither of these, 855
-/// where a later line isn't well-formed, is a packet behind a step, comes behind `end`, or is missing, and 856
-/// where a packet's class or path doesn't exist or its fields aren't in the class's region. Fails as the reader
-/// of lines does where that stands, and with 900, at no place, for want of memory.
+/// Fails at the first line with an error: with 854 if the first line is neither of these, with 855 if a later line
+/// isn't well-formed, is a packet after a step, follows `end`, or is missing, and with 856 if the class or path of a
+/// packet doesn't exist or its fields aren't in the region of the class. Fails like the reader of lines where that
+/// fails, and with 900, at no place, if out of memory.
 pub fn read_run<R: Source>(
     alloc: Global,
     classes: &Classes,
@@ -212,7 +212,8 @@ pub fn read_run<R: Source>(
     }
 }
 
-/// The text of a run in either version whose lines have at most 4,096 bytes is read as that run, and no other text is.
+/// The text of a run, in either version, whose lines have at most 4,096 bytes is read as that run, and no other text
+/// is.
 pub fn run_texts()
     ensures read { (version : TextVersion) (classes : List Class) (run : Run) (n : ℕ)
         → IsWritableRun version classes run → AreShort (run_lines version run)

@@ -6,19 +6,19 @@ use smallvec::SmallVec;
 use std::alloc::{AllocError, Global};
 use std::marker::Model;
 
-/// So many choices of a step take no memory of their own: most steps have one or none.
+/// This many choices of a step need no allocation: most steps have one or none.
 const FEW: usize = 2;
 
-/// What a step chooses, one after another. A holder that takes in a record chooses none for a new record, or
-/// the position of the held record that it joins; an exporting process that isn't parallel chooses the number
-/// of a destination. Positions and numbers count from 1.
+/// The choices of a step, in order. A holder that takes in a record chooses none for a new record, or the position of
+/// the held record that it joins; an exporting process that isn't parallel chooses the number of a destination.
+/// Positions and numbers are 1-based.
 #[derive(Debug)]
 pub struct Choices {
     items: SmallVec<Option<u64>, FEW>,
 }
 
 impl Drop for Choices {
-    /// Lets its parts go: proved once, and one call wherever one is let go.
+    /// Drops its parts here, so that each drop elsewhere is one call.
     fn drop(self) {
         let Self { items: _ } = self;
     }
@@ -33,7 +33,7 @@ impl Model for Choices {
 }
 
 impl Choices {
-    /// These choices, in this order.
+    /// Returns these choices, in this order.
     pub fn new(items: Vec<Option<u64>>) -> Choices
         ensures { result ≡ items.items }
     {
@@ -42,7 +42,7 @@ impl Choices {
         }
     }
 
-    /// No choices.
+    /// Returns no choices.
     pub(crate) fn none(alloc: Global) -> Choices
         ensures { result ≡ [] }
     {
@@ -51,7 +51,7 @@ impl Choices {
         }
     }
 
-    /// Adds a choice as the last one.
+    /// Appends a choice.
     pub(crate) fn push(&mut self, choice: Option<u64>) -> Result<(), AllocError>
         ensures { OnOk result (self.new ≡ self.old ++ choice ∷ []) }
     {
@@ -59,7 +59,7 @@ impl Choices {
         Ok(())
     }
 
-    /// The choices, in order.
+    /// Returns the choices, in order.
     pub fn as_slice(&self) -> &[Option<u64>]
         ensures { result.now ≡ self.now }
     {
@@ -67,7 +67,7 @@ impl Choices {
     }
 }
 
-/// A step of a run. All numbers and positions count from 1.
+/// A step of a run. All numbers and positions are 1-based.
 #[derive(Debug, Drop)]
 pub enum Step {
     /// A packet makes a crossing of its path, and the caches there meter it.
@@ -82,7 +82,7 @@ pub enum Step {
         position: u64,
         choices: Choices,
     },
-    /// A record leaves a link and is handled by the collecting process to which the link leads.
+    /// A record leaves a link and is handled by the collecting process that the link leads to.
     Arrive {
         link: u64,
         position: u64,
