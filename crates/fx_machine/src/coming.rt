@@ -1,4 +1,4 @@
-//! The crossings that are to come.
+//! Pending crossings.
 ghost use Rattle.std.specs.Prelude.{◌≡◌, ◌≤◌, IfOk, Some, true, false, replicate};
 ghost use Rattle.fx_machine.specs.Comings as comings;
 ghost use Rattle.fx_machine.specs.States as states;
@@ -7,7 +7,7 @@ use fx_base::entry_numbered;
 use std::alloc::{AllocError, Global};
 use std::marker::Model;
 
-/// How many marks stand in a list itself: with these it takes no more room than with one.
+/// The number of marks that are kept in a list itself: with these it takes no more room than with one.
 const FEW: usize = 14;
 
 /// A few marks.
@@ -27,14 +27,14 @@ impl Model for FewMarks {
     ghost invariant = { λ f. f.count ≤ 14 };
 }
 
-/// A list of marks, which has memory of its own only for more than a few.
+/// A list of marks, which allocates only for more than a few.
 #[derive(Debug, Drop)]
 enum MarkList {
     Few(FewMarks),
     Many(Box<Vec<bool>>),
 }
 
-/// Which crossings of a packet are to come, in the order of its path.
+/// Which crossings of a packet are pending, in the order of its path.
 #[derive(Debug, Drop)]
 pub struct Marks {
     list: MarkList,
@@ -50,7 +50,7 @@ impl Model for Marks {
 }
 
 impl FewMarks {
-    /// So few crossings, all to come.
+    /// Returns this small number of crossings, all pending.
     fn new(count: usize) -> FewMarks
         requires { count ≤ FEW }
         ensures { result ≡ replicate count true }
@@ -61,14 +61,14 @@ impl FewMarks {
         }
     }
 
-    /// The marks, in order.
+    /// Returns the marks, in order.
     fn as_slice(&self) -> &[bool]
         ensures { result.now ≡ self.now }
     {
         &self.marks[..self.count as usize]
     }
 
-    /// The crossing of this number isn't to come any more.
+    /// Marks the crossing with this number as no longer pending.
     fn clear(&mut self, crossing: u64)
         ensures { self.new ≡ states.with_entry self.old crossing false }
     {
@@ -80,7 +80,7 @@ impl FewMarks {
     }
 }
 
-/// So many crossings, all to come.
+/// Returns this many crossings, all pending.
 fn many_marks(alloc: Global, count: usize) -> Result<Box<Vec<bool>>, AllocError>
     ensures { IfOk result (λ many. many.value.items ≡ replicate count true) }
 {
@@ -91,7 +91,7 @@ fn many_marks(alloc: Global, count: usize) -> Result<Box<Vec<bool>>, AllocError>
     Ok(Box::new(alloc, many)?)
 }
 
-/// The crossing of this number isn't to come any more.
+/// Marks the crossing with this number as no longer pending.
 fn clear_mark(marks: &mut [bool], crossing: u64)
     ensures { marks.new ≡ states.with_entry marks.old crossing false }
 {
@@ -103,7 +103,7 @@ fn clear_mark(marks: &mut [bool], crossing: u64)
 }
 
 impl Marks {
-    /// So many crossings, all to come.
+    /// Returns this many crossings, all pending.
     pub fn new(alloc: Global, count: usize) -> Result<Marks, AllocError>
         ensures { IfOk result (λ marks. marks ≡ comings.marks count) }
     {
@@ -117,7 +117,7 @@ impl Marks {
         })
     }
 
-    /// The marks, in order.
+    /// Returns the marks, in order.
     fn as_slice(&self) -> &[bool]
         ensures { result.now ≡ self.now }
     {
@@ -127,7 +127,7 @@ impl Marks {
         }
     }
 
-    /// Whether the crossing of this number is to come.
+    /// Returns whether the crossing with this number is pending.
     fn has(&self, crossing: u64) -> bool
         ensures { result ≡ comings.has_mark (Some self.now) crossing }
     {
@@ -137,7 +137,7 @@ impl Marks {
         }
     }
 
-    /// The crossing of this number isn't to come any more.
+    /// Marks the crossing with this number as no longer pending.
     fn clear(&mut self, crossing: u64)
         ensures { self.new ≡ states.with_entry self.old crossing false }
     {
@@ -147,7 +147,7 @@ impl Marks {
         }
     }
 
-    /// Whether no crossing is to come.
+    /// Returns whether no crossing is pending.
     fn none(&self) -> bool
         ensures { result ≡ comings.none_marked self.now }
     {
@@ -160,7 +160,7 @@ impl Marks {
     }
 }
 
-/// Whether a crossing of a packet is to come, by their numbers.
+/// Returns whether a crossing of a packet is pending, by their numbers.
 pub fn is_to_come(to_come: &[Marks], packet: u64, crossing: u64) -> bool
     ensures { result ≡ comings.has_mark_at to_come.now packet crossing }
 {
@@ -170,7 +170,7 @@ pub fn is_to_come(to_come: &[Marks], packet: u64, crossing: u64) -> bool
     }
 }
 
-/// A crossing of a packet isn't to come any more.
+/// Marks a crossing of a packet as no longer pending.
 pub fn clear(to_come: &mut Vec<Marks>, packet: u64, crossing: u64)
     ensures { to_come.new.items ≡ comings.without_mark to_come.old.items packet crossing }
 {
@@ -182,7 +182,7 @@ pub fn clear(to_come: &mut Vec<Marks>, packet: u64, crossing: u64)
     marks.clear(crossing);
 }
 
-/// Whether no crossing of any packet is to come.
+/// Returns whether no crossing of any packet is pending.
 pub fn all_crossed(to_come: &[Marks]) -> bool
     ensures { result ≡ comings.all_crossed to_come.now }
 {

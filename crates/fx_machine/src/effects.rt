@@ -1,4 +1,4 @@
-//! What a step would do, without doing it.
+//! The effects of a step, computed without making it.
 ghost use Rattle.std.specs.Prelude.{◌≡◌, ◌⊎◌, ◌++◌, List, length, map, true, Some, Ok, Err, IfOk, IfErr, is_some, slice_get};
 ghost use Rattle.fx_base.specs.Entries.{now_of, entry_numbered};
 ghost use Rattle.fx_base.specs.Fault.{fault_at, IsMemory};
@@ -30,23 +30,23 @@ use std::marker::Model;
 /// Whether a record is counted at the report.
 #[derive(Clone, Copy, Debug, PartialEq, Eq)]
 pub enum Tally {
-    /// It doesn't come to the report.
+    /// It doesn't reach the report.
     Untallied,
     /// It is counted under its projected key.
     Counted,
-    /// It comes to the report, whose layout its own doesn't refine.
+    /// It reaches the report, but its layout doesn't refine the report's.
     Unassigned,
 }
 
-/// A record that a holder takes in: the holder's place in the network's table, from 0, and the position of the
-/// held record that it joins, from 1. None for a new record, which comes last.
+/// A record that a holder takes in: the 0-based index of the holder in the network's table, and the 1-based position of
+/// the held record that it joins, or none for a new record, which is appended.
 #[derive(Clone, Copy, Debug)]
 pub struct TakenIn {
     pub holder: usize,
     pub joined: Option<u64>,
 }
 
-/// What a step does beside taking a crossing or a record from where it was.
+/// The effects of a step, besides removing a crossing or a record from where it was.
 #[derive(Debug)]
 pub struct Effects {
     links: Vec<usize>,
@@ -74,7 +74,7 @@ impl Model for Effects {
 }
 
 impl Effects {
-    /// Returns the places of the links on which the record is put, from 0, in order.
+    /// Returns the 0-based indices of the links on which the record is put, in order.
     pub fn links(&self) -> &[usize]
         ensures { result.now ≡ self.now.links }
     {
@@ -96,9 +96,9 @@ impl Effects {
     }
 }
 
-/// What a step asks for before its choices: whether the record is counted at the report, the places of the
-/// exporting processes that send it, from 0, and what holders take in. Each exporting process that isn't
-/// parallel takes a choice, and then each holder.
+/// What a step requires before its choices: whether the record is counted at the report, the 0-based indices of the
+/// exporting processes that send it, and what holders take in. Each exporting process that isn't parallel takes a
+/// choice, followed by each holder.
 #[derive(Drop)]
 pub struct StepActs<'a> {
     pub tally: Tally,
@@ -106,8 +106,8 @@ pub struct StepActs<'a> {
     pub holdings: Vec<Holding>,
 }
 
-/// Returns the key of the record of this number, from 1, among those that are new at a holder, where holders
-/// take in records by these choices.
+/// Returns the key of the record with this 1-based number among those that are new at a holder, if holders take in
+/// records by these choices.
 fn new_key<'a>(
     holder: usize,
     holdings: &'a [Holding],
@@ -133,8 +133,7 @@ fn new_key<'a>(
     None
 }
 
-/// Returns the key of the record at a position of a holder, from 1, once holders have taken in records by these
-/// choices.
+/// Returns the key of the record at a 1-based position of a holder after holders took in records by these choices.
 fn key_behind<'a>(
     held: &'a [Records],
     holdings: &'a [Holding],
@@ -158,7 +157,7 @@ fn key_behind<'a>(
     }
 }
 
-/// Whether a holder can take in a record by a choice, once other holders have taken in records by theirs.
+/// Returns whether a holder can take in a record by a choice after other holders took in records by theirs.
 fn can_take(
     held: &[Records],
     before: &[Holding],
@@ -183,7 +182,7 @@ fn can_take(
     }
 }
 
-/// Whether each of these holders in turn can take in a record by the next choice, and no choice is left.
+/// Returns whether each of these holders in turn can take in a record by the next choice, and no choice is left.
 fn can_take_all(held: &[Records], holdings: &[Holding], choices: &[Option<u64>]) -> bool
     ensures exact { (counts : of_counts.Counts) → result
         ≡ is_some (holds.hold_all counts holdings.now held.now choices.now) }
@@ -248,7 +247,7 @@ fn met_holdings(
     }
 }
 
-/// Returns what a step asks for at which a packet makes a crossing.
+/// Returns what a step requires at which a packet makes a crossing.
 fn crossing_acts<'a>(
     alloc: Global,
     net: &'a Net,
@@ -281,7 +280,7 @@ fn crossing_acts<'a>(
     })
 }
 
-/// Returns what a step asks for at which a record leaves a holder.
+/// Returns what a step requires at which a record leaves a holder.
 fn leaving_acts<'a>(
     alloc: Global,
     net: &'a Net,
@@ -314,7 +313,7 @@ fn leaving_acts<'a>(
     })
 }
 
-/// Returns whether a record with this key is counted at the report, where it is tallied.
+/// Returns whether a record with this key is counted at the report, given whether it is tallied.
 fn tally_when(net: &Net, tallies: bool, key: &Key) -> Tally
     ensures { result ≡ effects.tally_when net.now tallies key.now }
 {
@@ -327,7 +326,7 @@ fn tally_when(net: &Net, tallies: bool, key: &Key) -> Tally
     }
 }
 
-/// Returns what a step asks for at which a record leaves a link.
+/// Returns what a step requires at which a record leaves a link.
 fn arrival_acts<'a>(
     alloc: Global,
     net: &'a Net,
@@ -362,7 +361,7 @@ fn arrival_acts<'a>(
     })
 }
 
-/// Returns what a step asks for, as [`State::acts`](crate::State::acts) does.
+/// Returns what a step requires, as [`State::acts`](crate::State::acts) does.
 pub fn step_acts<'a>(
     alloc: Global,
     net: &'a Net,
@@ -393,7 +392,7 @@ pub fn step_acts<'a>(
     }
 }
 
-/// Returns the effects of what a step asks for by these choices.
+/// Returns the effects of what a step requires by these choices.
 fn effects_by(
     alloc: Global,
     net: &Net,
@@ -430,7 +429,7 @@ fn choices_of(step: &Step) -> &[Option<u64>]
     }
 }
 
-/// Returns what a step does, as [`State::effects`](crate::State::effects) does.
+/// Returns the effects of a step, as [`State::effects`](crate::State::effects) does.
 pub fn step_effects(
     alloc: Global,
     net: &Net,

@@ -1,4 +1,4 @@
-//! Records are handled by collecting processes.
+//! Handling of records by collecting processes.
 ghost use Rattle.std.specs.Prelude.{◌≡◌, IfOk, slice_get};
 ghost use Rattle.fx_machine.specs.Handling as handling;
 ghost use Rattle.fx_machine.specs.Steps as steps;
@@ -8,8 +8,8 @@ use fx_layout::Key;
 use fx_tables::{Holding, Net};
 use std::alloc::{AllocError, Global};
 
-/// What becomes of a record that comes to a collecting process: whether it is tallied, the places of the
-/// exporting processes that send it, and the aggregations that take it in.
+/// How a collecting process handles a record: whether it is tallied, the indices of the exporting processes that send
+/// it, and the aggregations that take it in.
 #[derive(Drop)]
 pub struct Handling<'a> {
     pub tallies: bool,
@@ -17,7 +17,7 @@ pub struct Handling<'a> {
     pub holdings: Vec<Holding>,
 }
 
-/// What becomes of a record with this key that leaves the link at this place.
+/// Returns how a record with this key that leaves the link at this index is handled.
 pub fn handling_at<'a>(
     alloc: Global,
     net: &'a Net,

@@ -1,4 +1,4 @@
-//! Holders take in records.
+//! Taking of records by holders.
 ghost use Rattle.std.specs.Prelude.{◌≡◌, ◌⊎◌, ◌++◌, List, [], ◌∷◌, Some, None, IfOk, IfErr, IfSome, IfNone, OnOk, OnErr};
 ghost use Rattle.fx_base.specs.Fault.{fault_at, IsMemory};
 ghost use Rattle.fx_base.specs.declared.fault.Place.TheVariants as faults;
@@ -16,21 +16,21 @@ use crate::records::Records;
 use fx_base::{Counts, Fault, refusals};
 use fx_tables::{Holding, Net, Occurrence, Packet, Record};
 
-/// The place of a held record, from 0, and what was counted under it before another joined it.
+/// The 0-based index of a held record, and its counts before another record joined it.
 #[derive(Clone, Copy, Debug)]
 pub struct Joined {
     pub place: usize,
     pub counts: Counts,
 }
 
-/// What a holder took in: a new record, which stands last, or one that joined another.
+/// What a holder took in: a new record, which is last, or one that joined another.
 #[derive(Clone, Copy, Debug)]
 pub struct Taking {
     pub holder: usize,
     pub joined: Option<Joined>,
 }
 
-/// The counts are added to the held record of this number, from 1, if it is there and has the key.
+/// Adds the counts to the held record with this 1-based number, if it exists and has the key.
 fn join(
     records: &mut Vec<Record>,
     number: u64,
@@ -62,7 +62,7 @@ fn join(
     })
 }
 
-/// The held record at this place has these counts.
+/// Sets the counts of the held record at this index.
 fn set_counts(records: &mut Vec<Record>, joined: Joined)
     ensures { records.new.items ≡ holds.with_counts records.old.items joined.place joined.counts }
 {
@@ -73,7 +73,7 @@ fn set_counts(records: &mut Vec<Record>, joined: Joined)
 }
 
 impl Records {
-    /// Takes in a record of this key and these counts: as a new one, which comes last, or added to the held record of
+    /// Takes in a record with this key and these counts, either appended as a new one or added to the held record with
     /// this number.
     fn take_in(
         &mut self,
@@ -104,7 +104,7 @@ impl Records {
         }
     }
 
-    /// What was taken in is taken back.
+    /// Undoes the taking of a record.
     fn give_back(&mut self, joined: Option<Joined>)
         ensures { self.new ≡ holds.given_back joined self.old }
     {
@@ -117,7 +117,7 @@ impl Records {
     }
 }
 
-/// A holder takes in a record.
+/// Takes a record into a holder.
 fn hold(
     held: &mut Vec<Records>,
     holder: usize,
@@ -142,7 +142,7 @@ fn hold(
     Ok(Taking { holder, joined })
 }
 
-/// What a holder took in is taken back.
+/// Undoes the taking of a record by a holder.
 fn give_back(held: &mut Vec<Records>, taking: Taking)
     ensures { held.new.items ≡ holds.back_at held.old.items taking.holder taking.joined }
 {
@@ -152,7 +152,7 @@ fn give_back(held: &mut Vec<Records>, taking: Taking)
     }
 }
 
-/// A holder takes in a record, and that is noted; or neither.
+/// Takes a record into a holder and logs it, or does neither.
 fn hold_next(
     held: &mut Vec<Records>,
     log: &mut Vec<Taking>,
@@ -179,7 +179,7 @@ fn hold_next(
     Ok(())
 }
 
-/// All that was taken in is taken back, the last first.
+/// Undoes all takings of the log, the last first.
 pub fn give_all_back(held: &mut Vec<Records>, log: &[Taking])
     ensures { held.new.items ≡ holds.undone log.now held.old.items }
 {
@@ -188,11 +188,11 @@ pub fn give_all_back(held: &mut Vec<Records>, log: &[Taking])
     }
 }
 
-/// Each of these holders in turn takes in a record of these counts, by the next choice, and the log becomes what
-/// they took in; or none does.
+/// Takes a record of these counts into each of these holders in turn, by the next choice, and sets the log to what they
+/// took in, or takes in nothing.
 ///
-/// Fails with 852 where the choices aren't as many as the holders or one of them can't be made, and with 900
-/// for want of memory.
+/// Fails with 852 if there aren't as many choices as holders or one of them can't be made, and with 900 if out of
+/// memory.
 pub fn hold_all(
     held: &mut Vec<Records>,
     log: &mut Vec<Taking>,
@@ -224,8 +224,8 @@ pub fn hold_all(
     Ok(())
 }
 
-/// The caches of these occurrences in turn take in a record of these counts, each at the key that a packet with
-/// these fields has there, as [`hold_all`] has it.
+/// Takes a record of these counts into each cache of these occurrences in turn, under the key of a packet with these
+/// fields there, as [`hold_all`] does.
 pub fn hold_met(
     held: &mut Vec<Records>,
     log: &mut Vec<Taking>,

@@ -10,8 +10,8 @@ use fx_elements::width;
 use fx_layout::{Key, Layout, Part, leading_bits};
 use fx_tables::{Net, Occurrence};
 
-/// The key under which a holder takes a record in: one that stands already, or that of a packet where it is metered,
-/// which has to be made only for a new record.
+/// The key under which a holder takes in a record: an existing one, or that of a packet where it is metered, which is
+/// made only for a new record.
 #[derive(Clone, Copy)]
 pub enum Intake<'a> {
     Keyed(&'a Key),
@@ -22,7 +22,7 @@ pub enum Intake<'a> {
     },
 }
 
-/// The value that a packet with these fields has for a part.
+/// Returns the value of a packet with these fields for a part.
 fn value_for(part: &Part, fields: &Fields) -> u128
     ensures { result ≡ keys.leading_bits (axis_width part.now.axis) part.now.bits
         (field fields.now part.now.axis) }
@@ -30,7 +30,7 @@ fn value_for(part: &Part, fields: &Fields) -> u128
     leading_bits(width(part.axis), part.bits, fields.get(part.axis))
 }
 
-/// Whether these are the values that a packet with these fields has for these parts.
+/// Returns whether these are the values of a packet with these fields for these parts.
 fn has_values(values: &[u128], parts: &[Part], fields: &Fields) -> bool
     ensures { result ≡ bytes_eq values.now (map (λ part. keys.leading_bits (axis_width part.axis)
         part.bits (field fields.now part.axis)) parts.now) }
@@ -46,7 +46,7 @@ fn has_values(values: &[u128], parts: &[Part], fields: &Fields) -> bool
     true
 }
 
-/// Whether the key is the one that a packet with these fields has under the layout.
+/// Returns whether the key is that of a packet with these fields under the layout.
 fn is_key_of(key: &Key, layout: &Layout, fields: &Fields) -> bool
     ensures { result ≡ keys.same_key key.now (keys.key_of layout.now fields.now) }
 {
@@ -54,7 +54,7 @@ fn is_key_of(key: &Key, layout: &Layout, fields: &Fields) -> bool
 }
 
 impl<'a> Intake<'a> {
-    /// Whether the key is the same as that of a held record.
+    /// Returns whether the key is the same as that of a held record.
     pub fn has(&self, held: &Key) -> bool
         ensures { result ≡ keys.same_key held.now (key_in self.now) }
     {
@@ -71,7 +71,7 @@ impl<'a> Intake<'a> {
         }
     }
 
-    /// The key.
+    /// Returns the key.
     pub fn key(&self) -> Key
         ensures { result ≡ key_in self.now }
     {

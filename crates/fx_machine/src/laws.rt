@@ -20,8 +20,8 @@ ghost use Rattle.fx_machine.specs.Sums.{SumsFit, plain_sum};
 ghost use Rattle.fx_tables.specs.declared.packet.Packet as of_packet;
 ghost use Rattle.fx_run_text.specs.declared.step.Step as of_step;
 
-/// The steps with their choices written are just what a network may do: each step is a move, and each move is
-/// a step with some choices.
+/// The steps with their choices are exactly what a network may do: each step is a move, and each move is a step with
+/// some choices.
 pub fn choices_are_free()
     ensures step_is_move { (net : network.Net) (classes : List traffic.Class)
         (packets : List of_packet.Packet)
@@ -32,7 +32,7 @@ pub fn choices_are_free()
         (s : states.State) (new : states.State)
         → moves.Moves net classes packets s new
         → (step : of_step.Step) × (steps.after net classes packets step s ≡ Ok new) }
-    // So runs are.
+    // So runs correspond too.
     ensures steps_are_moves { (net : network.Net) (classes : List traffic.Class)
         (packets : List of_packet.Packet)
         (written : List of_step.Step) (s : states.State) (last : states.State)
@@ -45,8 +45,8 @@ pub fn choices_are_free()
         → (written : List of_step.Step) × (steps.run net classes packets written s ≡ Ok last) }
 {}
 
-/// What is said of every complete run isn't said of nothing: where records only go forward and none is
-/// stuck, there is a complete run over any packets.
+/// What is claimed of every complete run isn't vacuous: if records only go forward and none is stuck, there is a
+/// complete run over any packets.
 pub fn complete_runs_exist()
     ensures exist { (net : network.Net) (classes : List traffic.Class)
         (packets : List of_packet.Packet)
@@ -54,8 +54,8 @@ pub fn complete_runs_exist()
         → complete_run.HasCompleteRun net classes packets }
 {}
 
-/// What a network doesn't name means nothing: it does the same with packets that are alike but for values on axes
-/// that it doesn't name, and what is promised of packets that have 0 there is promised of all.
+/// What a network doesn't name has no effect: it treats packets alike that differ only on axes that it doesn't name,
+/// and what holds of packets that have 0 there holds of all.
 pub fn unnamed_axes_mean_nothing()
     ensures all_fields_fit { (named : Axis → Bool) (f : Fields)
         → IsFields f → axes.FitsElsewhere named f }
@@ -92,7 +92,7 @@ pub fn unnamed_axes_mean_nothing()
         → axes.NamesOnly named net → axes.AreAlike named ps qs
         → (SumsFit net.report_layout (traffic.to_count classes ps)
         ↔ SumsFit net.report_layout (traffic.to_count classes qs)) }
-    // So zeros stand for all values.
+    // So zeros represent all values.
     ensures once { (named : Axis → Bool) (net : network.Net) (classes : List traffic.Class)
         → axes.NamesOnly named net → axes.ClassesNameOnly named classes
         → (ExactlyOnceOf (axes.HasZerosElsewhere named) net classes ↔ ExactlyOnce net classes) }
@@ -101,8 +101,8 @@ pub fn unnamed_axes_mean_nothing()
         → (OnceModuloOf (axes.HasZerosElsewhere named) net classes ↔ OnceModulo net classes) }
 {}
 
-/// Networks and classes that name only six axes mean what they meant before the three of IPv6 stood behind these:
-/// what is promised of packets with 0 on the three, or of packets with values on the six alone, is promised of all.
+/// Networks and classes that name only the first six axes mean what they meant before the three of IPv6 were added:
+/// what holds of packets with 0 on the three, or of packets with values on the six alone, holds of all.
 pub fn six_axes_suffice()
     ensures once { (net : network.Net) (classes : List traffic.Class)
         → axes.NamesOnly axes.is_of_six net → axes.ClassesNameOnly axes.is_of_six classes
@@ -112,7 +112,7 @@ pub fn six_axes_suffice()
         → axes.NamesOnly axes.is_of_six net → axes.ClassesNameOnly axes.is_of_six classes
         → (OnceModuloOf (axes.HasZerosElsewhere axes.is_of_six) net classes
         ↔ OnceModulo net classes) }
-    // Where those zeros are.
+    // The axes that have those zeros.
     ensures zeros { (p : of_packet.Packet) → (axes.HasZerosElsewhere axes.is_of_six p
         ↔ ((field p.fields Version ≡ 0) × (field p.fields Source6 ≡ 0)
         × (field p.fields Destination6 ≡ 0))) }

@@ -1,5 +1,5 @@
-//! The abstract network: what it holds, and its steps. What it is made of (`fx_tables`) and how its runs are
-//! written (`fx_run_text`) can be named here too.
+//! The abstract network: what it holds, and its steps. Its parts (`fx_tables`) and the written form of its runs
+//! (`fx_run_text`) can be named here too.
 #![tactic(auto)]
 
 mod coming;

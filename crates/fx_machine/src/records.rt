@@ -9,14 +9,14 @@ use fx_tables::Record;
 use std::alloc::{AllocError, Global};
 use std::marker::Model;
 
-/// A list of records, in order of coming.
+/// A list of records, in order of arrival.
 #[derive(Debug)]
 pub struct Records {
     pub(crate) items: Vec<Record>,
 }
 
 impl Drop for Records {
-    /// Lets its parts go: proved once, and one call wherever one is let go.
+    /// Drops its parts here, so that each drop elsewhere is one call.
     fn drop(self) {
         let Self { items: _ } = self;
     }
@@ -32,7 +32,7 @@ impl Model for Records {
 }
 
 impl Records {
-    /// No records.
+    /// Returns no records.
     pub fn new(alloc: Global) -> Records
         ensures { result ≡ [] }
     {
@@ -41,14 +41,14 @@ impl Records {
         }
     }
 
-    /// The records, in order of coming.
+    /// Returns the records, in order of arrival.
     pub fn as_slice(&self) -> &[Record]
         ensures { result.now ≡ self.now }
     {
         self.items.as_slice()
     }
 
-    /// The record comes last.
+    /// Appends a record.
     pub fn push(&mut self, entry: Record) -> Result<(), AllocError>
         ensures ok { OnOk result (self.new ≡ self.old ++ entry ∷ []) }
         ensures err { OnErr result (self.new ≡ self.old) }
@@ -57,28 +57,28 @@ impl Records {
         Ok(())
     }
 
-    /// The last record goes, if there is one.
+    /// Removes the last record, if there is one.
     pub fn drop_last(&mut self)
         ensures { self.new ≡ take (length self.old - 1) self.old }
     {
         self.items.pop();
     }
 
-    /// The record of this number, from 1.
+    /// Returns the record with this 1-based number.
     pub fn record_numbered(&self, number: u64) -> Option<&Record>
         ensures { now_of result ≡ entry_numbered self.now number }
     {
         entry_numbered(self.items.as_slice(), number)
     }
 
-    /// Whether there are none.
+    /// Returns whether there are no records.
     pub fn is_empty(&self) -> bool
         ensures { result ≡ (length self.now == 0) }
     {
         self.items.is_empty()
     }
 
-    /// The record of this number leaves, if it is there, and those behind it move up.
+    /// Removes the record with this number, if it exists, and moves those after it up.
     pub fn take_out(&mut self, number: u64)
         ensures { self.new ≡ states.without self.old number }
     {
@@ -89,7 +89,7 @@ impl Records {
     }
 }
 
-/// Returns the records of the list at this place, from 0, and none where there is no such list.
+/// Returns the records of the list at this 0-based index, or none if there is no such list.
 pub fn records_at(lists: &[Records], place: usize) -> &[Record]
     ensures { result.now ≡ entries (slice_get lists.now place) }
 {

@@ -1,4 +1,4 @@
-//! Records are sent on links.
+//! Sending of records on links.
 ghost use Rattle.std.specs.Prelude.{◌≡◌, ◌⊎◌, ◌≤◌, ◌++◌, List, [], ◌∷◌, length, drop, Some, None, IfOk, IfErr, OnOk, OnErr, slice_get};
 ghost use Rattle.fx_base.specs.Fault.{fault_at, IsMemory};
 ghost use Rattle.fx_base.specs.declared.fault.Place.TheVariants as faults;
@@ -13,7 +13,7 @@ use fx_base::{Fault, entry_numbered, refusals};
 use fx_tables::{Exporter, Record};
 use std::alloc::{AllocError, Global};
 
-/// The link of a destination comes last, if it has one.
+/// Appends the link of a destination, if it has one.
 fn push_link(links: &mut Vec<usize>, destination: Option<usize>) -> Result<(), AllocError>
     ensures { OnOk result (links.new.items ≡ links.old.items ++ sends.link_list destination) }
 {
@@ -23,7 +23,7 @@ fn push_link(links: &mut Vec<usize>, destination: Option<usize>) -> Result<(), A
     Ok(())
 }
 
-/// The links of these destinations come last.
+/// Appends the links of these destinations.
 fn push_links(links: &mut Vec<usize>, destinations: &[Option<usize>]) -> Result<(), AllocError>
     ensures { OnOk result (links.new.items ≡ links.old.items ++ sends.links_of destinations.now) }
 {
@@ -33,7 +33,7 @@ fn push_links(links: &mut Vec<usize>, destinations: &[Option<usize>]) -> Result<
     Ok(())
 }
 
-/// The destination that the next choice names.
+/// Returns the destination that the next choice names.
 fn next_destination(
     destinations: &[Option<usize>],
     choices: &[Option<u64>],
@@ -49,7 +49,7 @@ fn next_destination(
     }
 }
 
-/// The links of one exporting process come last, and the number of choices that it takes is answered.
+/// Appends the links of one exporting process, and returns the number of choices that it takes.
 fn choose(
     links: &mut Vec<usize>,
     exporter: &Exporter,
@@ -77,7 +77,7 @@ fn choose(
     Ok(1)
 }
 
-/// The links of the exporting process at a place of the table come last, and the number of its choices is answered.
+/// Appends the links of the exporting process at an index of the table, and returns the number of its choices.
 fn choose_at(
     links: &mut Vec<usize>,
     exporters: &[Exporter],
@@ -99,10 +99,10 @@ fn choose_at(
     }
 }
 
-/// The links on which the exporting processes at these places send a record, each in turn, and the number of
+/// Returns the links on which the exporting processes at these indices send a record, each in turn, and the number of
 /// choices that they take.
 ///
-/// Fails with 852 where a choice is missing or names no destination, and with 900 for want of memory.
+/// Fails with 852 if a choice is missing or names no destination, and with 900 if out of memory.
 pub fn chosen_links(
     alloc: Global,
     exporters: &[Exporter],
@@ -127,7 +127,7 @@ pub fn chosen_links(
     Ok((links, used))
 }
 
-/// The choices behind the first so many.
+/// Returns the choices after the first `used`.
 pub fn choices_from(choices: &[Option<u64>], used: usize) -> &[Option<u64>]
     ensures { result.now ≡ drop used choices.now }
 {
@@ -137,7 +137,7 @@ pub fn choices_from(choices: &[Option<u64>], used: usize) -> &[Option<u64>]
     &choices[used..]
 }
 
-/// A record comes last on a link, if it is there.
+/// Appends a record to a link, if the link exists.
 fn put_on(carried: &mut Vec<Records>, link: usize, entry: Record) -> Result<(), AllocError>
     ensures ok { OnOk result (carried.new.items ≡ states.put_last carried.old.items link entry) }
     ensures err { OnErr result (carried.new.items ≡ carried.old.items) }
@@ -149,7 +149,7 @@ fn put_on(carried: &mut Vec<Records>, link: usize, entry: Record) -> Result<(), 
     Ok(())
 }
 
-/// The last record of a link goes, if it is there.
+/// Removes the last record of a link, if there is one.
 fn take_back(carried: &mut Vec<Records>, link: usize)
     ensures { (rss : List (List of_record.Record)) (r : of_record.Record)
         → carried.old.items ≡ states.put_last rss link r → carried.new.items ≡ rss }
@@ -160,7 +160,7 @@ fn take_back(carried: &mut Vec<Records>, link: usize)
     }
 }
 
-/// A record comes last on each of these links, or on none.
+/// Appends a record to each of these links, or to none.
 pub fn put_all(
     carried: &mut Vec<Records>,
     links: &[usize],
@@ -179,7 +179,7 @@ pub fn put_all(
     Ok(())
 }
 
-/// The last record of each of these links goes, the last link first.
+/// Removes the last record of each of these links, the last link first.
 pub fn take_all_back(carried: &mut Vec<Records>, links: &[usize], entry: &Record)
     ensures { (rss : List (List of_record.Record))
         → carried.old.items ≡ sends.put_all links.now entry.now rss → carried.new.items ≡ rss }

@@ -31,7 +31,7 @@ pub struct State<'a> {
 }
 
 impl Drop for State<'_> {
-    /// Lets its parts go: proved once, and one call wherever one is let go.
+    /// Drops its parts here, so that each drop elsewhere is one call.
     fn drop(self) {
         let Self {
             alloc: _,
@@ -56,7 +56,7 @@ impl<'a> Model for State<'a> {
     } };
 }
 
-/// Whether all packets are of their classes.
+/// Returns whether all packets belong to their classes.
 fn all_of(classes: &Classes, packets: &[Packet]) -> bool
     ensures { IsTrue result ↔ All (λ packet. traffic.IsOf packet
         (network.entry_numbered classes.now packet.class)) packets.now }
@@ -65,11 +65,10 @@ fn all_of(classes: &Classes, packets: &[Packet]) -> bool
 }
 
 impl<'a> State<'a> {
-    /// The opening of a run over these packets: all their crossings are to come, and nothing is held or on a
-    /// link.
+    /// Opens a run over these packets: all their crossings are pending, and nothing is held or on a link.
     ///
-    /// Fails with 856, at no place, where a packet isn't in its class: its class or path isn't there, or the
-    /// class's region doesn't hold its fields; and with 900 for want of memory.
+    /// Fails with 856, at no place, if a packet isn't in its class: its class or path doesn't exist, or the region of
+    /// the class doesn't hold its fields; and with 900 if out of memory.
     pub fn open(
         alloc: Global,
         net: &'a Net,
@@ -99,10 +98,10 @@ impl<'a> State<'a> {
         State::open_classed(alloc, net, classes, packets)
     }
 
-    /// The same, of packets that are of their classes, as those that [`fx_run_text::read_packets`] gives: they aren't
-    /// looked at again.
+    /// Opens a run over packets that belong to their classes, such as those from [`fx_run_text::read_packets`]; they
+    /// aren't checked again.
     ///
-    /// Fails with 900, at no place, for want of memory.
+    /// Fails with 900, at no place, if out of memory.
     pub fn open_classed(
         alloc: Global,
         net: &'a Net,
@@ -132,7 +131,7 @@ impl<'a> State<'a> {
         })
     }
 
-    /// The network that it runs over.
+    /// Returns the network that it runs over.
     pub fn net(&self) -> &Net
         ensures { result.now ≡ self.now.net }
     {
@@ -153,21 +152,21 @@ impl<'a> State<'a> {
         self.packets.as_slice()
     }
 
-    /// Whether a crossing of a packet is to come, by their numbers, from 1.
+    /// Returns whether a crossing of a packet is pending, by their 1-based numbers.
     pub fn is_to_come(&self, packet: u64, crossing: u64) -> bool
         ensures { result ≡ is_some (steps.place self.now.state.coming packet crossing) }
     {
         self.store.is_to_come(packet, crossing)
     }
 
-    /// Returns how many records are held at a place of the network's table of holders, from 0.
+    /// Returns the number of records held at a 0-based index of the network's table of holders.
     pub fn records_held(&self, place: usize) -> u64
         ensures { result ≡ length (network.entries (slice_get self.now.state.held place)) }
     {
         records_at(self.store.held(), place).len() as u64
     }
 
-    /// Returns the record at a position, from 1, of a place of the network's table of holders, from 0.
+    /// Returns the record at a 1-based position of the holder at a 0-based index of the network's table.
     pub fn record_held(&self, place: usize, position: u64) -> Option<&Record>
         ensures { now_of result ≡ entry_numbered
             (network.entries (slice_get self.now.state.held place)) position }
@@ -175,14 +174,14 @@ impl<'a> State<'a> {
         entry_numbered(records_at(self.store.held(), place), position)
     }
 
-    /// Returns how many records are on the link at this place, from 0.
+    /// Returns the number of records on the link at this 0-based index.
     pub fn records_on(&self, link: usize) -> u64
         ensures { result ≡ length (network.entries (slice_get self.now.state.carried link)) }
     {
         records_at(self.store.carried(), link).len() as u64
     }
 
-    /// Returns the record at a position, from 1, of the link at this place, from 0.
+    /// Returns the record at a 1-based position of the link at this 0-based index.
     pub fn record_on(&self, link: usize, position: u64) -> Option<&Record>
         ensures { now_of result ≡ entry_numbered
             (network.entries (slice_get self.now.state.carried link)) position }
@@ -190,9 +189,9 @@ impl<'a> State<'a> {
         entry_numbered(records_at(self.store.carried(), link), position)
     }
 
-    /// Returns what a step asks for before its choices.
+    /// Returns what a step requires before its choices.
     ///
-    /// Fails as [`State::step`] does, but not with 852: that is for the choices, at which this doesn't look.
+    /// Fails like [`State::step`], except with 852, since it doesn't look at the choices.
     pub fn acts(&self, step: &Step) -> Result<StepActs<'a>, Fault>
         ensures ok { IfOk result (λ a. (s : states.State)
             → self.now.state ≡ states.told_state s
@@ -214,9 +213,9 @@ impl<'a> State<'a> {
         )
     }
 
-    /// Returns what a step would do beside taking its crossing or its record from where that is.
+    /// Returns the effects of a step, besides removing its crossing or its record from where it is.
     ///
-    /// Fails as [`State::step`] does, at no place, with 851, 853, 852 and 900.
+    /// Fails like [`State::step`], at no place, with 851, 853, 852 and 900.
     pub fn effects(&self, step: &Step) -> Result<Effects, Fault>
         ensures ok { IfOk result (λ e. (s : states.State)
             → self.now.state ≡ states.told_state s
@@ -240,12 +239,12 @@ impl<'a> State<'a> {
         )
     }
 
-    /// Makes a step, with the choices that are written in it.
+    /// Makes a step, with its choices.
     ///
-    /// Fails, at no place, with 851 where there is no such packet, crossing, holder or link, or the crossing
-    /// was made; else with 853 where no record is at that position; else with 852 where the choices aren't as
-    /// many as needed, or a chosen destination or held record isn't there or has another key; and with 900
-    /// for want of memory. After a fault the state is what it was.
+    /// Fails, at no place, with 851 if there is no such packet, crossing, holder or link, or the crossing was made;
+    /// else with 853 if there is no record at that position; else with 852 if the number of choices is wrong, or a
+    /// chosen destination or held record doesn't exist or has another key; and with 900 if out of memory. After a fault
+    /// the state is unchanged.
     pub fn step(&mut self, step: &Step) -> Result<(), Fault>
         ensures ok { OnOk result ((s : states.State) → self.old.state ≡ states.told_state s
             → (next : states.State)
@@ -288,21 +287,21 @@ impl<'a> State<'a> {
         }
     }
 
-    /// Whether the run is complete: no crossing to come, nothing held, nothing on a link.
+    /// Returns whether the run is complete: no crossing is pending, nothing is held, and nothing is on a link.
     pub fn complete(&self) -> bool
         ensures { IsTrue result ↔ states.Complete self.now.state }
     {
         self.store.complete()
     }
 
-    /// The totals of the keys tallied so far under the report's layout, in the order of their first tallies.
+    /// Returns the totals of the keys tallied so far under the report's layout, in the order of their first tallies.
     pub fn totals(&self) -> &[Record]
         ensures { result.now ≡ self.now.state.totals }
     {
         self.store.totals()
     }
 
-    /// The number of records that couldn't be tallied, modulo 2 to the 64.
+    /// Returns the number of records that couldn't be tallied, modulo 2 to the 64.
     pub fn unassigned(&self) -> u64
         ensures { result ≡ self.now.state.unassigned }
     {

@@ -1,4 +1,4 @@
-//! What a network holds.
+//! The contents of a network.
 ghost use Rattle.std.specs.Prelude.{◌≡◌, ◌⊎◌, ◌&&◌, [], Ok, Err, OnOk, OnErr, IfOk, IfErr, map, replicate, is_some, IsTrue, ◌↔◌};
 ghost use Rattle.fx_base.specs.declared.fault.Place.TheVariants as faults;
 ghost use Rattle.fx_base.specs.Refusals.{want_of_memory};
@@ -22,11 +22,11 @@ use fx_tables::{Classes, HolderName, Net, Occurrence, Packet, Record};
 use std::alloc::{AllocError, Global};
 use std::marker::Model;
 
-/// What a network holds: the crossings to come, the records at each holder and on each link, the totals, and
-/// the number of unassigned records modulo 2 to the 64.
+/// What a network holds: the pending crossings, the records at each holder and on each link, the totals, and the number
+/// of unassigned records modulo 2 to the 64.
 ///
-/// Where a packet is metered and what holders take in are lists of one step alone: they are kept for the memory
-/// that they have.
+/// The lists of where a packet is metered and of what holders take in are used within one step only; they are kept to
+/// reuse their memory.
 #[derive(Debug, Drop)]
 pub struct Store {
     to_come: Vec<Marks>,
@@ -53,7 +53,7 @@ impl Model for Store {
     } };
 }
 
-/// So many empty lists.
+/// Returns this many empty lists.
 fn empty_lists(alloc: Global, count: usize) -> Result<Vec<Records>, AllocError>
     ensures { IfOk result (λ lists. lists.items ≡ replicate count []) }
 {
@@ -64,7 +64,7 @@ fn empty_lists(alloc: Global, count: usize) -> Result<Vec<Records>, AllocError>
     Ok(lists)
 }
 
-/// Whether all these lists are empty.
+/// Returns whether all these lists are empty.
 fn all_empty(lists: &[Records]) -> bool
     ensures { result ≡ states.all_empty lists.now }
 {
@@ -76,7 +76,7 @@ fn all_empty(lists: &[Records]) -> bool
     true
 }
 
-/// Whether nothing is to come, held or carried.
+/// Returns whether nothing is pending, held or carried.
 fn nothing_left(to_come: &[Marks], held: &[Records], carried: &[Records]) -> bool
     ensures { result ≡ (comings.all_crossed to_come.now && states.all_empty held.now
         && states.all_empty carried.now) }
@@ -84,7 +84,7 @@ fn nothing_left(to_come: &[Marks], held: &[Records], carried: &[Records]) -> boo
     all_crossed(to_come) && all_empty(held) && all_empty(carried)
 }
 
-/// All crossings of these packets.
+/// Returns all crossings of these packets, pending.
 fn all_to_come(
     alloc: Global,
     classes: &Classes,
@@ -100,7 +100,7 @@ fn all_to_come(
     Ok(to_come)
 }
 
-/// The place of the link of this number, from 1.
+/// Returns the index of the link with this 1-based number.
 pub fn link_place(link: u64) -> Option<usize>
     ensures { result ≡ steps.link_place link }
 {
@@ -110,7 +110,7 @@ pub fn link_place(link: u64) -> Option<usize>
     Some((link - 1) as usize)
 }
 
-/// The record of this number leaves the list at this place.
+/// Removes the record with this number from the list at this index.
 fn take_out_at(lists: &mut Vec<Records>, place: usize, number: u64)
     ensures { lists.new.items ≡ stores.taken_out lists.old.items place number }
 {
@@ -120,7 +120,7 @@ fn take_out_at(lists: &mut Vec<Records>, place: usize, number: u64)
     }
 }
 
-/// The list becomes that of where a packet is metered at a crossing of its path.
+/// Sets the list to where a packet is metered at a crossing of its path.
 fn meet(
     met: &mut Vec<Occurrence>,
     net: &Net,
@@ -141,7 +141,7 @@ fn meet(
 }
 
 impl Store {
-    /// All crossings to come, and nothing else.
+    /// Returns a store in which all crossings are pending, and that is otherwise empty.
     pub fn open(
         alloc: Global,
         net: &Net,
@@ -161,7 +161,7 @@ impl Store {
         })
     }
 
-    /// Whether no crossing is to come, nothing is held and nothing is on a link.
+    /// Returns whether no crossing is pending, nothing is held and nothing is on a link.
     pub fn complete(&self) -> bool
         ensures { IsTrue result ↔ states.Complete self.now }
     {
@@ -172,21 +172,21 @@ impl Store {
         )
     }
 
-    /// The totals.
+    /// Returns the totals.
     pub fn totals(&self) -> &[Record]
         ensures { result.now ≡ self.now.totals }
     {
         self.totals.as_slice()
     }
 
-    /// The number of unassigned records, modulo 2 to the 64.
+    /// Returns the number of unassigned records, modulo 2 to the 64.
     pub fn unassigned(&self) -> u64
         ensures { result ≡ self.now.unassigned }
     {
         self.unassigned
     }
 
-    /// Whether a crossing of a packet is to come, by their numbers, from 1.
+    /// Returns whether a crossing of a packet is pending, by their 1-based numbers.
     pub fn is_to_come(&self, packet: u64, crossing: u64) -> bool
         ensures { result ≡ is_some (steps.place self.now.coming packet crossing) }
     {
@@ -207,7 +207,7 @@ impl Store {
         self.carried.as_slice()
     }
 
-    /// A packet makes a crossing, and the caches there meter it.
+    /// Makes a crossing of a packet, which the caches there meter.
     pub fn cross(
         &mut self,
         net: &Net,
@@ -247,7 +247,7 @@ impl Store {
         Ok(())
     }
 
-    /// A record leaves a holder and is exported.
+    /// Removes a record from a holder and exports it.
     pub fn expire(
         &mut self,
         alloc: Global,
@@ -289,7 +289,7 @@ impl Store {
         Ok(())
     }
 
-    /// A record leaves a link and is handled by the collecting process to which the link leads.
+    /// Removes a record from a link and has it handled by the collecting process that the link leads to.
     pub fn arrive(
         &mut self,
         alloc: Global,

@@ -1,4 +1,4 @@
-//! Records are tallied.
+//! Tallying of records.
 ghost use Rattle.std.specs.Prelude.{◌≡◌, ◌%◌, ◌^◌, ℕ, length, IfSome, IfNone, OnOk, OnErr};
 ghost use Rattle.fx_machine.specs.Places as places;
 ghost use Rattle.fx_machine.specs.Sends as sends;
@@ -12,7 +12,7 @@ use fx_layout::{Key, Layout};
 use fx_tables::Record;
 use std::alloc::AllocError;
 
-/// The first place of the key.
+/// Returns the first index of the key.
 fn place_of(totals: &[Record], key: &Key) -> Option<usize>
     ensures some { IfSome result (λ n. places.FirstAt n totals.now key.now) }
     ensures none { IfNone result (places.NoneBefore (length totals.now) totals.now key.now) }
@@ -25,7 +25,7 @@ fn place_of(totals: &[Record], key: &Key) -> Option<usize>
     None
 }
 
-/// The counts are added at the key, or stand there for the first time.
+/// Adds the counts at the key, or appends the key with them if it is new.
 fn add_at(totals: &mut Vec<Record>, key: Key, counts: &Counts) -> Result<(), AllocError>
     ensures ok { OnOk result (totals.new.items ≡ states.add_at totals.old.items key counts.now) }
     ensures err { OnErr result (totals.new.items ≡ totals.old.items) }
@@ -42,7 +42,7 @@ fn add_at(totals: &mut Vec<Record>, key: Key, counts: &Counts) -> Result<(), All
     Ok(())
 }
 
-/// A record is tallied under the projected key, or counted as unassigned where its layout doesn't refine this.
+/// Tallies a record under the projected key, or counts it as unassigned if its layout doesn't refine the report's.
 pub fn tally(
     totals: &mut Vec<Record>,
     unassigned: &mut u64,
@@ -63,7 +63,7 @@ pub fn tally(
     Ok(())
 }
 
-/// A record is tallied, if it is to be.
+/// Tallies a record, if it is to be tallied.
 pub fn tally_if(
     tallies: bool,
     totals: &mut Vec<Record>,
@@ -84,7 +84,7 @@ pub fn tally_if(
     Ok(())
 }
 
-/// A record comes last on each of these links and is tallied, if it is to be; or neither.
+/// Appends a record to each of these links and tallies it, if it is to be tallied, or does neither.
 pub fn send_and_tally(
     carried: &mut Vec<Records>,
     totals: &mut Vec<Record>,

@@ -3,16 +3,16 @@ use crate::state::State;
 use fx_base::Fault;
 use fx_run_text::Step;
 
-/// Gets to see a run's states where it stops. It changes neither the run nor what that answers.
+/// An observer of a run's states where it stops. It changes neither the run nor its result.
 pub trait StepWatch: Drop {
-    /// A step of this number, from 1, is refused in this state, which is the one before it.
+    /// Observes that the step with this 1-based number is refused in this state, which is the one before it.
     fn on_refused_step(&mut self, state: &State<'_>, step: &Step, number: u64, fault: &Fault);
 
-    /// All steps were made; this is the state after the last one.
+    /// Observes the state after the last step, when all steps were made.
     fn on_last_state(&mut self, state: &State<'_>);
 }
 
-/// Does nothing.
+/// An observer that does nothing.
 #[derive(Clone, Copy, Debug, Drop)]
 pub struct Unwatched;
 
