@@ -48,9 +48,9 @@ pub fn one_of(
 /// A member that is refused with a number of its own.
 #[derive(Clone, Copy)]
 pub struct Refused<'a> {
-    /// The member's name.
+    /// The name of the member.
     pub name: &'a str,
-    /// The fault's number.
+    /// The number of the fault.
     pub number: u16,
 }
 
@@ -62,7 +62,7 @@ fn first_refused<'a>(object: &Value, rows: &[Refused<'a>]) -> Option<Refused<'a>
         .find(|row| object.get(row.name).is_some())
 }
 
-/// Refuses an object with one of these members, at the first that is there in the order of the rows.
+/// Refuses an object with one of these members, at the first present member in the order of the rows.
 pub fn none_of(
     alloc: Global,
     path: &DocumentPath<'_>,

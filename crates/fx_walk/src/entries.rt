@@ -1,4 +1,4 @@
-//! Lists whose entries have names that differ.
+//! Lists whose entries have distinct names.
 ghost use Rattle.std.specs.Prelude.{◌≡◌, ℕ, List, [], ◌∷◌, ◌++◌, map, codes, IfOk, OnErr, OnOk};
 ghost use Rattle.serde_json.specs.Data.{Data};
 ghost use Rattle.serde_json.specs.View.{view};
@@ -18,33 +18,33 @@ use serde_json::Value;
 use std::alloc::{AllocError, Global};
 use std::marker::Model;
 
-/// What has a name.
+/// A thing with a name.
 pub trait Named: Drop {
     /// The bytes of its name.
     ghost name: { Self → List ℕ };
 
-    /// Its name.
+    /// Returns its name.
     fn name(&self) -> &Name
         ensures { result.now ≡ name self.now };
 }
 
-/// What reads an entry of a list, whose name differs from those of the entries before it. A public type has a reader
-/// beside it, as with [`crate::FromValue`].
+/// A reader of an entry of a list, whose name differs from those of the entries before it. A public type has a separate
+/// reader, as with [`crate::FromValue`].
 pub trait Entry {
-    /// What an entry is read as.
+    /// The type that an entry is read as.
     type Read: Drop;
 
-    /// The faults of a value at a pointer, behind entries with these names.
+    /// The faults of a value at a pointer, after entries with these names.
     ghost faults: { List (List ℕ) → List ℕ → Data → List FoundFault };
 
-    /// What a value without a fault means.
+    /// The meaning of a value without faults.
     ghost meaning: { Data → Self.Read };
 
     /// The bytes of the name of what is read.
     ghost name: { Self.Read → List ℕ };
 
-    /// Reads the value that stands at the path behind entries with these names, and puts its own behind them, or
-    /// answers its first fault.
+    /// Reads the value at the path after entries with these names, and appends its own name to them. Fails with its
+    /// first fault.
     fn from_entry(
         alloc: Global,
         path: &DocumentPath<'_>,
@@ -57,8 +57,8 @@ pub trait Entry {
             ≡ earlier.old ++ Self.name (meaning (view value.now)) ∷ []) };
 }
 
-/// A name that differs from those of earlier entries: 104 for no text, `wrong` for a text that is no name,
-/// `twice` for one of those.
+/// Reads a name that differs from those of earlier entries. Fails with 104 if the value is no text, with `wrong` if the
+/// text is no name, and with `twice` if the name is one of those.
 pub fn unique_name_by(
     alloc: Global,
     path: &DocumentPath<'_>,
@@ -79,7 +79,8 @@ pub fn unique_name_by(
     Ok(name)
 }
 
-/// A name that differs from those of earlier entries: 104 and 105 as for any name, 106 for one of those.
+/// Reads a name that differs from those of earlier entries. Fails with 104 and 105 as for any name, and with 106 if the
+/// name is one of those.
 pub fn unique_name(
     alloc: Global,
     path: &DocumentPath<'_>,
@@ -101,8 +102,9 @@ pub fn unique_name(
     )
 }
 
-/// An object's member `name`, which differs from those of earlier entries: 103 at the object where it isn't there, 104
-/// for no text, `wrong` for a text that is no name, `twice` for one of those.
+/// Reads the member `name` of an object, which differs from those of earlier entries. Fails with 103 at the object if
+/// it is missing, with 104 if it is no text, with `wrong` if the text is no name, and with `twice` if the name is one
+/// of those.
 pub fn name_member_by(
     alloc: Global,
     path: &DocumentPath<'_>,
@@ -128,7 +130,7 @@ pub fn name_member_by(
     }
 }
 
-/// An entry's member `name`, which differs from those of earlier entries.
+/// Reads the member `name` of an entry, which differs from those of earlier entries.
 pub fn name_member(
     alloc: Global,
     path: &DocumentPath<'_>,
@@ -160,7 +162,7 @@ impl Named for Name {
     }
 }
 
-/// A name that differs from those before it, in a list of names.
+/// Reads a name that differs from those before it in a list of names.
 impl Entry for NameReader {
     type Read = Name;
 
@@ -180,7 +182,7 @@ impl Entry for NameReader {
     }
 }
 
-/// The names of a list's entries: behind a box, so that a function that holds them lets them go by one call.
+/// The names of a list's entries, in a box, so that a function that holds them drops them by one call.
 #[derive(Drop)]
 pub struct EntryNames {
     names: Box<Names>,
@@ -195,7 +197,7 @@ impl Model for EntryNames {
 }
 
 impl EntryNames {
-    /// These names.
+    /// Returns these names.
     fn new(alloc: Global, names: Names) -> Result<EntryNames, AllocError>
         ensures { IfOk result (λ kept. kept ≡ names) }
     {
@@ -204,7 +206,7 @@ impl EntryNames {
         })
     }
 
-    /// The names.
+    /// Returns the names.
     pub fn get(&self) -> &Names
         ensures { result.now ≡ self.now }
     {
@@ -212,7 +214,7 @@ impl EntryNames {
     }
 }
 
-/// A list's entries in order, with their names, which differ.
+/// A list's entries in order, with their names, which are distinct.
 #[derive(Drop)]
 pub struct Entries<T> {
     /// The entries.
@@ -221,7 +223,7 @@ pub struct Entries<T> {
     pub names: EntryNames,
 }
 
-/// What the entries of the list at the path mean, in order.
+/// Returns the meanings of the entries of the list at the path, in order.
 fn entries_of<T: Entry>(
     alloc: Global,
     path: &DocumentPath<'_>,
@@ -244,8 +246,8 @@ fn entries_of<T: Entry>(
     })
 }
 
-/// A member that is a list of `least` to `most` entries whose names differ. Where it may be empty it may be
-/// left out; else 103 at the object.
+/// Reads a member that is a list of `least` to `most` entries with distinct names. If the list may be empty, the member
+/// may be missing; otherwise a missing member is refused with 103 at the object.
 pub fn named_member<T: Entry>(
     alloc: Global,
     path: &DocumentPath<'_>,
@@ -263,7 +265,7 @@ pub fn named_member<T: Entry>(
     entries_of::<T>(alloc, &DocumentPath::Member(path, name), items)
 }
 
-/// A member that is a list of entries as [`named_member`] reads it, without their names.
+/// Reads a member that is a list of entries like [`named_member`], without their names.
 pub fn entries_member<T: Entry>(
     alloc: Global,
     path: &DocumentPath<'_>,

@@ -1,9 +1,9 @@
-//! Reading a JSON document by one walk.
+//! Reading of a JSON document by one walk.
 //!
-//! A document is walked depth first: at each value its kind, at a list its length, at an object the
-//! members that may not be there and then the others in the order of the table that defines it. All
-//! faults are listed in that order by definitions that a YANG module can be laid beside; a reader
-//! answers the first of them, at its JSON Pointer (RFC 6901), or the value that the document means.
+//! A document is walked depth first: at each value its kind, at a list its length, at an object first the members that
+//! aren't allowed and then the others in the order of the table that defines it. Definitions that can be compared with
+//! a YANG module list all faults in that order. A reader returns the first of them, at its JSON Pointer (RFC 6901), or
+//! the value that the document means.
 #![tactic(auto)]
 
 mod choice;

@@ -12,7 +12,8 @@ use fx_base::{Fault, refusals};
 use serde_json::Value;
 use std::alloc::Global;
 
-/// The items of a list: 104 for another kind of value, `many` for more than `most`, `few` for fewer than `least`.
+/// Returns the items of a list. Fails with 104 if the value is of another kind, with `many` if there are more than
+/// `most`, and with `few` if there are fewer than `least`.
 pub fn items_by<'v>(
     alloc: Global,
     path: &DocumentPath<'_>,
@@ -36,7 +37,8 @@ pub fn items_by<'v>(
     Ok(items.as_slice())
 }
 
-/// The items of a list: 104 for another kind of value, 115 for more than `most`, 103 for fewer than `least`.
+/// Returns the items of a list. Fails with 104 if the value is of another kind, with 115 if there are more than `most`,
+/// and with 103 if there are fewer than `least`.
 pub fn items_in<'v>(
     alloc: Global,
     path: &DocumentPath<'_>,
@@ -57,8 +59,8 @@ pub fn items_in<'v>(
     )
 }
 
-/// The items of a member that is a list of `least` to `most` items. Where it may be empty it may be left out, and has
-/// none; else 103 at the object.
+/// Returns the items of a member that is a list of `least` to `most` items. If the list may be empty, the member may be
+/// missing and has no items; otherwise a missing member is refused with 103 at the object.
 pub fn member_items<'v>(
     alloc: Global,
     path: &DocumentPath<'_>,
@@ -76,7 +78,7 @@ pub fn member_items<'v>(
     }
 }
 
-/// What the items of the list at the path mean, in order.
+/// Returns the meanings of the items of the list at the path, in order.
 fn values_of<T: FromValue>(
     alloc: Global,
     path: &DocumentPath<'_>,
@@ -94,8 +96,8 @@ fn values_of<T: FromValue>(
     Ok(Sequence::from_vec(values))
 }
 
-/// A member that is a list of `least` to `most` items. Where it may be empty it may be left out; else 103
-/// at the object.
+/// Reads a member that is a list of `least` to `most` items. If the list may be empty, the member may be missing;
+/// otherwise a missing member is refused with 103 at the object.
 pub fn items_member<T: FromValue>(
     alloc: Global,
     path: &DocumentPath<'_>,

@@ -11,21 +11,21 @@ use fx_base::{Fault, refusals};
 use serde_json::Value;
 use std::alloc::Global;
 
-/// What reads a value of a document.
+/// A reader of a value of a document.
 ///
-/// A public type has a reader beside it. An impl of the type itself would go with the type to each library that holds
+/// A public type has a separate reader. An impl of the type itself would go with the type to each library that holds
 /// such values, and so would JSON's values and all that they are made of.
 pub trait FromValue {
-    /// What a value is read as.
+    /// The type that a value is read as.
     type Read: Drop;
 
     /// The faults of a value at a pointer, in the order of the walk.
     ghost faults: { List ℕ → Data → List FoundFault };
 
-    /// What a value without a fault means.
+    /// The meaning of a value without faults.
     ghost meaning: { Data → Self.Read };
 
-    /// Reads the value that stands at the path, or answers its first fault.
+    /// Reads the value at the path. Fails with its first fault.
     fn from_value(
         alloc: Global,
         path: &DocumentPath<'_>,
@@ -35,7 +35,7 @@ pub trait FromValue {
             result };
 }
 
-/// A member that an object must have: 103 at the object where it isn't there.
+/// Reads a required member of an object. Fails with 103 at the object if it is missing.
 pub fn required_member<T: FromValue>(
     alloc: Global,
     path: &DocumentPath<'_>,
@@ -51,7 +51,7 @@ pub fn required_member<T: FromValue>(
     }
 }
 
-/// A member that an object may have.
+/// Reads an optional member of an object.
 pub fn optional_member<T: FromValue>(
     alloc: Global,
     path: &DocumentPath<'_>,

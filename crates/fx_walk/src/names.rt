@@ -1,4 +1,4 @@
-//! Names that are looked up at once.
+//! Names with fast look-up.
 ghost use Rattle.std.specs.Prelude.{◌≡◌, ◌∷◌, ◌++◌, [], List, ℕ, not, false, if◌then◌else◌, OnOk, OnErr, IfOk, IfErr};
 ghost use Rattle.fx_base.specs.Fault.{IsMemory};
 ghost use Rattle.fx_walk.specs.Lists.{is_among, place_in};
@@ -8,16 +8,16 @@ use std::alloc::{AllocError, Global};
 use std::collections::BTreeMap;
 use std::marker::Model;
 
-/// Names that differ from one another, in the order in which they came. Contracts see the list of them.
+/// Distinct names, in the order in which they were added. In contracts, they are a list.
 pub struct Names {
-    // What contracts see; names are looked up in the map alone.
+    // The list that contracts see; look-ups use the map only.
     texts: Vec<String>,
     places: BTreeMap<String, usize>,
     alloc: Global,
 }
 
 impl Drop for Names {
-    /// Lets its parts go: proved once, and one call wherever one is let go.
+    /// Drops its parts here, so that each drop elsewhere is one call.
     fn drop(self) {
         let Self {
             texts: _,
@@ -39,7 +39,7 @@ impl Model for Names {
 }
 
 impl Names {
-    /// No names.
+    /// Returns no names.
     pub fn new(alloc: Global) -> Names
         ensures { result ≡ [] }
     {
@@ -50,23 +50,23 @@ impl Names {
         }
     }
 
-    /// Whether the name is one of these.
+    /// Returns whether the name is one of these.
     pub fn contains(&self, name: &Name) -> bool
         ensures { result ≡ is_among self.now name.now }
     {
         self.places.contains_key(name.as_str())
     }
 
-    /// The place of the name among these, from 0.
+    /// Returns the 0-based index of the name among these.
     pub fn place_of(&self, name: &Name) -> Option<usize>
         ensures { result ≡ place_in self.now name.now }
     {
         self.places.get(name.as_str()).copied()
     }
 
-    /// Puts the name behind these and answers true, or answers false where it is one of them.
+    /// Appends the name and returns true, or returns false if it is one of these already.
     ///
-    /// Fails with 900, at no place, for want of memory.
+    /// Fails with 900, at no place, if out of memory.
     pub fn add(&mut self, name: &Name) -> Result<bool, Fault>
         ensures answer { IfOk result (λ new. new ≡ not (is_among self.old name.now)) }
         ensures err { IfErr result IsMemory }
@@ -81,7 +81,7 @@ impl Names {
         Ok(true)
     }
 
-    /// Puts the name, which is none of these, behind them.
+    /// Appends the name, which is not yet one of these.
     fn push(&mut self, name: &Name) -> Result<(), AllocError>
         requires { is_among self.old name.now ≡ false }
         ensures names { OnOk result (self.new ≡ self.old ++ name.now ∷ []) }

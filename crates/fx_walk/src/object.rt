@@ -34,8 +34,8 @@ fn first_other<'v>(members: &'v Map<String, Value>, listed: &[&str]) -> Option<&
         .find(|name| !is_listed(listed, name.as_str()))
 }
 
-/// Refuses a value that is no object (104), and an object with a member that isn't listed (102 at the first
-/// of them in byte order).
+/// Refuses a value that is no object (104), and an object with a member that isn't listed (102 at the first such member
+/// in byte order).
 pub fn object_of(
     alloc: Global,
     path: &DocumentPath<'_>,
@@ -80,8 +80,8 @@ fn first_refused<'v>(
         || is_foreign(home, name.as_str())))
 }
 
-/// An object as [`object_of`] reads it, but members with the prefix of another module than this one are left unread
-/// (RFC 7951, section 4).
+/// Reads an object like [`object_of`], but leaves members with the prefix of a module other than this one unread (RFC
+/// 7951, section 4).
 pub fn document_of(
     alloc: Global,
     path: &DocumentPath<'_>,

@@ -1,4 +1,4 @@
-//! Where a value stands in a document.
+//! Positions of values in a document.
 ghost use Rattle.fx_walk.specs.Pointer.{below, escaped_char, escaped_name, pointer};
 ghost use Rattle.fx_walk.specs.Walk.{Refuses};
 ghost use Rattle.fx_base.specs.Fault.{fault_at};
@@ -8,14 +8,14 @@ ghost use Rattle.std.specs.Prelude.{◌≡◌, ◌∷◌, [], ◌++◌, ◌==◌
 use fx_base::{Fault, Place};
 use std::alloc::{AllocError, Global};
 
-/// Where a value stands: at the root, or below another value.
+/// The position of a value: the root, or below another value.
 #[derive(Clone, Copy)]
 pub enum DocumentPath<'a> {
     /// The whole document.
     Root,
-    /// An object's member of this name.
+    /// The member of an object with this name.
     Member(&'a DocumentPath<'a>, &'a str),
-    /// A list's item at this place, counted from 0.
+    /// The item of a list at this 0-based index.
     Item(&'a DocumentPath<'a>, usize),
 }
 
@@ -48,7 +48,7 @@ fn push_member(out: &mut String, name: &str) -> Result<(), AllocError>
     push_escaped(out, name)
 }
 
-/// Writes the pointer to where the path leads.
+/// Writes the pointer to the position that the path describes.
 fn push_pointer(out: &mut String, path: &DocumentPath<'_>) -> Result<(), AllocError>
     ensures { OnOk result (string_bytes out.new ≡ string_bytes out.old ++ pointer path.now) }
 {
@@ -73,7 +73,7 @@ fn pointer_text(alloc: Global, path: &DocumentPath<'_>) -> Result<String, AllocE
     Ok(text)
 }
 
-/// A refusal with this number at the path, or want of memory (900) for its pointer.
+/// Returns a refusal with this number at the path, or with 900 if out of memory for its pointer.
 pub fn refusal(alloc: Global, number: u16, path: &DocumentPath<'_>) -> Fault
     ensures { Refuses result ((number, pointer path.now) ∷ []) }
 {

@@ -14,12 +14,12 @@ use crate::sequence::Sequence;
 use fx_base::{Fault, Name, refusals};
 use std::alloc::Global;
 
-/// What refers to things by their names.
+/// A thing that refers to other things by their names.
 pub trait Refers {
-    /// The faults of one at a pointer, where these are the names of all things that it may refer to.
+    /// The faults of such a thing at a pointer, given the names of all things that it may refer to.
     ghost faults: { List (List ℕ) → List ℕ → Self → List FoundFault };
 
-    /// Refuses the first name in the one at the path that is none of these (107).
+    /// Refuses the first name in the thing at the path that is not a known one (107).
     fn refers(&self, alloc: Global, path: &DocumentPath<'_>, known: &Names) -> Result<(), Fault>
         ensures { Reads (faults known.now (pointer path.now) self.now) tt result };
 }
@@ -36,7 +36,7 @@ impl Refers for Name {
     }
 }
 
-/// Refuses the first name in an item of the list at the path that is none of these (107).
+/// Refuses the first name in an item of the list at the path that is not a known one (107).
 fn each_refers<T: Refers>(
     alloc: Global,
     path: &DocumentPath<'_>,
@@ -53,7 +53,7 @@ fn each_refers<T: Refers>(
     Ok(())
 }
 
-/// Refuses the first name in an item of the list `name`, a member of the object at the path, that is none of these
+/// Refuses the first name in an item of the list `name`, a member of the object at the path, that is not a known one
 /// (107).
 pub fn items_refer<T: Refers>(
     alloc: Global,
@@ -73,7 +73,7 @@ pub fn items_refer<T: Refers>(
     )
 }
 
-/// Whether an entry has the name.
+/// Returns whether an entry has the name.
 pub fn is_named<T: Named>(entries: &[T], name: &Name) -> bool
     ensures { result ≡ is_among (map T.name entries.now) name.now }
 {
@@ -89,7 +89,7 @@ fn position_of<T: Named>(named: &[T], name: &Name) -> Option<usize>
     named.iter().position(|one| one.name() == name)
 }
 
-/// The place, counted from 0, of the first of these that has the name.
+/// Returns the 0-based index of the first of these that has the name.
 pub fn place_of<T: Named>(named: &[T], name: &Name) -> Option<usize>
     ensures { result ≡ place_in (map T.name named.now) name.now }
 {

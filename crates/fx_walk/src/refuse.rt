@@ -1,4 +1,4 @@
-//! Refusals where a test fails.
+//! Refusals on failed tests.
 ghost use Rattle.fx_walk.specs.Pointer.{pointer};
 ghost use Rattle.fx_walk.specs.Walk.{Reads, fault_if};
 
@@ -6,7 +6,7 @@ use crate::path::{DocumentPath, refusal};
 use fx_base::Fault;
 use std::alloc::Global;
 
-/// Refuses with this number at the path where something fails.
+/// Refuses with this number at the path if the condition is true.
 pub fn refuse_if(
     alloc: Global,
     path: &DocumentPath<'_>,

@@ -1,4 +1,4 @@
-//! Lists that may be empty but must be there.
+//! Lists that may be empty but are required.
 ghost use Rattle.std.specs.Prelude.{◌≡◌, ℕ, List, [], ◌∷◌, map};
 ghost use Rattle.serde_json.specs.View.{view};
 ghost use Rattle.fx_walk.specs.Pointer.{pointer};
@@ -15,7 +15,7 @@ use fx_base::{Fault, refusals};
 use serde_json::Value;
 use std::alloc::Global;
 
-/// A member that is a list of at most `most` items: 103 at the object where it isn't there.
+/// Reads a required member that is a list of at most `most` items. Fails with 103 at the object if it is missing.
 pub fn required_items<T: FromValue>(
     alloc: Global,
     path: &DocumentPath<'_>,
@@ -33,7 +33,8 @@ pub fn required_items<T: FromValue>(
     }
 }
 
-/// A member that is a list of at most `most` entries whose names differ: 103 at the object where it isn't there.
+/// Reads a required member that is a list of at most `most` entries with distinct names. Fails with 103 at the object
+/// if it is missing.
 pub fn required_entries<T: Entry>(
     alloc: Global,
     path: &DocumentPath<'_>,

@@ -15,7 +15,7 @@ use serde_json::Value;
 use std::alloc::Global;
 use std::marker::Model;
 
-/// A name: 104 for no text, and this number for a text that is no name.
+/// Reads a name. Fails with 104 if the value is no text, and with the given number if the text is no name.
 pub fn read_name(
     alloc: Global,
     path: &DocumentPath<'_>,
@@ -35,10 +35,11 @@ pub fn read_name(
     }
 }
 
-/// What reads names.
+/// A reader of names.
 pub struct NameReader;
 
-/// A name (`name-type` of the module): 104 for no text, 105 for a text that is no name.
+/// Reads a name (`name-type` of the module). Fails with 104 if the value is no text, and with 105 if the text is no
+/// name.
 impl FromValue for NameReader {
     type Read = Name;
 
@@ -51,7 +52,7 @@ impl FromValue for NameReader {
     }
 }
 
-/// A text of any form: 104 for another kind of value.
+/// A text of any form; 104 if the value is of another kind.
 #[derive(Debug, Drop)]
 pub struct Text {
     text: String,
@@ -66,7 +67,7 @@ impl Model for Text {
 }
 
 impl Text {
-    /// The text.
+    /// Returns the text.
     pub fn as_str(&self) -> &str
         ensures { result.now ≡ self.now }
     {
@@ -91,8 +92,8 @@ impl FromValue for Text {
     }
 }
 
-/// A whole number from `LOW` to `HIGH`: 104 for no number, 105 for one with a fraction or an exponent, or out
-/// of range.
+/// A whole number from `LOW` to `HIGH`; 104 if the value is no number, 105 if it has a fraction or an exponent, or is
+/// out of range.
 #[derive(Drop)]
 pub struct Whole<const LOW: u32, const HIGH: u32> {
     number: u32,
@@ -109,7 +110,7 @@ impl<const LOW: u32, const HIGH: u32> Model for Whole<LOW, HIGH> {
 }
 
 impl<const LOW: u32, const HIGH: u32> Whole<LOW, HIGH> {
-    /// The number.
+    /// Returns the number.
     pub fn number(&self) -> u32
         ensures value { result ≡ self.now }
         ensures low { LOW ≤ result }
@@ -142,7 +143,7 @@ impl<const LOW: u32, const HIGH: u32> FromValue for Whole<LOW, HIGH> {
     }
 }
 
-/// A member of an empty type, which is there or isn't: `[null]` (RFC 7951, section 6.9) or `true`; 104 for any
+/// A member of an empty type, which is present or not: `[null]` (RFC 7951, section 6.9) or `true`; 104 if it has any
 /// other value.
 #[derive(Clone, Copy, Debug, PartialEq, Eq)]
 pub struct Empty;
@@ -156,7 +157,7 @@ fn is_one_null(items: &[Value]) -> bool
     }
 }
 
-/// Whether the value is one of an empty type: `[null]` or `true`.
+/// Returns whether the value is one of an empty type: `[null]` or `true`.
 pub fn is_empty_type(value: &Value) -> bool
     ensures { result ≡ is_empty_type (view value.now) }
 {

@@ -3,7 +3,7 @@ ghost use Rattle.std.specs.Prelude.{◌≡◌, List, length};
 
 use std::marker::Model;
 
-/// The values of a list in document order. Contracts see it as the list of its values.
+/// The values of a list in document order. In contracts, it is the list of its values.
 #[derive(Debug, Drop)]
 pub struct Sequence<T> {
     values: Vec<T>,
@@ -18,14 +18,14 @@ impl<T> Model for Sequence<T> {
 }
 
 impl<T> Sequence<T> {
-    /// The values of a vector, which takes no memory.
+    /// Returns the values of a vector, without allocating.
     pub fn from_vec(values: Vec<T>) -> Sequence<T>
         ensures { result ≡ values.items }
     {
         Sequence { values }
     }
 
-    /// The vector of its values, which takes no memory.
+    /// Returns the vector of its values, without allocating.
     pub fn into_vec(self) -> Vec<T>
         ensures { result.items ≡ self }
     {
@@ -33,7 +33,7 @@ impl<T> Sequence<T> {
         values
     }
 
-    /// Its values.
+    /// Returns its values.
     pub fn as_slice(&self) -> &[T]
         ensures { result.now ≡ self.now }
     {

@@ -11,24 +11,24 @@ use fx_base::{Fault, refusals};
 use serde_json::Value;
 use std::alloc::Global;
 
-/// What is written as one of a few words.
+/// A type whose values are written as one of a few words.
 pub trait Word: Drop {
-    /// What a text stands for.
+    /// The meaning of a text.
     ghost meaning_of: { List ℕ → Option Self };
 
-    /// What is meant where no word is given.
+    /// The meaning if no word is given.
     ghost meaning_unsaid: { Self };
 
-    /// What the text stands for.
+    /// Returns the meaning of the text.
     fn meaning_of(text: &str) -> Option<Self>
         ensures { result ≡ meaning_of text.now };
 
-    /// What is meant where no word is given.
+    /// Returns the meaning if no word is given.
     fn meaning_unsaid() -> Self
         ensures { result ≡ meaning_unsaid };
 }
 
-/// What a word stands for: 104 for no text, 105 for another text.
+/// Returns the meaning of a word. Fails with 104 if the value is no text, and with 105 if it is another text.
 fn read_word<T: Word>(alloc: Global, path: &DocumentPath<'_>, value: &Value) -> Result<T, Fault>
     ensures { let meaning = meaning_of_word T.meaning_of T.meaning_unsaid (view value.now) in
         Reads (word_faults T.meaning_of (pointer path.now) (view value.now)) meaning result }
@@ -42,7 +42,7 @@ fn read_word<T: Word>(alloc: Global, path: &DocumentPath<'_>, value: &Value) -> 
     }
 }
 
-/// A member that is a word, and that an object may have.
+/// Reads an optional member of an object that is a word.
 pub fn word_member<T: Word>(
     alloc: Global,
     path: &DocumentPath<'_>,
