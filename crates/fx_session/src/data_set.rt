@@ -14,9 +14,9 @@ use crate::template::Template;
 use fx_layout::Values;
 use fx_wire::cut_record;
 
-/// The data record at the front is read field by field and taken; answers the octets behind it.
+/// Reads the data record at the front field by field and takes it; returns the octets after it.
 ///
-/// Fails where it is cut, where a prefix that is read is longer than the address, and for want of memory; nothing is
+/// Fails if the record is cut, if a prefix that is read is longer than the address, or if out of memory; nothing is
 /// taken then.
 fn take_by_fields<'a>(
     template: &Template,
@@ -35,9 +35,9 @@ fn take_by_fields<'a>(
     Ok(rest)
 }
 
-/// The data record at the front is taken; answers the octets behind it.
+/// Takes the data record at the front; returns the octets after it.
 ///
-/// Fails where it is cut, where a prefix that is read is longer than the address, and for want of memory; nothing is
+/// Fails if the record is cut, if a prefix that is read is longer than the address, or if out of memory; nothing is
 /// taken then.
 fn take_flow<'a>(
     template: &Template,
@@ -59,9 +59,9 @@ fn take_flow<'a>(
     take_by_fields(template, seen, last, taken, octets)
 }
 
-/// The data records of a set under a template are taken.
+/// Takes the data records of a set under a template.
 ///
-/// Fails as the first record that does.
+/// Fails with the fault of the first record that is refused.
 pub(crate) fn take_flows(
     template: &Template,
     taken: &mut Taken,
@@ -81,9 +81,9 @@ pub(crate) fn take_flows(
     Ok(())
 }
 
-/// The data records of a set under an options template are counted.
+/// Counts the data records of a set under an options template.
 ///
-/// Fails where one is cut.
+/// Fails if one is cut.
 pub(crate) fn pass_records(
     template: &Template,
     taken: &mut Taken,

@@ -7,14 +7,14 @@ use crate::templates::Templates;
 use std::alloc::{AllocError, Global};
 use std::collections::BTreeMap;
 
-/// An observation domain: its templates, and the sequence number that comes next, if it had a message.
+/// An observation domain: its templates, and the next expected sequence number, if the domain had a message.
 #[derive(Drop)]
 pub(crate) struct Domain {
     pub templates: Templates,
     pub next: Option<u32>,
 }
 
-/// The domain of this number leaves; a new one where there is none.
+/// Removes and returns the domain of this number; returns a new one if there is none.
 pub(crate) fn take_domain(alloc: Global, domains: &mut BTreeMap<u32, Domain>, number: u32) -> Domain
     ensures value { result ≡ messages.domain_of (templates.at_number domains.old.entries number) }
     ensures entries { domains.new.entries ≡ templates.without_entry domains.old.entries number }
@@ -28,7 +28,7 @@ pub(crate) fn take_domain(alloc: Global, domains: &mut BTreeMap<u32, Domain>, nu
     }
 }
 
-/// A domain comes to its place.
+/// Inserts a domain under its number. Fails if out of memory.
 pub(crate) fn put_domain(
     domains: &mut BTreeMap<u32, Domain>,
     number: u32,

@@ -12,9 +12,9 @@ use fx_boxes::Fields;
 use fx_elements::{AXES, Axis, EVERY_AXIS, width};
 use fx_tables::Record;
 
-/// What is known on the axis: its value, or what a prefix of it tells.
+/// Returns what is known on the axis: its value, or what a prefix of it gives.
 ///
-/// Fails where a prefix that is read is longer than the address.
+/// Fails if a prefix that is read is longer than the address.
 fn noted_part(axis: Axis, seen: &Seen) -> Result<Option<Leading>, StreamFault>
     ensures part { result ≡ values.noted_part seen.now axis }
     ensures stands { parts.PartStands axis result }
@@ -32,9 +32,9 @@ fn noted_part(axis: Axis, seen: &Seen) -> Result<Option<Leading>, StreamFault>
     }
 }
 
-/// What is known on each axis is written down: how many leading bits, 0 where nothing is, and the value.
+/// Writes what is known on each axis to the arrays: the number of leading bits, 0 if nothing is known, and the value.
 ///
-/// Fails where a prefix that is read is longer than the address.
+/// Fails if a prefix that is read is longer than the address.
 fn gather(
     seen: &Seen,
     bits: &mut [u32; AXES],
@@ -51,9 +51,9 @@ fn gather(
     Ok(())
 }
 
-/// The flow record of a data record of which this is noted, None without both counters.
+/// Returns the flow record of a data record whose numbers are noted in `seen`; `None` if it lacks a counter.
 ///
-/// Fails where a prefix that is read is longer than the address.
+/// Fails if a prefix that is read is longer than the address.
 #[tactic(auto, unfolding(crate::specs::Flows::flow_in))]
 pub(crate) fn flow_of(last: &mut LastLayout, seen: &Seen) -> Result<Option<Record>, StreamFault>
     ensures { (vs : values.Values) → values.Notes seen.now vs → result ≡ flows.flow_in vs }

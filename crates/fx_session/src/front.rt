@@ -1,7 +1,7 @@
-//! Octets that were read leave a buffer.
+//! Removal of octets that were read from a buffer.
 ghost use Rattle.std.specs.Prelude.{◌≡◌, ◌≤◌, length, drop};
 
-/// Drops this many octets at the front of a buffer; those behind them move up, and no memory is given back.
+/// Removes the first `count` octets of a buffer. Those after them move to the front, and no memory is released.
 pub fn remove_front(octets: &mut Vec<u8>, count: usize)
     requires { count ≤ length octets.old.items }
     ensures { octets.new.items ≡ drop count octets.old.items }

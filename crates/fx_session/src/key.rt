@@ -12,16 +12,16 @@ use fx_elements::{AXES, Axis, EVERY_AXIS, top, width};
 use fx_layout::{Key, Layout};
 use std::marker::Model;
 
-/// What is known of the value on an axis: how many of its leading bits, and a value that has them.
+/// What is known of the value on an axis: the number of its known leading bits, and a value that has these bits.
 #[derive(Clone, Copy)]
 pub(crate) struct Leading {
     pub bits: u32,
     pub value: u128,
 }
 
-/// What is known of an address by a prefix and its length.
+/// Returns what is known of an address from a prefix and its length in bits.
 ///
-/// Fails where the prefix is longer than the address.
+/// Fails if the prefix is longer than the address.
 pub(crate) fn prefix_part(
     axis: Axis,
     prefix: Option<u128>,
@@ -45,7 +45,7 @@ pub(crate) fn prefix_part(
     }))
 }
 
-/// The value on an axis, 0 where none is known.
+/// Returns the value on an axis, 0 if none is known.
 pub(crate) fn value_of(axis: Axis, found: Option<Leading>) -> u128
     ensures value { result ≡ flows.value_of axis found }
     ensures bound { result ≤ slice_index tops (axis_index axis) }
@@ -58,7 +58,7 @@ pub(crate) fn value_of(axis: Axis, found: Option<Leading>) -> u128
     }
 }
 
-/// How many leading bits are known on an axis, 0 where none is.
+/// Returns how many leading bits are known on an axis, 0 if none are.
 pub(crate) fn bits_of(found: &Option<Leading>) -> u32
     ensures { result ≡ parts.bits_of found.now }
 {
@@ -68,7 +68,7 @@ pub(crate) fn bits_of(found: &Option<Leading>) -> u32
     }
 }
 
-/// The layout and so many leading bits of a later axis, no part where there are none.
+/// Returns the layout with the given number of leading bits of a later axis added; adds no part if there are none.
 fn add_part(layout: &Layout, axis: Axis, bits: u32) -> Layout
     requires later { parts.AllBefore layout.now (axis_index axis) }
     requires stands { parts.BitsStand axis bits }
@@ -84,7 +84,7 @@ fn add_part(layout: &Layout, axis: Axis, bits: u32) -> Layout
     }
 }
 
-/// The layout with so many leading bits on each axis.
+/// Returns the layout with the given number of leading bits on each axis.
 pub(crate) fn layout_of(bits: &[u32; AXES]) -> Layout
     requires { parts.AllStand bits.now }
     ensures { result ≡ parts.layout_by bits.now }
@@ -96,7 +96,7 @@ pub(crate) fn layout_of(bits: &[u32; AXES]) -> Layout
     layout
 }
 
-/// The layout of the last key that was made, seen as its bits on each axis: the next record under a template mostly has
+/// The layout of the last key that was made, with its bits on each axis: the next record under a template mostly has
 /// the same one.
 #[derive(Drop)]
 pub(crate) struct LastLayout {
@@ -116,7 +116,7 @@ impl Model for LastLayout {
 }
 
 impl LastLayout {
-    /// The layout without parts.
+    /// Returns the layout without parts.
     pub fn new() -> LastLayout
         ensures { result ≡ map (λ axis. 0) every.axes }
     {
@@ -126,7 +126,7 @@ impl LastLayout {
         }
     }
 
-    /// The key of these fields with so many leading bits on each axis.
+    /// Returns the key of these fields with the given number of leading bits on each axis.
     pub fn key_of(&mut self, bits: &[u32; AXES], fields: &Fields) -> Key
         requires { parts.AllStand bits.now }
         ensures { result ≡ keys.key_of (parts.layout_by bits.now) fields.now }

@@ -1,4 +1,4 @@
-//! What a session knows.
+//! The state of a session between messages.
 ghost use Rattle.std.specs.Prelude.{◌≡◌, ◌≢◌, ◌+◌, ◌++◌, ◌%◌, ◌^◌, [], ◌∷◌, Ok, Err, OnErr, Some, None};
 ghost use Rattle.fx_session.specs.Calls.{Does, Grows};
 ghost use Rattle.fx_session.specs.Messages as messages;
@@ -15,8 +15,8 @@ use std::alloc::Global;
 use std::collections::BTreeMap;
 use std::marker::Model;
 
-/// What a session knows: its domains, the records that wait, and the numbers of gaps and of skipped records, modulo
-/// 2 to the 64.
+/// What a session knows: its domains, the waiting records, and the numbers of gaps and of skipped records, modulo 2 to
+/// the 64.
 #[derive(Drop)]
 pub(crate) struct Known {
     domains: BTreeMap<u32, Domain>,
@@ -55,9 +55,9 @@ fn gaps_after<W: SessionWatch>(gaps: u64, next: Option<u32>, sequence: u32, watc
     }
 }
 
-/// A message is read: its domain, what is taken and the number of gaps change.
+/// Reads a message: its domain, the taken records and the number of gaps change.
 ///
-/// Fails as the first set that does, and if out of memory.
+/// Fails with the fault of the first set that is refused, or if out of memory.
 #[tactic(auto, unfolding(crate::specs::Messages::message_read))]
 fn read_message<W: SessionWatch>(
     alloc: Global,
@@ -101,7 +101,7 @@ fn read_message<W: SessionWatch>(
 }
 
 impl Known {
-    /// Nothing is known.
+    /// Creates a state that knows nothing.
     pub fn new(alloc: Global) -> Known
         ensures { result ≡ record { domains = []; waiting = []; gaps = 0; skipped = 0 } }
     {
@@ -112,16 +112,16 @@ impl Known {
         }
     }
 
-    /// All domains are forgotten.
+    /// Forgets all domains.
     pub fn forget(&mut self)
         ensures { self.new ≡ messages.without_domains self.old }
     {
         self.domains.clear();
     }
 
-    /// A message is read. Where it is refused nothing of it stays, and all domains are forgotten.
+    /// Reads a message. If it is refused, nothing of it is kept and all domains are forgotten.
     ///
-    /// Fails as its first set that does, and if out of memory.
+    /// Fails with the fault of its first set that is refused, or if out of memory.
     pub fn take_message<W: SessionWatch>(
         &mut self,
         alloc: Global,
@@ -150,35 +150,35 @@ impl Known {
         }
     }
 
-    /// The first record that waits leaves.
+    /// Removes and returns the first waiting record, if there is one.
     pub fn next_record(&mut self) -> Option<Record>
         ensures { streams.FirstLeaves self.old self.new result }
     {
         self.taken.next()
     }
 
-    /// The records that wait, in order: those of the first slice, and then those of the second.
+    /// Returns the waiting records, in order: those of the first slice, then those of the second.
     pub fn records(&self) -> (&[Record], &[Record])
         ensures { self.now.waiting ≡ result.0.now ++ result.1.now }
     {
         self.taken.records()
     }
 
-    /// Removes all records that wait.
+    /// Removes all waiting records.
     pub fn clear_records(&mut self)
         ensures { self.new ≡ streams.known_without_waiting self.old }
     {
         self.taken.clear();
     }
 
-    /// The number of gaps, modulo 2 to the 64.
+    /// Returns the number of gaps, modulo 2 to the 64.
     pub fn gaps(&self) -> u64
         ensures { result ≡ self.now.gaps }
     {
         self.gaps
     }
 
-    /// The number of skipped records, modulo 2 to the 64.
+    /// Returns the number of skipped records, modulo 2 to the 64.
     pub fn skipped(&self) -> u64
         ensures { result ≡ self.now.skipped }
     {

@@ -1,4 +1,4 @@
-//! What the definitions of sets and streams keep.
+//! Laws of the definitions of sets and streams.
 ghost use Rattle.std.specs.Prelude.{◌≡◌, ◌≤◌, ◌↔◌, ℕ, List, Result};
 ghost use Rattle.fx_wire.specs.Values as values;
 ghost use Rattle.fx_wire.specs.declared.field.FieldSpecifier as of_field;
@@ -11,8 +11,8 @@ ghost use Rattle.fx_session.specs.TemplateSets as template_sets;
 ghost use Rattle.fx_session.specs.Templates as of_templates;
 ghost use Rattle.fx_session.specs.declared.stream_fault.StreamFault as of_fault;
 
-/// The records of sets and the messages of streams are those that the cases say, and no others: that functions which
-/// count their turns define what is read changes nothing.
+/// States that the records of sets and the messages of streams are exactly those that the cases describe: defining them
+/// by functions that count their turns changes nothing.
 pub fn sets_by_cases()
     ensures flows { (fields : List of_field.FieldSpecifier) (taken : data_sets.Taken)
         (octets : List ℕ)

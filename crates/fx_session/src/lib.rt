@@ -1,4 +1,4 @@
-//! IPFIX streams read into flow records (RFC 7011), in whatever pieces they come.
+//! Reading of IPFIX streams into flow records (RFC 7011), in pieces of any size.
 #![tactic(auto)]
 
 mod data_set;

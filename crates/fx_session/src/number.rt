@@ -2,7 +2,7 @@
 ghost use Rattle.std.specs.Prelude.{◌≡◌};
 ghost use Rattle.fx_session.specs.Flows as flows;
 
-/// The number in the octets, the highest first; of more than 16 the last 16 count.
+/// Returns the number in the octets, most significant first; of more than 16 octets the last 16 count.
 #[tactic(auto, unfolding(crate::specs::Flows::number_in))]
 pub(crate) fn number_in(octets: &[u8]) -> u128
     ensures { result ≡ flows.number_in octets.now }
@@ -21,7 +21,7 @@ pub(crate) fn number_in(octets: &[u8]) -> u128
     }
 }
 
-/// The same, octet by octet.
+/// Computes [`number_in`] octet by octet.
 #[tactic(auto, unfolding(crate::specs::Flows::number_in))]
 fn number_by_octets(octets: &[u8]) -> u128
     ensures { result ≡ flows.number_in octets.now }

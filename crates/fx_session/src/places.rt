@@ -1,4 +1,4 @@
-//! Where the values of flows stand in the records of a template, worked out once for all of its records.
+//! Places of the values of flows in the records of a template, computed once for all of its records.
 ghost use Rattle.std.specs.Prelude.{◌≡◌, ◌≤◌, ◌<◌, ℕ, List, map, length, slice_index, slice_index_or, Some, IfSome};
 ghost use Rattle.std.specs.List.{list_any};
 ghost use Rattle.fx_elements.specs.declared.axis.Axis as of_axis;
@@ -17,18 +17,18 @@ use fx_layout::{Layout, Values, leading_bits};
 use fx_tables::Record;
 use fx_wire::{FieldSpecifier, VARIABLE};
 
-/// So many fields a template has at most whose records are read by their places. One with more is read field by field,
-/// so that it costs little to declare.
+/// The most fields of a template whose records are read by their places. Records with more fields are read field by
+/// field, so that a template costs little to declare.
 const MOST_FIELDS: usize = 64;
 
-/// Where a value stands in a record, from 0: its first octet, and the one behind its last.
+/// The place of a value in a record, 0-based: its first octet, and the one after its last.
 #[derive(Clone, Copy)]
 pub(crate) struct ValuePlace {
     pub start: usize,
     pub end: usize,
 }
 
-/// Where the values of flows stand in each record of a template, and the layout of their keys.
+/// The places of the values of flows in each record of a template, and the layout of their keys.
 #[derive(Drop)]
 pub(crate) struct RecordPlaces {
     pub values: [Option<ValuePlace>; AXES],
@@ -37,7 +37,7 @@ pub(crate) struct RecordPlaces {
     pub layout: Layout,
 }
 
-/// Whether an element is the one that is sought: a value on the same axis, or the same counter of flows.
+/// Returns whether an element is the sought one: a value on the same axis, or the same counter of flows.
 fn is_sought(sought: Element, element: Element) -> bool
     ensures { result ≡ placed.is_sought sought element }
 {
@@ -49,14 +49,14 @@ fn is_sought(sought: Element, element: Element) -> bool
     }
 }
 
-/// Whether no value tells its own length.
+/// Returns whether no field has a variable length.
 fn have_fixed_lengths(fields: &[FieldSpecifier]) -> bool
     ensures { result ≡ placed.have_fixed_lengths fields.now }
 {
     fields.iter().all(|field| field.field_length != VARIABLE)
 }
 
-/// Whether there is a prefix of an address among the elements.
+/// Returns whether there is a prefix of an address among the elements.
 fn have_prefix(elements: &[Element]) -> bool
     ensures { result ≡ list_any placed.is_any_prefix elements.now }
 {
@@ -65,7 +65,7 @@ fn have_prefix(elements: &[Element]) -> bool
         .any(|element| matches!(element, Element::Prefix(_)))
 }
 
-/// The place of the first field of the element that is sought.
+/// Returns the place of the first field of the sought element.
 fn place_of(fields: &[FieldSpecifier], elements: &[Element], sought: Element) -> Option<ValuePlace>
     requires few { length fields.now ≤ MOST_FIELDS }
     requires elements { elements.now ≡ map element_of fields.now }
@@ -82,7 +82,7 @@ fn place_of(fields: &[FieldSpecifier], elements: &[Element], sought: Element) ->
     None
 }
 
-/// The place of the value on each axis.
+/// Returns the place of the value on each axis.
 fn places_of(fields: &[FieldSpecifier], elements: &[Element]) -> [Option<ValuePlace>; AXES]
     requires few { length fields.now ≤ MOST_FIELDS }
     requires elements { elements.now ≡ map element_of fields.now }
@@ -96,7 +96,7 @@ fn places_of(fields: &[FieldSpecifier], elements: &[Element]) -> [Option<ValuePl
     places
 }
 
-/// How many bits the value on each axis has, 0 where none has a place.
+/// Returns how many bits the value on each axis has, 0 if it has no place.
 fn bits_of_places(places: &[Option<ValuePlace>; AXES]) -> [u32; AXES]
     ensures { (axis : of_axis.Axis) (octets : List ℕ) → slice_index result (axis_index axis)
         ≡ parts.bits_of (placed.found_at octets axis
@@ -112,7 +112,7 @@ fn bits_of_places(places: &[Option<ValuePlace>; AXES]) -> [u32; AXES]
     bits
 }
 
-/// The value on an axis that stands at a place, 0 where there is none.
+/// Returns the value on axis `k` (0-based) that is at a place, 0 if there is none.
 fn value_at(k: usize, place: Option<ValuePlace>, octets: &[u8]) -> u128
     requires axis { k < AXES }
     requires within { IfSome place (placed.IsPlaceIn (length octets.now)) }
@@ -131,8 +131,8 @@ fn value_at(k: usize, place: Option<ValuePlace>, octets: &[u8]) -> u128
 }
 
 impl RecordPlaces {
-    /// The places in the records of a template of these fields and their elements. There are none where a value tells
-    /// its own length, where a prefix is read, where a counter of flows is missing, or where there are more than 64
+    /// Returns the places in the records of a template of these fields and their elements. Returns `None` if a value
+    /// has a variable length, if a prefix is read, if a counter of flows is missing, or if there are more than 64
     /// fields: such records are read field by field.
     pub fn of(fields: &[FieldSpecifier], elements: &[Element]) -> Option<RecordPlaces>
         requires { elements.now ≡ map element_of fields.now }
@@ -153,7 +153,7 @@ impl RecordPlaces {
         })
     }
 
-    /// The values of a record's key take the place of the others.
+    /// Replaces `values` by the values of a record's key.
     fn read_values(&self, octets: &[u8], values: &mut Values)
         requires { placed.ArePlacesIn (length octets.now) self.now }
         ensures key { values.new ≡ (keys.key_of self.now.layout
@@ -168,8 +168,8 @@ impl RecordPlaces {
         }
     }
 
-    /// The flow record at the front of the octets takes the place of another. The values of its key are put together in
-    /// `values`, where those of the record before were.
+    /// Replaces `record` by the flow record at the front of the octets. The values of its key are assembled in
+    /// `values`, which held those of the previous record.
     pub fn read_record(&self, octets: &[u8], values: &mut Values, record: &mut Record)
         requires { placed.ArePlacesIn (length octets.now) self.now }
         ensures { record.new ≡ placed.record_by self.now octets.now }

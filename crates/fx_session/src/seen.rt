@@ -1,4 +1,4 @@
-//! What is noted of a data record.
+//! The numbers noted while a data record is read.
 ghost use Rattle.std.specs.Prelude.{◌≡◌, ◌++◌, [], ◌∷◌, Option, Some, None, IfSome, IfNone};
 ghost use Rattle.std.specs.Option.{option_or};
 ghost use Rattle.fx_elements.specs.declared.axis.Axis as axes;
@@ -13,7 +13,7 @@ use crate::template::Template;
 use fx_elements::{AXES, Axis, Element};
 use fx_wire::cut_value;
 
-/// The number is noted, if none is.
+/// Notes the number in the octets, if none is noted yet.
 fn note_first(noted: &mut Option<u128>, content: &[u8])
     ensures { noted.new ≡ option_or noted.old (Some (flows.number_in content.now)) }
 {
@@ -22,7 +22,7 @@ fn note_first(noted: &mut Option<u128>, content: &[u8])
     }
 }
 
-/// A number for each axis where one is noted; a value where none is means nothing.
+/// A number for each axis on which one is noted. The value on an axis without one has no meaning.
 #[derive(Drop)]
 pub(crate) struct Numbers {
     noted: [bool; AXES],
@@ -30,7 +30,7 @@ pub(crate) struct Numbers {
 }
 
 impl Numbers {
-    /// None is noted.
+    /// Creates the numbers with none noted.
     fn new() -> Numbers
         ensures { (axis : axes.Axis) → values.number_on result axis ≡ None }
     {
@@ -40,14 +40,14 @@ impl Numbers {
         }
     }
 
-    /// None is noted any more.
+    /// Discards all noted numbers.
     fn clear(&mut self)
         ensures { (axis : axes.Axis) → values.number_on self.new axis ≡ None }
     {
         self.noted = [false; AXES];
     }
 
-    /// The number is noted for the axis, if none is.
+    /// Notes the number in the octets for the axis, if none is noted yet.
     fn note(&mut self, axis: Axis, content: &[u8])
         ensures { (other : axes.Axis) → values.number_on self.new other
             ≡ values.first_on self.old axis (flows.number_in content.now) other }
@@ -59,7 +59,7 @@ impl Numbers {
         }
     }
 
-    /// The number that is noted for the axis.
+    /// Returns the number that is noted for the axis.
     pub(crate) fn get(&self, axis: Axis) -> Option<u128>
         ensures { result ≡ values.number_on self.now axis }
     {
@@ -72,8 +72,8 @@ impl Numbers {
     }
 }
 
-/// The first number of each element that is read: the values on the axes, prefixes and their lengths, and the
-/// counters. It is kept from record to record, so that none has to make room for it.
+/// The first number of each element that is read: the values on the axes, prefixes and their lengths, and the counters.
+/// It is reused from record to record, so that no record needs new space for it.
 #[derive(Drop)]
 pub(crate) struct Seen {
     pub numbers: Numbers,
@@ -84,7 +84,7 @@ pub(crate) struct Seen {
 }
 
 impl Seen {
-    /// Nothing is noted.
+    /// Creates the numbers with none noted.
     pub(crate) fn new() -> Seen
         ensures { values.Notes result [] }
     {
@@ -97,7 +97,7 @@ impl Seen {
         }
     }
 
-    /// Nothing is noted any more.
+    /// Discards all noted numbers.
     fn clear(&mut self)
         ensures { values.Notes self.new [] }
     {
@@ -108,7 +108,7 @@ impl Seen {
         self.packets = None;
     }
 
-    /// The value of a field of this element is noted, if it is read and none of its element is noted.
+    /// Notes the value of a field of this element, if the element is read and none of its values is noted yet.
     fn note(&mut self, element: Element, content: &[u8])
         ensures { (vs : values.Values) (field : specifiers.FieldSpecifier)
             → element_of field ≡ element → values.Notes self.old vs
@@ -125,7 +125,8 @@ impl Seen {
     }
 }
 
-/// The record at the front is noted under a template; answers the octets behind it, None where it is cut.
+/// Notes the numbers of the record at the front, read under a template. Returns the octets after it, `None` if it is
+/// cut.
 pub(crate) fn read_record<'a>(
     seen: &mut Seen,
     template: &Template,

@@ -1,4 +1,4 @@
-//! Sessions: a stream in pieces.
+//! Sessions, which read a stream in pieces.
 ghost use Rattle.std.specs.Prelude.{◌≡◌, ◌≢◌, ◌≤◌, ◌++◌, ℕ, List, length, take, Ok, Err, Some, None, IsSome};
 ghost use Rattle.fx_tables.specs.declared.record.Record.{Record};
 ghost use Rattle.fx_session.specs.StreamFaults.{number_of};
@@ -16,7 +16,8 @@ use fx_wire::{Parsed, parse};
 use std::alloc::Global;
 use std::marker::Model;
 
-/// Reads the whole messages at the front, and says how many octets they have and which fault came.
+/// Reads the whole messages at the front. Returns how many octets they have, and the fault that stopped the reading, if
+/// any.
 fn take_messages<W: SessionWatch>(
     alloc: Global,
     known: &mut Known,
@@ -56,9 +57,9 @@ fn take_messages<W: SessionWatch>(
     }
 }
 
-/// A stream of messages that comes in pieces, read into flow records.
+/// A reader of a stream of messages, which arrives in pieces, into flow records.
 ///
-/// A session is seen as what it knows (each domain's templates and next sequence number, the records that wait, the
+/// A session is seen as what it knows (each domain's templates and next sequence number, the waiting records, the
 /// numbers of gaps and of skipped records), the place of the first octet of the unfinished message, that message's
 /// octets, and the number of the fault that it returns from then on.
 pub struct Session {
@@ -70,7 +71,7 @@ pub struct Session {
 }
 
 impl Drop for Session {
-    /// Drops its parts: proved once, and one call wherever one is dropped.
+    /// Drops its parts here, so that each drop elsewhere is one call.
     fn drop(self) {
         let Self {
             alloc: _,
@@ -97,7 +98,7 @@ impl Model for Session {
     } };
 }
 
-/// The fault where the first octet of the refused message is at this place.
+/// Returns the fault for a refused message whose first octet is at this place.
 fn fault_of(place: u64, fault: StreamFault) -> Fault
     ensures { result ≡ streams.fault_of place (number_of fault) }
 {
@@ -108,7 +109,7 @@ fn fault_of(place: u64, fault: StreamFault) -> Fault
 }
 
 impl Session {
-    /// A session that has read nothing. It takes no memory yet, so it doesn't fail.
+    /// Creates a session that has read nothing. It allocates no memory yet, so it doesn't fail.
     pub fn new(alloc: Global) -> Result<Session, Fault>
         ensures { result ≡ Ok streams.start }
     {
@@ -121,14 +122,15 @@ impl Session {
         })
     }
 
-    /// Reads on with a piece of the stream: each message that it completes is read, and its records wait.
+    /// Continues reading with a piece of the stream: each message that it completes is read, and its records wait.
     ///
-    /// Fails at the first octet of the first message that is refused: 611 a version other than 10, 612 a message
-    /// length below 16, 613 a set's length, 615 a reserved set id; then along the sets 614 a template's form, 618 a
-    /// counter of flows of another length than 8 octets, 616 another template under a live id, 617 a data set
-    /// without template, 619 a record that passes its set's end, 620 a prefix length above 32, of IPv6 above 128. Fails
-    /// with 900, at no place, if out of memory, after some first messages were read. Each later call returns the fault
-    /// again; the records of the messages before it wait on, and there are none of the refused message.
+    /// Fails at the first octet of the first message that is refused: with 611 for a version other than 10, 612 for a
+    /// message length below 16, 613 for a set's length, 615 for a reserved set id; then, in the order of the sets, with
+    /// 614 for a template's form, 618 for a counter of flows of another length than 8 octets, 616 for another template
+    /// under a live id, 617 for a data set without a template, 619 for a record that passes its set's end, 620 for a
+    /// prefix length above 32, or above 128 for IPv6. Fails with 900, at no place, if out of memory; some of the first
+    /// messages may have been read then. Each later call returns the same fault; the records of the messages before it
+    /// still wait, and there are none of the refused message.
     pub fn feed(&mut self, piece: &[u8]) -> Result<(), Fault>
         ensures answer { result ≡ streams.answer_of self.new.place self.new.fault }
         ensures fed { self.new.fault ≢ Some want_of_memory
@@ -140,8 +142,8 @@ impl Session {
         self.feed_watched(piece, &mut Unwatched)
     }
 
-    /// Reads on with a piece of the stream as [`Session::feed`], and reports to `watch` what the messages say. The result
-    /// is the same for every observer.
+    /// Continues reading with a piece of the stream like [`Session::feed`], and reports the contents of the messages to
+    /// `watch`. The result is the same for every observer.
     pub fn feed_watched<W: SessionWatch>(
         &mut self,
         piece: &[u8],
@@ -183,58 +185,58 @@ impl Session {
         }
     }
 
-    /// The first record that waits leaves; None where none does.
+    /// Removes and returns the first waiting record; `None` if there is none.
     pub fn next_record(&mut self) -> Option<Record>
         ensures { streams.IsNextRecord self.old self.new result }
     {
         self.known.next_record()
     }
 
-    /// The records that wait, in order: those of the first slice, and then those of the second.
+    /// Returns the waiting records, in order: those of the first slice, then those of the second.
     pub fn records(&self) -> (&[Record], &[Record])
         ensures { self.now.known.waiting ≡ result.0.now ++ result.1.now }
     {
         self.known.records()
     }
 
-    /// Removes all records that wait.
+    /// Removes all waiting records.
     pub fn clear_records(&mut self)
         ensures { self.new ≡ streams.without_waiting self.old }
     {
         self.known.clear_records();
     }
 
-    /// How many messages had another sequence number than the one that came next in their domain, modulo 2 to the 64.
+    /// Returns how many messages had another sequence number than the one expected in their domain, modulo 2 to the 64.
     pub fn gaps(&self) -> u64
         ensures { result ≡ self.now.known.gaps }
     {
         self.known.gaps()
     }
 
-    /// How many data records had no flow record since their template lacks a counter, modulo 2 to the 64. Records
-    /// under options templates aren't among them.
+    /// Returns how many data records gave no flow record because their template lacks a counter, modulo 2 to the 64.
+    /// Records under options templates aren't counted.
     pub fn skipped(&self) -> u64
         ensures { result ≡ self.now.known.skipped }
     {
         self.known.skipped()
     }
 
-    /// The place in the stream of the first octet of the unfinished message, or of the refused one; 2 to the 64 less 1
-    /// where it is further on.
+    /// Returns the place in the stream of the first octet of the unfinished message, or of the refused one; 2 to the 64
+    /// minus 1 if it is further on.
     pub fn place(&self) -> u64
         ensures { result ≡ self.now.place }
     {
         self.place
     }
 
-    /// Returns the octets of the unfinished message, as far as they were fed; none after a fault.
+    /// Returns the octets of the unfinished message that were fed so far; none after a fault.
     pub fn unfinished(&self) -> &[u8]
         ensures { result.now ≡ self.now.rest }
     {
         self.octets.as_slice()
     }
 
-    /// How many octets of an unfinished message there are.
+    /// Returns how many octets of an unfinished message there are.
     pub fn left(&self) -> usize
         ensures { result ≡ length self.now.rest }
     {
@@ -242,13 +244,14 @@ impl Session {
     }
 }
 
-/// One piece and then another are both as one, for every session: it doesn't matter how a stream is cut.
+/// States that feeding one piece and then another is the same as feeding both as one, for every session: it doesn't
+/// matter how a stream is cut.
 pub fn pieces()
     ensures { (st : streams.SessionState) (a : List ℕ) (b : List ℕ)
         → streams.after_piece (streams.after_piece st a) b ≡ streams.after_piece st (a ++ b) }
 {}
 
-/// Records that wait stand before those that a piece adds, and change nothing else, for every session: it doesn't
+/// States that waiting records precede those that a piece adds, and change nothing else, for every session: it doesn't
 /// matter when they are taken out.
 pub fn waiting()
     ensures { (before : List Record) (st : streams.SessionState) (piece : List ℕ)

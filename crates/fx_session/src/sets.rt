@@ -1,4 +1,4 @@
-//! Sets of a message.
+//! Reading of the sets of a message.
 ghost use Rattle.std.specs.Prelude.{◌≡◌, ◌≢◌, Ok, Err};
 ghost use Rattle.fx_wire.specs.Sets as wire;
 ghost use Rattle.fx_session.specs.Calls.{Does, Grows};
@@ -15,7 +15,7 @@ use crate::watch::SessionWatch;
 use fx_wire::{Set, Sets, TemplateKind};
 use std::alloc::Global;
 
-/// Reports a data set that was read under its template, or refused.
+/// Reports that a data set was read under its template, or refused.
 fn report_data<W: SessionWatch>(
     watch: &mut W,
     kind: TemplateKind,
@@ -30,9 +30,9 @@ fn report_data<W: SessionWatch>(
     }
 }
 
-/// The records of a data set are taken, under the template of its id.
+/// Takes the records of a data set, under the template of its id.
 ///
-/// Fails where there is none, and as the first record that does.
+/// Fails if there is no such template, and with the fault of the first record that is refused.
 fn take_data<W: SessionWatch>(
     templates: &Templates,
     taken: &mut Taken,
@@ -75,9 +75,9 @@ fn take_data<W: SessionWatch>(
     Err(StreamFault::NoTemplate)
 }
 
-/// A set is read.
+/// Reads a set.
 ///
-/// Fails as the first of its records that does, if a data set has no template, and if out of memory.
+/// Fails with the fault of its first record that is refused, if a data set has no template, and if out of memory.
 #[tactic(auto, unfolding(crate::specs::Messages::set_read))]
 fn take_set<W: SessionWatch>(
     alloc: Global,
@@ -100,9 +100,9 @@ fn take_set<W: SessionWatch>(
     take_data(templates, taken, set.id, set.content, watch)
 }
 
-/// The sets of a message are read, in order.
+/// Reads the sets of a message, in order.
 ///
-/// Fails as the first that does.
+/// Fails with the fault of the first set that is refused.
 pub(crate) fn take_sets<W: SessionWatch>(
     alloc: Global,
     templates: &mut Templates,

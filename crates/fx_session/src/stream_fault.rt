@@ -1,4 +1,4 @@
-//! What messages of a stream are refused for.
+//! Reasons for refusing messages of a stream.
 ghost use Rattle.std.specs.Prelude.{◌≡◌};
 ghost use Rattle.fx_session.specs.StreamFaults.{number_of};
 
@@ -6,10 +6,10 @@ use fx_base::refusals;
 use fx_wire::Malformed;
 use std::alloc::{AllocError, AllocFailed};
 
-/// Why a message of a stream is refused (RFC 7011), or couldn't be read since there was no memory.
+/// The reason why a message of a stream is refused (RFC 7011), or couldn't be read for lack of memory.
 #[derive(Clone, Copy)]
 pub enum StreamFault {
-    /// Its octets, or those of a template record, are no such thing.
+    /// The message, or one of its template records, is malformed.
     Malformed(Malformed),
     /// A template is declared under the id of another one (section 8.1).
     TemplateIdInUse,
@@ -21,12 +21,13 @@ pub enum StreamFault {
     CutRecord,
     /// A prefix is longer than its address.
     PrefixLength,
-    /// There was no memory for what the message says.
+    /// Out of memory for the contents of the message.
     OutOfMemory,
 }
 
 impl StreamFault {
-    /// Returns the fault's number: that of what is malformed, 616 to 620 in the variants' order, and 900 if out of memory.
+    /// Returns the fault's number: that of the malformation, 616 to 620 in the variants' order, or 900 if out of
+    /// memory.
     pub fn number(self) -> u16
         ensures { result ≡ number_of self }
     {

@@ -1,4 +1,4 @@
-//! What is taken from messages.
+//! Records taken from messages.
 ghost use Rattle.std.specs.Prelude.{◌≡◌, ◌+◌, ◌%◌, ◌^◌, ◌≤◌, ◌<◌, [], ◌∷◌, ◌++◌, length, take, slice_range, OnOk, OnErr, Some, None};
 ghost use Rattle.fx_session.specs.DataSets as sets;
 ghost use Rattle.fx_session.specs.Calls.{Grows};
@@ -10,11 +10,11 @@ use fx_tables::Record;
 use std::alloc::{AllocError, Global};
 use std::marker::Model;
 
-/// The records that wait, the number of skipped ones modulo 2 to the 64, and the number of data records that the
-/// message had so far, modulo 2 to the 32.
+/// The waiting records, the number of skipped ones modulo 2 to the 64, and the number of data records of the message so
+/// far, modulo 2 to the 32.
 ///
-/// The records from `start` to `end` wait. The others are places that later records take, so that a record that is read
-/// at its places is put together where it waits.
+/// The records from `start` to `end` wait. The others are places for later records, so that a record that is read at
+/// its places is assembled where it waits.
 #[derive(Drop)]
 pub(crate) struct Taken {
     records: Vec<Record>,
@@ -39,8 +39,8 @@ impl Model for Taken {
     ghost invariant = { λ t. (t.start ≤ t.end) × (t.end ≤ length t.records.items) };
 }
 
-/// Those from `start` to `end` move to the front where they stand at the end and the front has room for as many, so that
-/// the places in front are taken again.
+/// Moves the records from `start` to `end` to the front if they are at the end of the list and the front has room for
+/// them all, so that the places before them are used again.
 fn use_front_again(records: &mut Vec<Record>, start: &mut usize, end: &mut usize)
     requires { (start.old ≤ end.old) × (end.old ≤ length records.old.items) }
     ensures same { slice_range records.new.items start.new end.new
@@ -54,9 +54,9 @@ fn use_front_again(records: &mut Vec<Record>, start: &mut usize, end: &mut usize
     }
 }
 
-/// Makes a place behind those from `start` to `end`, at the front or at the end of the list.
+/// Makes a place after the records from `start` to `end`, at the front or at the end of the list.
 ///
-/// Fails for want of memory.
+/// Fails if out of memory.
 fn make_place(
     records: &mut Vec<Record>,
     start: &mut usize,
@@ -75,9 +75,9 @@ fn make_place(
     Ok(())
 }
 
-/// Finds a place behind those from `start` to `end`, and makes one only where there is none.
+/// Finds a place after the records from `start` to `end`, and makes one only if there is none.
 ///
-/// Fails for want of memory.
+/// Fails if out of memory.
 fn find_place(
     records: &mut Vec<Record>,
     start: &mut usize,
@@ -96,7 +96,7 @@ fn find_place(
 }
 
 impl Taken {
-    /// Nothing was taken.
+    /// Creates the state in which nothing was taken.
     pub fn new(alloc: Global) -> Taken
         ensures { result ≡ record { waiting = []; skipped = 0; count = 0 } }
     {
@@ -109,7 +109,7 @@ impl Taken {
         }
     }
 
-    /// A message begins.
+    /// Begins a message: sets the number of its data records to 0.
     pub fn start(&mut self)
         ensures { self.new ≡ record {
           waiting = self.old.waiting;
@@ -121,9 +121,9 @@ impl Taken {
         self.count = 0;
     }
 
-    /// A data record whose flow record waits.
+    /// Counts a data record and adds its flow record to the waiting ones.
     ///
-    /// Fails for want of memory, and then nothing is taken.
+    /// Fails if out of memory, and then nothing is taken.
     #[tactic(auto, using(crate::proofs::PlacesThatWait::one_more_waits))]
     pub fn add(&mut self, flow: Record) -> Result<(), AllocError>
         ensures ok { OnOk result (self.new ≡ sets.with_flow self.old (Some flow)) }
@@ -137,10 +137,10 @@ impl Taken {
         Ok(())
     }
 
-    /// The data record at the front of the octets, whose flow record is read at its places and waits. The values of its
-    /// key are put together in `values`.
+    /// Counts the data record at the front of the octets, and adds its flow record, which is read at its places, to the
+    /// waiting ones. The values of its key are assembled in `values`.
     ///
-    /// Fails for want of memory, and then nothing is taken.
+    /// Fails if out of memory, and then nothing is taken.
     #[tactic(auto, using(crate::proofs::PlacesThatWait::one_more_waits))]
     pub fn add_at(
         &mut self,
@@ -161,9 +161,10 @@ impl Taken {
         Ok(())
     }
 
-    /// A data record whose flow record waits, or that is skipped.
+    /// Counts a data record and adds its flow record to the waiting ones, or to the number of skipped ones if it has
+    /// none.
     ///
-    /// Fails for want of memory, and then nothing is taken.
+    /// Fails if out of memory, and then nothing is taken.
     pub fn take(&mut self, flow: Option<Record>) -> Result<(), AllocError>
         ensures ok { OnOk result (self.new ≡ sets.with_flow self.old flow) }
         ensures same { OnErr result (self.new ≡ self.old) }
@@ -179,7 +180,7 @@ impl Taken {
         }
     }
 
-    /// A data record that isn't read.
+    /// Counts a data record that isn't read.
     pub fn pass(&mut self)
         ensures { self.new ≡ record {
           waiting = self.old.waiting;
@@ -191,28 +192,28 @@ impl Taken {
         self.count = self.count.wrapping_add(1);
     }
 
-    /// How many records wait.
+    /// Returns how many records wait.
     pub fn waiting(&self) -> usize
         ensures { result ≡ length self.now.waiting }
     {
         self.end - self.start
     }
 
-    /// The number of skipped records, modulo 2 to the 64.
+    /// Returns the number of skipped records, modulo 2 to the 64.
     pub fn skipped(&self) -> u64
         ensures { result ≡ self.now.skipped }
     {
         self.skipped
     }
 
-    /// The number of data records of the message so far, modulo 2 to the 32.
+    /// Returns the number of data records of the message so far, modulo 2 to the 32.
     pub fn count(&self) -> u32
         ensures { result ≡ self.now.count }
     {
         self.count
     }
 
-    /// So many records stay, and the number of skipped ones is this.
+    /// Keeps the first `waiting` of the waiting records, and sets the number of skipped ones.
     pub fn cut_back(&mut self, waiting: usize, skipped: u64)
         ensures { self.new ≡ record {
           waiting = take waiting self.old.waiting;
@@ -224,7 +225,7 @@ impl Taken {
         self.skipped = skipped;
     }
 
-    /// The first record that waits leaves.
+    /// Removes and returns the first waiting record, if there is one.
     pub fn next(&mut self) -> Option<Record>
         ensures { sets.FirstLeaves self.old self.new result }
     {
@@ -236,14 +237,14 @@ impl Taken {
         Some(record)
     }
 
-    /// The records that wait, in order: those of the first slice, and then those of the second.
+    /// Returns the waiting records, in order: those of the first slice, then those of the second.
     pub fn records(&self) -> (&[Record], &[Record])
         ensures { self.now.waiting ≡ result.0.now ++ result.1.now }
     {
         (&self.records[self.start..self.end], &[])
     }
 
-    /// All records that wait are let go.
+    /// Removes all waiting records.
     pub fn clear(&mut self)
         ensures { self.new ≡ record {
           waiting = [];

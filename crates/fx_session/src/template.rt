@@ -11,8 +11,8 @@ use fx_wire::FieldSpecifier;
 use std::alloc::{AllocError, Global};
 use std::marker::Model;
 
-/// How many fields of a template are scope fields, its fields and their elements, how few octets a record can have, and
-/// where the values of flows stand in records, where that is the same in all of them.
+/// The number of scope fields of a template, its fields and their elements, the least number of octets of a record, and
+/// the places of the values of flows in records, if they are the same in all of them.
 #[derive(Drop)]
 struct Body {
     scope: u16,
@@ -22,8 +22,8 @@ struct Body {
     places: Option<RecordPlaces>,
 }
 
-/// A template or an options template: how many of its fields are scope fields, and its fields. They are boxed, so that
-/// free places in a table of templates are small.
+/// A template or an options template: the number of its scope fields, and its fields. They are boxed, so that free
+/// places in a table of templates are small.
 #[derive(Drop)]
 pub struct Template {
     body: Box<Body>,
@@ -46,7 +46,7 @@ impl Model for Template {
         × IfSome t.body.value.places (ArePlacesOf t.body.value.fields.items) };
 }
 
-/// Whether two fields are written in the same way.
+/// Returns whether two fields are written in the same way.
 fn same_field(a: &FieldSpecifier, b: &FieldSpecifier) -> bool
     ensures { result ≡ templates.same_field a.now b.now }
 {
@@ -60,7 +60,7 @@ fn same_field(a: &FieldSpecifier, b: &FieldSpecifier) -> bool
     a.element == b.element && a.field_length == b.field_length && enterprise
 }
 
-/// Whether two lists of fields are written in the same way.
+/// Returns whether two lists of fields are written in the same way.
 fn same_fields(a: &[FieldSpecifier], b: &[FieldSpecifier]) -> bool
     ensures { result ≡ templates.same_fields a.now b.now }
 {
@@ -75,7 +75,7 @@ fn same_fields(a: &[FieldSpecifier], b: &[FieldSpecifier]) -> bool
     true
 }
 
-/// The element of each field.
+/// Returns the element of each field. Fails if out of memory.
 fn elements_of(alloc: Global, fields: &[FieldSpecifier]) -> Result<Vec<Element>, AllocError>
     ensures { IfOk result (λ elements. elements.items ≡ map element_of fields.now) }
 {
@@ -88,7 +88,7 @@ fn elements_of(alloc: Global, fields: &[FieldSpecifier]) -> Result<Vec<Element>,
 }
 
 impl Template {
-    /// A template of these fields, whose records have `shortest` octets at least.
+    /// Creates a template of these fields, whose records have at least `shortest` octets. Fails if out of memory.
     pub(crate) fn new(
         alloc: Global,
         scope: u16,
@@ -113,7 +113,7 @@ impl Template {
         })
     }
 
-    /// Returns how many of its fields are scope fields; 0 if it is no options template.
+    /// Returns the number of its scope fields; 0 if it isn't an options template.
     pub fn scope(&self) -> u16
         ensures { result ≡ self.now.scope }
     {
@@ -134,14 +134,14 @@ impl Template {
         self.body.elements.as_slice()
     }
 
-    /// Where the values of flows stand in each record, where that is the same in all of them.
+    /// Returns the places of the values of flows in each record, if they are the same in all of them.
     pub(crate) fn places(&self) -> Option<&RecordPlaces>
         ensures { IfSome result (λ places. ArePlacesOf self.now.fields places.now) }
     {
         self.body.places.as_ref()
     }
 
-    /// Returns how few octets a record can have, at least 1.
+    /// Returns the least number of octets of a record, at least 1.
     pub fn shortest(&self) -> usize
         ensures value { result ≡ shortest_record self.now.fields }
         ensures some { 1 ≤ result }
@@ -149,7 +149,7 @@ impl Template {
         self.body.shortest
     }
 
-    /// Whether the two templates are written in the same way.
+    /// Returns whether the two templates are written in the same way.
     pub(crate) fn same(&self, other: &Template) -> bool
         ensures { result ≡ templates.same_template self.now other.now }
     {

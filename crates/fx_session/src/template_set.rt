@@ -17,7 +17,7 @@ use fx_wire::{
 };
 use std::alloc::Global;
 
-/// Whether a counter of flows has another length than 8 octets.
+/// Returns whether the field is a counter of flows of another length than 8 octets.
 fn is_narrow(field: &FieldSpecifier) -> bool
     ensures { result ≡ sets.is_narrow field.now }
 {
@@ -28,7 +28,7 @@ fn is_narrow(field: &FieldSpecifier) -> bool
     is_counter && field.field_length != 8
 }
 
-/// Whether some counter of flows has another length than 8 octets.
+/// Returns whether some counter of flows has another length than 8 octets.
 fn has_narrow(fields: &[FieldSpecifier]) -> bool
     ensures { result ≡ sets.has_narrow fields.now }
 {
@@ -40,7 +40,7 @@ fn has_narrow(fields: &[FieldSpecifier]) -> bool
     false
 }
 
-/// The fields of a template, and the octets behind them.
+/// Returns the fields of a template, and the octets after them.
 ///
 /// Fails if a field is cut or can't have its length, and if out of memory.
 fn read_fields(
@@ -60,7 +60,7 @@ fn read_fields(
     Ok((found, left.rest()))
 }
 
-/// Declares the template whose fields are at the front of the octets; returns the octets behind it.
+/// Declares the template whose fields are at the front of the octets; returns the octets after it.
 fn declare<'a>(
     alloc: Global,
     templates: &mut Templates,
@@ -101,9 +101,9 @@ fn report_template<W: SessionWatch>(
     }
 }
 
-/// Does what the template record at the front says; returns the octets behind it.
+/// Does what the template record at the front says; returns the octets after it.
 ///
-/// Fails by its form, by its counters and by its id, in this order, and if out of memory.
+/// Fails because of its form, of its counters or of its id, checked in this order, and if out of memory.
 #[tactic(auto, unfolding(crate::specs::TemplateSets::template_record))]
 fn take_record<'a, W: SessionWatch>(
     alloc: Global,
@@ -140,7 +140,7 @@ fn take_record<'a, W: SessionWatch>(
 
 /// Does what the template records of a set say.
 ///
-/// Fails as the first record that does, and leaves the templates open then.
+/// Fails with the fault of the first record that is refused; the templates are unspecified then.
 pub(crate) fn take_templates<W: SessionWatch>(
     alloc: Global,
     templates: &mut Templates,

@@ -25,9 +25,9 @@ impl Model for Templates {
     ghost view = { λ t. record { plain = t.plain.entries; options = t.options.entries } };
 }
 
-/// A template comes into its table, where the id stands for no other one.
+/// Adds a template to its table, unless the table has the same one under this id already.
 ///
-/// Fails where it does, and for want of memory.
+/// Fails if the id denotes another template, and if out of memory.
 fn declare_in(
     table: &mut BTreeMap<u16, Template>,
     other: bool,
@@ -51,7 +51,7 @@ fn declare_in(
 }
 
 impl Templates {
-    /// No templates.
+    /// Creates tables without templates.
     pub fn new(alloc: Global) -> Templates
         ensures { result ≡ templates.no_templates }
     {
@@ -61,23 +61,23 @@ impl Templates {
         }
     }
 
-    /// The template of this id.
+    /// Returns the template of this id.
     pub fn plain(&self, id: u16) -> Option<&Template>
         ensures { option_copied result ≡ templates.at_number self.now.plain id }
     {
         self.plain.get(&id)
     }
 
-    /// The options template of this id.
+    /// Returns the options template of this id.
     pub fn options(&self, id: u16) -> Option<&Template>
         ensures { option_copied result ≡ templates.at_number self.now.options id }
     {
         self.options.get(&id)
     }
 
-    /// A template is declared.
+    /// Declares a template.
     ///
-    /// Fails where the id stands for another one, and for want of memory.
+    /// Fails if the id denotes another template, and if out of memory.
     pub fn declare(&mut self, kind: TemplateKind, id: u16, new: Template) -> Result<(), StreamFault>
         ensures { Does result (templates.after_declaration self.old kind id new) self.new }
     {
@@ -93,7 +93,7 @@ impl Templates {
         }
     }
 
-    /// The template of this id is withdrawn, of either kind, if there is one.
+    /// Withdraws the template of this id, of either kind, if there is one.
     pub fn withdraw(&mut self, id: u16)
         ensures { self.new ≡ templates.after_withdrawal self.old id }
     {
@@ -101,7 +101,7 @@ impl Templates {
         self.options.remove(&id);
     }
 
-    /// All templates of the kind are withdrawn.
+    /// Withdraws all templates of the kind.
     pub fn withdraw_all(&mut self, kind: TemplateKind)
         ensures { self.new ≡ templates.after_withdrawal_of_all self.old kind }
     {

@@ -7,51 +7,53 @@ use fx_wire::{Malformed, Message, Set, TemplateKind};
 /// An observer of the messages that a session reads.
 ///
 /// Its methods are called in the order of the stream: per message, per set and per template record, never per data
-/// record. They return nothing and are lent what the session itself reads by, and no clause of the session names an
-/// observer: what the session does is the same whoever observes it. Which events come with which arguments is tested,
-/// not proved.
+/// record. They return nothing and borrow what the session itself reads with, and no clause of the session names an
+/// observer: the session does the same whoever observes it. Which events come with which arguments is tested, not
+/// proved.
 pub trait SessionWatch: Drop {
-    /// A whole message of well-formed sets begins at octet `place` of the stream, 0-based; its sets are read next.
+    /// Called when a whole message of well-formed sets begins at octet `place` of the stream, 0-based. Its sets are
+    /// read next.
     fn on_message(&mut self, place: u64, message: &Message<'_>);
 
-    /// The next set of the message is read.
+    /// Called before the next set of the message is read.
     fn on_set(&mut self, set: &Set<'_>);
 
-    /// The record at the front of `octets`, which reach to the end of its template set, declares the template `id`, or
-    /// repeats its declaration. `template` is the domain's template of this id from there on.
+    /// Called when the record at the front of `octets`, which reach to the end of its template set, declares the
+    /// template `id`, or repeats its declaration. `template` is the domain's template of this id from then on.
     fn on_template(&mut self, kind: TemplateKind, id: u16, template: &Template, octets: &[u8]);
 
-    /// The domain's template of this id is withdrawn, of either kind, if there is one.
+    /// Called when the domain's template of this id is withdrawn, of either kind, if there is one.
     fn on_withdrawal(&mut self, id: u16);
 
-    /// All templates of this kind are withdrawn in the domain.
+    /// Called when all templates of this kind are withdrawn in the domain.
     fn on_withdrawal_of_all(&mut self, kind: TemplateKind);
 
-    /// A data set was read under the domain's template of its id: `records` data records.
+    /// Called when a data set of `records` data records was read under the domain's template of its id.
     fn on_data(&mut self, kind: TemplateKind, template: &Template, content: &[u8], records: u32);
 
-    /// The message was read, and its sequence number isn't `due`, the one that came next in its domain.
+    /// Called when the message was read and its sequence number isn't `due`, the one expected in its domain.
     fn on_gap(&mut self, due: u32);
 
-    /// The set is refused, and with it the message.
+    /// Called when the set is refused, and with it the message.
     ///
-    /// Of a template set, `octets` reach from the refused record to the set's end. Of a data set they are its content,
-    /// and `template` is the domain's template of its id; `None` with [`StreamFault::NoTemplate`].
+    /// For a template set, `octets` reach from the refused record to the set's end. For a data set they are its
+    /// content, and `template` is the domain's template of its id; `None` with [`StreamFault::NoTemplate`].
     fn on_refused_set(&mut self, template: Option<&Template>, octets: &[u8], fault: StreamFault);
 
-    /// The octets from `place` of the stream on begin no message of well-formed sets. They reach to the end of the piece.
+    /// Called when the octets from `place` of the stream on don't begin a message of well-formed sets. They reach to
+    /// the end of the piece.
     fn on_malformed(&mut self, place: u64, octets: &[u8], why: Malformed);
 
-    /// The stream's records are tallied under this layout. A session can't know that: whoever tallies them calls this
-    /// before the first piece.
+    /// Called when the stream's records are tallied under this layout. A session can't know that: whoever tallies them
+    /// calls this before the first piece.
     fn on_layout(&mut self, layout: &Layout);
 
-    /// The stream ends inside of the message that begins at octet `place`, with these octets of it. A session can't know
-    /// that: whoever reads the stream calls this.
+    /// Called when the stream ends inside the message that begins at octet `place`, of which it has these octets. A
+    /// session can't know that: whoever reads the stream calls this.
     fn on_unfinished(&mut self, place: u64, octets: &[u8]);
 }
 
-/// Observes nothing.
+/// An observer that ignores everything.
 #[derive(Debug, Drop)]
 pub struct Unwatched;
 
