@@ -1,4 +1,4 @@
-//! What is put on a link, and read from it.
+//! Writing of records to links, and reading from them.
 #![tactic(auto)]
 
 mod laws;

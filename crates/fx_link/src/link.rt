@@ -18,8 +18,8 @@ use fx_tables::Record;
 use std::alloc::Global;
 use std::marker::Model;
 
-/// A link in the middle of what is done: what is being sent, the octets that were put out and weren't carried yet, and
-/// what its receiver has read.
+/// A link in use: what is being sent, the octets that were written and weren't carried yet, and what its receiver has
+/// read.
 pub struct Link {
     outlet: Outlet,
     stream: Stream,
@@ -28,7 +28,7 @@ pub struct Link {
 }
 
 impl Drop for Link {
-    /// Lets its parts go: proved once, and one call wherever one is let go.
+    /// Drops its parts here, so that each drop elsewhere is one call.
     fn drop(self) {
         let Self {
             outlet: _,
@@ -53,7 +53,7 @@ impl Model for Link {
 }
 
 impl Link {
-    /// A link that nothing was put on.
+    /// Creates a link that nothing was put on.
     pub fn new(alloc: Global) -> Result<Link, Fault>
         ensures { result ≡ Ok (ongoing.at_rest new_wire) }
     {
@@ -65,17 +65,17 @@ impl Link {
         })
     }
 
-    /// Whether template ids are left for two more layouts on the link: that of the records that wait, and another.
+    /// Returns whether two more layouts on the link can have template ids: that of the waiting records, and another.
     pub fn has_room(&self) -> bool
         ensures { result ≡ sending.has_room 2 self.now.outgoing.sender }
     {
         self.outlet.has_room()
     }
 
-    /// A record is put on the link: it waits for its message. That ids are left, as [`Link::has_room`] answers, is the
-    /// caller's condition.
+    /// Puts a record on the link, where it waits for its message. The caller ensures that there are ids, as
+    /// [`Link::has_room`] reports.
     ///
-    /// Fails with 900, at no place, for want of memory. What is being sent is open then.
+    /// Fails with 900, at no place, if out of memory. What is being sent is unspecified then.
     pub fn put(&mut self, time: u32, flow: Record) -> Result<(), Fault>
         requires room { sending.has_room 2 self.old.outgoing.sender ≡ true }
         ensures ok { OnOk result (self.new
@@ -85,9 +85,9 @@ impl Link {
         self.outlet.put(time, flow, &mut self.stream)
     }
 
-    /// The records that wait have their message.
+    /// Writes the message of the waiting records.
     ///
-    /// Fails with 900, at no place, for want of memory.
+    /// Fails with 900, at no place, if out of memory.
     fn flush(&mut self, time: u32) -> Result<(), Fault>
         ensures ok { OnOk result (self.new
             ≡ record self.old { outgoing = outgoing.after_flush time self.old.outgoing }) }
@@ -98,10 +98,11 @@ impl Link {
         self.outlet.flush(time, &mut self.stream)
     }
 
-    /// The records that wait have their message, and what was written is put out. For their layout an id is left.
+    /// Writes the message of the waiting records, and puts what was written on the link. There is an id for their
+    /// layout.
     ///
-    /// Fails with 900, at no place, for want of memory, and as the link's octets are put out. What is being sent, and
-    /// what was put out of it, is open then.
+    /// Fails with 900, at no place, if out of memory, and with the fault of writing the link's octets. What is being
+    /// sent, and what was written of it, is unspecified then.
     pub fn finish<L: Links>(&mut self, time: u32, number: u64, links: &mut L) -> Result<(), Fault>
         ensures ok { OnOk result (self.new ≡ ongoing.after_finish time self.old) }
         ensures put { OnOk result (Puts (L.put_on links.old) (L.put_on links.new) number
@@ -122,10 +123,10 @@ impl Link {
         Ok(())
     }
 
-    /// So many octets that were put out reach the receiver.
+    /// Passes the first `count` octets of the queue to the receiver.
     ///
-    /// Fails with 900, at no place, for want of memory, where the octets of the link are messages without a fault. Its
-    /// receiver answers the fault from then on, and nothing else changes.
+    /// If the octets of the link are messages without a fault, this fails only with 900, at no place, if out of memory.
+    /// After a failure the receiver returns the fault from then on, and nothing else changes.
     pub fn carry(&mut self, count: usize) -> Result<(), Fault>
         requires queue { count ≤ length self.old.queue }
         ensures ok { OnOk result (self.new ≡ ongoing.after_carry count self.old) }
@@ -142,14 +143,14 @@ impl Link {
         Ok(())
     }
 
-    /// How many octets were put out and weren't carried yet.
+    /// Returns how many octets were written and weren't carried yet.
     pub fn queue_length(&self) -> usize
         ensures { result ≡ length self.now.queue }
     {
         self.queue.len()
     }
 
-    /// The first record that the receiver has read leaves, if there is one.
+    /// Removes and returns the first record that the receiver has read, if there is one.
     pub fn next_record(&mut self) -> Option<Record>
         ensures receiver { streams.IsNextRecord self.old.receiver self.new.receiver result }
         ensures rest { self.new ≡ record self.old { receiver = self.new.receiver } }

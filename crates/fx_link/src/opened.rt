@@ -1,4 +1,4 @@
-//! A sink for each link, which is made when octets are first put on the link.
+//! Sinks for links, each made when octets are first put on its link.
 ghost use Rattle.std.specs.Prelude.{◌≡◌, ◌⊎◌, ℕ, List, Option, None, false, IfOk, OnOk, IfErr};
 ghost use Rattle.std.specs.Ordering.{nat_cmp};
 ghost use Rattle.std.specs.BTreeMap.{get};
@@ -13,14 +13,14 @@ use fx_base::{Fault, Sink, put_text};
 use std::alloc::Global;
 use std::collections::BTreeMap;
 
-/// Makes the sinks of links.
+/// A maker of the sinks of links.
 pub trait MakeSink<S: Sink>: Drop {
-    /// The octets that a new sink has taken, where sinks tell them.
+    /// The octets that a new sink has taken, if sinks report them.
     ghost begun: { Self → Option (List ℕ) };
 
     /// Makes the sink of the link of this number.
     ///
-    /// Fails with 902, or with 900 if memory runs out, at no place.
+    /// Fails with 902, or with 900 if out of memory, at no place.
     fn make(&mut self, link: u64) -> Result<S, Fault>
         ensures made { IfOk result (λ sink. S.taken sink ≡ begun self.old) }
         ensures same { begun self.new ≡ begun self.old }
@@ -41,7 +41,7 @@ pub struct OpenedSinks<S: Sink, M: MakeSink<S>> {
 }
 
 impl<S: Sink, M: MakeSink<S>> OpenedSinks<S, M> {
-    /// Links without sinks, which this makes.
+    /// Creates links without sinks. `maker` makes the sinks.
     pub fn new(alloc: Global, maker: M) -> OpenedSinks<S, M>
         ensures maker { result.maker ≡ maker }
         ensures none { (link : ℕ) → get nat_cmp result.sinks link ≡ None }
@@ -54,14 +54,14 @@ impl<S: Sink, M: MakeSink<S>> OpenedSinks<S, M> {
         }
     }
 
-    /// The sink of the link of this number, if octets were put on it.
+    /// Returns the sink of the link of this number, if octets were put on it.
     pub fn sink(&self, link: u64) -> Option<&S>
         ensures { option_copied result ≡ get nat_cmp self.now.sinks link }
     {
         self.sinks.get(&link)
     }
 
-    /// What made the sinks, which are closed.
+    /// Returns what made the sinks, which are closed.
     pub fn into_maker(self) -> M
         ensures { result ≡ self.maker }
     {
@@ -73,7 +73,7 @@ impl<S: Sink, M: MakeSink<S>> OpenedSinks<S, M> {
         maker
     }
 
-    /// Makes the sink of a link that has none, and puts the link's first octets on it.
+    /// Makes the sink of a link that has none, and writes the link's first octets to it.
     fn begin(&mut self, link: u64, octets: &[u8]) -> Result<(), Fault>
         requires { get nat_cmp self.old.sinks link ≡ None }
         ensures ok { OnOk result (Puts
@@ -89,7 +89,7 @@ impl<S: Sink, M: MakeSink<S>> OpenedSinks<S, M> {
         Ok(())
     }
 
-    /// Puts octets behind those that were put on the link before.
+    /// Writes octets after those that were put on the link before.
     fn append(&mut self, link: u64, octets: &[u8]) -> Result<(), Fault>
         ensures ok { OnOk result (Puts
             (λ n. told_on (M.begun self.old.maker) S.taken (get nat_cmp self.old.sinks n))

@@ -1,4 +1,4 @@
-//! Outlets: records gathered into messages.
+//! Outlets, which gather records into messages.
 ghost use Rattle.std.specs.Prelude.{◌≡◌, ◌&&◌, ◌<◌, ◌+◌, ◌++◌, [], ◌∷◌, true, OnOk, IfErr};
 ghost use Rattle.std.specs.List.{AllByRecursion};
 ghost use Rattle.fx_base.specs.Fault.{IsMemory};
@@ -12,10 +12,10 @@ use fx_tables::Record;
 use std::alloc::Global;
 use std::marker::Model;
 
-/// How many records a message has at most.
+/// The most records of a message.
 const MOST: usize = 64;
 
-/// What puts records on a link: its sender, and the records that wait for their message, which have one layout.
+/// The sending side of a link: its sender, and the records waiting for their message, which have one layout.
 #[derive(Drop)]
 pub(crate) struct Outlet {
     sender: Sender,
@@ -33,7 +33,7 @@ impl Model for Outlet {
 }
 
 impl Outlet {
-    /// An outlet to a link that nothing was put on.
+    /// Creates an outlet to a link that nothing was put on.
     pub fn new(alloc: Global) -> Outlet
         ensures { result ≡ record { sender = sending.new_sender; batch = [] } }
     {
@@ -43,14 +43,14 @@ impl Outlet {
         }
     }
 
-    /// Whether ids are left for two more layouts: that of the records that wait, and another.
+    /// Returns whether two more layouts can have ids: that of the waiting records, and another.
     pub fn has_room(&self) -> bool
         ensures { result ≡ sending.has_room 2 self.now.sender }
     {
         self.sender.has_room()
     }
 
-    /// Whether a record shares the message of those that wait.
+    /// Returns whether a record can share the message of the waiting ones.
     fn joins(&self, flow: &Record) -> bool
         ensures { result ≡ sending.joins self.now.batch flow.now }
     {
@@ -60,10 +60,10 @@ impl Outlet {
         }
     }
 
-    /// Writes the message of the records that wait, if there are any, behind the octets of the link. For their layout an
-    /// id is left.
+    /// Appends the message of the waiting records, if there are any, to the octets of the link. There is an id for
+    /// their layout.
     ///
-    /// Fails with 900, at no place, for want of memory.
+    /// Fails with 900, at no place, if out of memory.
     pub fn flush(&mut self, time: u32, stream: &mut Stream) -> Result<(), Fault>
         ensures ok { OnOk result (outgoing.with_octets self.new stream.new.octets.items
             ≡ outgoing.after_flush time (outgoing.with_octets self.old stream.old.octets.items)) }
@@ -78,16 +78,16 @@ impl Outlet {
         Ok(())
     }
 
-    /// A record waits for its message, which it shares with those that wait already, or which comes behind theirs.
+    /// Adds a record to those waiting for their message. If it can't share their message, theirs is written first.
     ///
-    /// Fails with 900, at no place, for want of memory.
+    /// Fails with 900, at no place, if out of memory.
     pub fn put(&mut self, time: u32, flow: Record, stream: &mut Stream) -> Result<(), Fault>
         requires { sending.has_room 2 self.old.sender ≡ true }
         ensures ok { OnOk result (outgoing.with_octets self.new stream.new.octets.items
             ≡ outgoing.with_one time (outgoing.with_octets self.old stream.old.octets.items) flow) }
         ensures err { IfErr result IsMemory }
     {
-        // For the prover alone: what the types of layouts, keys and counts keep.
+        // These lines give the prover what the types of layouts, keys and counts keep.
         let _parts = flow.layout().parts();
         let _values = flow.key.values();
         let _packets = flow.counts.packets;

@@ -1,4 +1,4 @@
-//! Flow records in octets (RFC 7011, section 3.4.3).
+//! Encoding of flow records (RFC 7011, section 3.4.3).
 ghost use Rattle.std.specs.Prelude.{◌≡◌, ◌/◌, ◌^◌, ◌<◌, ◌++◌, true, OnOk, length};
 ghost use Rattle.std.specs.List.{list_all};
 ghost use Rattle.fx_elements.specs.Axes.{axis_width};
@@ -11,7 +11,7 @@ use fx_layout::Part;
 use fx_tables::Record;
 use std::alloc::AllocError;
 
-/// A value of an axis, in as many octets as it is wide.
+/// Writes a value of an axis, in as many octets as the axis is wide. Fails if out of memory.
 fn put_whole(octets: &mut Vec<u8>, axis: Axis, value: u128) -> Result<(), AllocError>
     requires { value < 2 ^ axis_width axis }
     ensures { OnOk result (octets.new.items ≡ octets.old.items ++ written.whole_octets axis value) }
@@ -28,7 +28,8 @@ fn put_whole(octets: &mut Vec<u8>, axis: Axis, value: u128) -> Result<(), AllocE
     }
 }
 
-/// The value of a part of a key; of an address's leading bits its prefix, and how many they are.
+/// Writes the value of a part of a key; for the leading bits of an address, its prefix and the number of bits. Fails if
+/// out of memory.
 fn put_value(octets: &mut Vec<u8>, part: Part, value: u128) -> Result<(), AllocError>
     requires bits { value < 2 ^ part.bits }
     requires stands { can_stand part ≡ true }
@@ -43,7 +44,7 @@ fn put_value(octets: &mut Vec<u8>, part: Part, value: u128) -> Result<(), AllocE
     Ok(())
 }
 
-/// The values of a key.
+/// Writes the values of a key. Fails if out of memory.
 fn put_values(octets: &mut Vec<u8>, parts: &[Part], values: &[u128]) -> Result<(), AllocError>
     requires bits { HasBits parts.now values.now }
     requires stands { list_all can_stand parts.now ≡ true }
@@ -62,7 +63,7 @@ fn put_values(octets: &mut Vec<u8>, parts: &[Part], values: &[u128]) -> Result<(
     }
 }
 
-/// The octets and the packets of a record.
+/// Writes the octets and the packets of a record. Fails if out of memory.
 fn put_counts(octets: &mut Vec<u8>, counts: Counts) -> Result<(), AllocError>
     ensures { OnOk result (octets.new.items ≡ octets.old.items ++ written.counts_octets counts) }
 {
@@ -70,7 +71,7 @@ fn put_counts(octets: &mut Vec<u8>, counts: Counts) -> Result<(), AllocError>
     octets.extend_from_slice(&counts.packets.to_be_bytes())
 }
 
-/// A data record: the values of its key, then its counts.
+/// Writes a data record: the values of its key, then its counts. Fails if out of memory.
 #[tactic(auto, unfolding(crate::specs::Records::record_octets))]
 fn put_record(octets: &mut Vec<u8>, flow: &Record) -> Result<(), AllocError>
     ensures { OnOk result (octets.new.items ≡ octets.old.items ++ written.record_octets flow.now) }
@@ -80,7 +81,7 @@ fn put_record(octets: &mut Vec<u8>, flow: &Record) -> Result<(), AllocError>
     put_counts(octets, flow.counts)
 }
 
-/// Data records, one after another, without padding.
+/// Writes data records, one after another, without padding. Fails if out of memory.
 pub(crate) fn put_records(octets: &mut Vec<u8>, records: &[Record]) -> Result<(), AllocError>
     ensures { OnOk result (octets.new.items
         ≡ octets.old.items ++ written.records_octets records.now) }

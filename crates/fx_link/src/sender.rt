@@ -1,4 +1,4 @@
-//! Senders: records in messages.
+//! Senders, which write records in messages.
 ghost use Rattle.std.specs.Prelude.{◌≡◌, ◌≤◌, ◌<◌, ◌+◌, ◌++◌, ◌^◌, [], ◌∷◌, length, nat_lt, map, Some, OnOk, OnErr, IfErr, true};
 ghost use Rattle.std.specs.List.{position_or_len};
 ghost use Rattle.fx_base.specs.Fault.{IsMemory};
@@ -18,8 +18,8 @@ use fx_wire::{Header, Set, put_message};
 use std::alloc::Global;
 use std::marker::Model;
 
-/// What the sender on a link keeps: the layouts that it has sent records of, in the order of first use, and how
-/// many records it has put on the link, modulo 2 to the 32.
+/// The state of the sender on a link: the layouts of the records that it has sent, in the order of first use, and the
+/// number of records that it has put on the link, modulo 2 to the 32.
 #[derive(Drop)]
 pub(crate) struct Sender {
     alloc: Global,
@@ -40,7 +40,7 @@ impl Model for Sender {
     }) };
 }
 
-/// The place of a layout among these, or behind them.
+/// Returns the 0-based place of a layout among these, or their number if it isn't one of them.
 fn place_of(layouts: &[Layout], layout: &Layout) -> usize
     ensures place { result ≡ position_or_len (same_layout layout.now) layouts.now }
     ensures bound { result ≤ length layouts.now }
@@ -58,7 +58,7 @@ fn place_of(layouts: &[Layout], layout: &Layout) -> usize
     }
 }
 
-/// Writes a message behind the octets of a link. Fails with 900, at no place, for want of memory.
+/// Appends a message to the octets of a link. Fails with 900, at no place, if out of memory.
 fn put_sets(stream: &mut Stream, header: &Header, sets: &[Set<'_>]) -> Result<(), Fault>
     requires { message_length (map set_parts sets.now) ≤ 65535 }
     ensures ok { OnOk result (stream.new.octets.items
@@ -72,7 +72,7 @@ fn put_sets(stream: &mut Stream, header: &Header, sets: &[Set<'_>]) -> Result<()
 }
 
 impl Sender {
-    /// A sender on a link that nothing was put on.
+    /// Creates a sender on a link that nothing was put on.
     pub fn new(alloc: Global) -> Sender
         ensures { result ≡ sending.new_sender }
     {
@@ -83,14 +83,14 @@ impl Sender {
         }
     }
 
-    /// Whether ids are left for two more layouts.
+    /// Returns whether two more layouts can have ids.
     pub fn has_room(&self) -> bool
         ensures { result ≡ sending.has_room 2 self.now }
     {
         256 + 2 + self.layouts.len() < 1 << 16
     }
 
-    /// The header of the next message.
+    /// Returns the header of the next message.
     fn header(&self, time: u32) -> Header
         ensures { result ≡ sending.header_at time self.now }
     {
@@ -101,8 +101,8 @@ impl Sender {
         }
     }
 
-    /// Writes a message with this header and these records, which have one layout. The layout's template comes first
-    /// where the link hasn't used it yet.
+    /// Writes a message with this header and these records, which have one layout. The layout's template precedes them
+    /// if the link hasn't used it yet.
     fn put_batch(
         &mut self,
         header: &Header,
@@ -141,9 +141,9 @@ impl Sender {
         Ok(())
     }
 
-    /// Writes a message with these records, which have one layout, behind the octets of the link.
+    /// Appends a message with these records, which have one layout, to the octets of the link.
     ///
-    /// Fails with 900, at no place, for want of memory, and then keeps what it kept.
+    /// Fails with 900, at no place, if out of memory, and is unchanged then.
     #[tactic(auto, unfolding(crate::specs::Sending::batch_octets))]
     pub fn send(&mut self, time: u32, batch: &[Record], stream: &mut Stream) -> Result<(), Fault>
         requires room { sending.has_room 1 self.old ≡ true }

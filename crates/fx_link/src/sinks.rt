@@ -1,10 +1,10 @@
-//! A sink for each link.
+//! Sinks for links.
 ghost use Rattle.std.specs.Prelude.{◌≡◌, false, OnOk, IfErr};
 
 use crate::links::Links;
 use fx_base::{Fault, Sink, put_text};
 
-/// Links with a sink each, the first link's first. A link without a sink tells nothing of its octets.
+/// Links with a sink each, in the order of the links. A link without a sink reports none of its octets.
 #[derive(Drop)]
 pub struct Sinks<S: Sink> {
     sinks: Vec<S>,
@@ -12,7 +12,7 @@ pub struct Sinks<S: Sink> {
 }
 
 impl<S: Sink> Sinks<S> {
-    /// Links whose octets go to these sinks.
+    /// Creates links whose octets go to these sinks.
     pub fn new(sinks: Vec<S>) -> Sinks<S>
         ensures sinks { result.sinks ≡ sinks }
         ensures going { result.failed ≡ false }
@@ -23,14 +23,14 @@ impl<S: Sink> Sinks<S> {
         }
     }
 
-    /// The sinks themselves, in the order of the links.
+    /// Returns the sinks by value, in the order of the links.
     pub fn into_sinks(self) -> Vec<S>
         ensures { result ≡ self.sinks }
     {
         self.sinks
     }
 
-    /// The sinks, in the order of the links.
+    /// Returns the sinks, in the order of the links.
     pub fn as_slice(&self) -> &[S]
         ensures { result.now ≡ self.now.sinks.items }
     {

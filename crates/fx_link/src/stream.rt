@@ -1,10 +1,10 @@
-//! The octets of a link.
+//! Octets of a link.
 ghost use Rattle.std.specs.Prelude.{◌≡◌, [], Some, false};
 
 use fx_base::{Fault, Sink, refusals};
 use std::alloc::Global;
 
-/// Octets in memory, to which writes add. A write fails only for want of memory.
+/// Octets in memory, to which writes append. A write fails only if out of memory.
 #[derive(Drop)]
 pub(crate) struct Stream {
     octets: Vec<u8>,
@@ -12,7 +12,7 @@ pub(crate) struct Stream {
 }
 
 impl Stream {
-    /// No octets.
+    /// Creates a stream without octets.
     pub fn new(alloc: Global) -> Stream
         ensures octets { result.octets.items ≡ [] }
         ensures going { result.failed ≡ false }
@@ -23,14 +23,14 @@ impl Stream {
         }
     }
 
-    /// No octets any more.
+    /// Removes all octets.
     pub fn clear(&mut self)
         ensures { self.new.octets.items ≡ [] }
     {
         self.octets.clear();
     }
 
-    /// The octets.
+    /// Returns the octets.
     pub fn as_slice(&self) -> &[u8]
         ensures { result.now ≡ self.now.octets.items }
     {

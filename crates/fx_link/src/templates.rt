@@ -1,4 +1,4 @@
-//! Template records in octets (RFC 7011, section 3.4.1).
+//! Encoding of template records (RFC 7011, section 3.4.1).
 ghost use Rattle.std.specs.Prelude.{◌≡◌, ◌+◌, ◌*◌, ◌++◌, ◌≤◌, OnOk, length};
 ghost use Rattle.fx_elements.specs.Axes.{axis_count};
 ghost use Rattle.fx_link.specs.Records as written;
@@ -7,7 +7,7 @@ use fx_elements::width;
 use fx_layout::{Layout, Part};
 use std::alloc::AllocError;
 
-/// A field specifier of the IANA registry.
+/// Writes a field specifier of the IANA registry. Fails if out of memory.
 fn put_specifier(octets: &mut Vec<u8>, element: u16, length: u16) -> Result<(), AllocError>
     ensures { OnOk result (octets.new.items
         ≡ octets.old.items ++ written.specifier_octets (written.specifier element length)) }
@@ -16,7 +16,7 @@ fn put_specifier(octets: &mut Vec<u8>, element: u16, length: u16) -> Result<(), 
     octets.extend_from_slice(&length.to_be_bytes())
 }
 
-/// The fields of a part of a key.
+/// Writes the fields of a part of a key. Fails if out of memory.
 fn put_part(octets: &mut Vec<u8>, part: Part) -> Result<(), AllocError>
     ensures { OnOk result (octets.new.items
         ≡ octets.old.items ++ written.specifiers_octets (written.part_fields part)) }
@@ -30,7 +30,7 @@ fn put_part(octets: &mut Vec<u8>, part: Part) -> Result<(), AllocError>
     put_specifier(octets, axis.prefix_length_number(), 1)
 }
 
-/// The fields of the parts of a key, then those of the counters.
+/// Writes the fields of the parts of a key, then those of the counters. Fails if out of memory.
 fn put_fields(octets: &mut Vec<u8>, parts: &[Part]) -> Result<(), AllocError>
     ensures { OnOk result (octets.new.items
         ≡ octets.old.items ++ written.specifiers_octets (written.fields_of parts.now)) }
@@ -47,7 +47,7 @@ fn put_fields(octets: &mut Vec<u8>, parts: &[Part]) -> Result<(), AllocError>
     }
 }
 
-/// How many fields the records of a layout have.
+/// Returns how many fields the records of a layout have.
 fn field_count(parts: &[Part]) -> usize
     requires { length parts.now ≤ axis_count }
     ensures count { result ≡ length (written.fields_of parts.now) }
@@ -62,7 +62,8 @@ fn field_count(parts: &[Part]) -> usize
     }
 }
 
-/// A template record: its id, the number of its fields, and the fields of the records of a layout.
+/// Writes a template record: its id, the number of its fields, and the fields of the records of a layout. Fails if out
+/// of memory.
 pub(crate) fn put_template(octets: &mut Vec<u8>, id: u16, layout: &Layout) -> Result<(), AllocError>
     ensures { OnOk result (octets.new.items
         ≡ octets.old.items ++ written.template_octets id layout.now) }
