@@ -1,4 +1,4 @@
-//! A checker of certificates that can be queried where it stops.
+//! A checker of certificates that reports what was due where it stops.
 ghost use Rattle.std.specs.Prelude.{◌≡◌, ◌⊎◌, IfOk, IfErr, OnOk};
 ghost use Rattle.fx_base.specs.Fault.{IsMemory};
 ghost use Rattle.fx_base.specs.Lines.{Fails};
@@ -19,8 +19,8 @@ use fx_traffic::{Target, Traffic};
 use std::alloc::Global;
 use std::marker::Model;
 
-/// A checker of one certificate. After a refusal it is as it was before the refused line, and [`due`](Checker::due) is
-/// what that line had to be.
+/// A checker of one certificate. After a refusal it is as it was before the refused line, and [`due`](Checker::due)
+/// returns what that line had to be.
 pub struct Checker<'a> {
     tables: Tables<'a>,
     targets: Vec<Target<'a>>,
@@ -29,7 +29,7 @@ pub struct Checker<'a> {
 }
 
 impl Drop for Checker<'_> {
-    /// Takes it apart in one place.
+    /// Drops its parts here, so that each drop elsewhere is one call.
     fn drop(self) {
         let Self {
             tables: _,
@@ -55,9 +55,9 @@ impl<'a> Model for Checker<'a> {
 }
 
 impl<'a> Checker<'a> {
-    /// Returns a checker for a certificate of this traffic, before its first line.
+    /// Creates a checker for a certificate of this traffic, before its first line.
     ///
-    /// Fails with 900, at no place, when out of memory. No later call allocates.
+    /// Fails with 900, at no place, if out of memory. No later call allocates.
     pub fn new(alloc: Global, plan: &'a Plan, traffic: &'a Traffic) -> Result<Checker<'a>, Fault>
         ensures net { IfOk result (λ c. c.net ≡ net_of plan.now) }
         ensures targets { IfOk result (λ c. c.targets ≡ targets_of traffic.now) }
@@ -79,11 +79,11 @@ impl<'a> Checker<'a> {
         })
     }
 
-    /// Takes all lines of a certificate, as [`check`](crate::check) does. The checker has taken none before.
+    /// Takes all lines of a certificate, like [`check`](crate::check). The checker has taken none before.
     ///
-    /// Fails as `check` does, but never with 900. The checker is then as it was before the line that is refused, and the
-    /// reader is still at that line: [`due`](Checker::due) is what the line had to be. Where the text ends early, or the
-    /// reader itself fails, the reader's line is empty.
+    /// Fails as `check` does, but never with 900. The checker is then as it was before the line that is refused, and
+    /// the reader is still at that line: [`due`](Checker::due) returns what the line had to be. If the text ends early,
+    /// or if the reader itself fails, the reader's line is empty.
     pub fn take_all<R: Source>(&mut self, lines: &mut LineReader<R>) -> Result<(), Fault>
         requires { IsBeforeFirst self.old }
         ensures net { self.new.net ≡ self.old.net }

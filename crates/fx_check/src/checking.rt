@@ -1,4 +1,4 @@
-//! Checking a certificate, line by line.
+//! Checking of a certificate, line by line.
 ghost use Rattle.std.specs.Prelude.{◌≡◌, ◌⊎◌, ◌≤◌, IfErr, OnOk, length};
 ghost use Rattle.fx_base.specs.Fault.{IsMemory};
 ghost use Rattle.fx_leaf.specs.PathTables.{HasProcessRoom};
@@ -21,7 +21,7 @@ use fx_plan::Plan;
 use fx_traffic::{Target, Traffic};
 use std::alloc::Global;
 
-/// Takes all lines, the first of which is a certificate's first.
+/// Takes all lines, beginning with the first line of a certificate.
 pub(crate) fn take_lines<'t, R: Source>(
     course: &mut Course,
     scratch: &mut PathScratch<'t>,
@@ -53,7 +53,7 @@ pub(crate) fn take_lines<'t, R: Source>(
     }
 }
 
-/// Makes room for the selection processes of each target's path.
+/// Makes room for the selection processes of each target's path. Fails with 900 if out of memory.
 pub(crate) fn make_room(
     scratch: &mut PathScratch<'_>,
     tables: &Tables<'_>,
@@ -71,7 +71,7 @@ pub(crate) fn make_room(
     Ok(())
 }
 
-/// Shows an observer where a certificate is refused.
+/// Reports to an observer where a certificate is refused.
 fn show_refusal<R: Source, W: CheckWatch>(
     checker: &Checker<'_>,
     lines: &LineReader<R>,
@@ -90,24 +90,24 @@ fn show_refusal<R: Source, W: CheckWatch>(
     watch.on_refused(&checker.due(), there, fault);
 }
 
-/// Checks the text of a certificate, which begins with the reader's next line: Ok is the yes. Then each packet of the
-/// traffic, on whichever of its class's paths, is counted exactly once by every complete run of the network, and never
-/// where its class is exempt.
+/// Checks the text of a certificate, which begins with the reader's next line, and returns `Ok` if it is accepted. Then
+/// each packet of the traffic, on any of its class's paths, is counted exactly once by every complete run of the
+/// network, and never if its class is exempt.
 ///
 /// The text is a line `once-certificate 1`; for each path of each class, in order, a line `class CLASS PATH` and a
 /// tree; and a line `end`. A tree is a leaf, `L CROSSING POINT PROCESS`, or a split, `S AXIS AT`, followed by the tree
 /// of the values below `AT` and that of the values from `AT` on. After a first line `once-certificate 2` the leaves of
 /// exempt classes are `N`: none of the packets is counted.
 ///
-/// The text is read once, a line at a time. All memory is taken before the first line is read: 900, at no place, leaves
-/// the reader as it was. Else it fails at the first line where something is wrong, and the reader goes on behind that
-/// line. What is looked for in a line, in this order: 901, at no place, and 903 are the reader's; 405 the text ends
-/// before `end`, or inside the line (at the text's end the place is the number of lines, plus 1); 411 a line behind
-/// `end`; 401 the first line isn't the one above; 402 a later line is no item's text; 403 an item isn't in its place,
-/// or a leaf is of another kind than its class wants;
-/// 414 more than 1,000,000 split and leaf lines; for a split 412, deeper than 511, where the first has depth 0, then
-/// 404, not strictly inside its region; for a leaf 406, 413, 409, 408 and 407, as [`fate`](fx_leaf::fate) answers
-/// them, then 410, another selection process than the one that counts.
+/// The text is read once, a line at a time. All memory is allocated before the first line is read: 900, at no place,
+/// leaves the reader as it was. Otherwise it fails at the first line where something is wrong, and the reader continues
+/// after that line. Each line is checked for the following, in this order: 901, at no place, and 903 are the reader's;
+/// 405 the text ends before `end`, or inside the line (at the text's end the place is the number of lines, plus 1); 411
+/// a line after `end`; 401 the first line isn't the one above; 402 a later line is no item's text; 403 an item isn't in
+/// its place, or a leaf is of another kind than its class requires; 414 more than 1,000,000 split and leaf lines; for a
+/// split 412, deeper than 511, where the first has depth 0, then 404, not strictly inside its region; for a leaf 406,
+/// 413, 409, 408 and 407, as [`fate`](fx_leaf::fate) returns them, then 410, another selection process than the one
+/// that counts.
 pub fn check<R: Source>(
     alloc: Global,
     plan: &Plan,
@@ -124,7 +124,7 @@ pub fn check<R: Source>(
     ensures err { IfErr result (λ e. (IsMemory e × (lines.new ≡ lines.old))
         ⊎ (Fails lines.old lines.new e
         ⊎ MayBeRefused (net_of plan.now) (targets_of traffic.now) lines.old lines.new e)) }
-    // No such certificate is refused: where its text is read, only a lack of memory or a read that failed stops it.
+    // No such certificate is refused: if its text is read, only a lack of memory or a failed read stops the check.
     ensures accepts { IfErr result (Accepts (net_of plan.now) traffic.now lines.old lines.new) }
     // Whatever bytes the reader gives: 900 or 901, 903 at a line, or 401 to 415 at a line.
     ensures numbers { IfErr result (IsToldBy lines.old) }
@@ -132,8 +132,8 @@ pub fn check<R: Source>(
     check_watched(alloc, plan, traffic, lines, &mut Unwatched)
 }
 
-/// Does what [`check`] does, and shows an observer where a certificate is refused. What is returned is the same for every
-/// observer.
+/// Checks the text of a certificate like [`check`], and reports to an observer where it is refused. The result is the
+/// same for every observer.
 pub fn check_watched<R: Source, W: CheckWatch>(
     alloc: Global,
     plan: &Plan,

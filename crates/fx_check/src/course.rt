@@ -1,4 +1,4 @@
-//! The place of a checker in a certificate, and what a line does there.
+//! The progress of a checker through a certificate, and what a line does to it.
 ghost use Rattle.std.specs.Prelude.{◌≡◌, ◌+◌, ◌<◌, ◌≤◌, [], List, ℕ, length, IfOk, IfErr, OnOk, OnErr, Ok, Err, Some, None};
 ghost use Rattle.fx_cert.specs.declared.item.Item.TheVariants as of_item;
 ghost use Rattle.fx_boxes.specs.Boxes.{IsStrictlyInside};
@@ -23,15 +23,15 @@ use fx_leaf::{Counted, PathScratch, Tables};
 use fx_traffic::Target;
 use std::alloc::{AllocError, Global};
 
-/// How many split and leaf lines a certificate may have.
+/// The most split and leaf lines of a certificate.
 const LINES: u32 = 1_000_000;
 
-/// What comes next.
+/// The part of a certificate that comes next.
 #[derive(Clone, Copy)]
 pub(crate) enum Stage {
     /// The first line.
     Header,
-    /// The line of the current target, or the last line behind all targets.
+    /// The line of the current target, or the last line after all targets.
     Between,
     /// The tree of a region of the current target.
     Tree(WaitingRegion),
@@ -39,22 +39,22 @@ pub(crate) enum Stage {
     Ended,
 }
 
-/// The place of a checker in a certificate.
+/// The progress of a checker through a certificate.
 #[derive(Drop)]
 pub(crate) struct Course {
     pub(crate) stage: Stage,
     /// The version that the first line names, 1 before it.
     pub(crate) version: Version,
-    /// The place of the current target, from 0.
+    /// The 0-based place of the current target.
     pub(crate) current: usize,
     /// The upper parts of the splits above the current region.
     pub(crate) waiting: Stack,
-    /// How many split and leaf lines came.
+    /// How many split and leaf lines were read.
     pub(crate) made: u32,
 }
 
 impl Course {
-    /// Before the first line.
+    /// Creates the progress before the first line. Fails if out of memory.
     pub(crate) fn new(alloc: Global) -> Result<Course, AllocError>
         ensures { IfOk result (λ c. (c.stage ≡ Stage.Header) × (c.current ≡ 0) × (c.waiting ≡ [])
             × (c.made ≡ 0)) }
@@ -109,7 +109,7 @@ impl Course {
         Err(LineFault::Place)
     }
 
-    /// Ends the tree of a region: that of the region on top comes next, or the target is done.
+    /// Ends the tree of a region: the region on top is next, or the target is done.
     fn close_region(&mut self, targets: &[Target<'_>])
         requires consistent { IsConsistent targets.now self.old }
         requires stage { IsInTree self.old.stage }
@@ -169,7 +169,7 @@ impl Course {
         Ok(())
     }
 
-    /// Takes a leaf that says that nothing is counted as the tree of a region.
+    /// Takes a leaf which says that nothing is counted as the tree of a region.
     fn never<'t>(
         &mut self,
         scratch: &mut PathScratch<'t>,
@@ -205,8 +205,7 @@ impl Course {
         Ok(())
     }
 
-    /// Moves the selection processes that count packets of the current region before the others, and returns how many
-    /// they are.
+    /// Moves the selection processes that count packets of the current region to the front, and returns their number.
     fn narrow(&self, scratch: &mut PathScratch<'_>) -> usize
         requires narrowed { HasNarrowed self.now.stage self.now.waiting scratch.old.selections }
         requires stage { IsInTree self.now.stage }
@@ -216,14 +215,14 @@ impl Course {
         let Stage::Tree(here) = &self.stage else {
             unreachable!();
         };
-        // To look at one selection process in a leaf costs no more than to look at it here.
+        // Looking at one selection process in a leaf costs no more than looking at it here.
         if here.active <= 1 {
             return here.active;
         }
         scratch.narrow(&here.region, here.active)
     }
 
-    /// Takes a split of a region: its lower part comes next, and its upper part waits.
+    /// Takes a split of a region: its lower part is next, and its upper part waits.
     fn split(
         &mut self,
         scratch: &mut PathScratch<'_>,
@@ -323,7 +322,7 @@ impl Course {
         }
     }
 
-    /// What is wrong with a line that is no item's text.
+    /// Returns what is wrong with a line that is no item's text.
     fn form_fault(&self, targets: &[Target<'_>]) -> LineFault
         requires { IsConsistent targets.now self.now }
         ensures { result ≡ form_fault (goals targets.now self.now) }
@@ -336,10 +335,10 @@ impl Course {
         }
     }
 
-    /// Takes a line, or returns what is wrong with it, in this order: no line feed ends it, it comes after the last
-    /// line, the first line isn't `once-certificate` with its version, another is no item's text, an item isn't in its
-    /// place or a leaf says where exempt packets are counted, split and leaf lines are too many, a split is too deep or
-    /// isn't strictly inside its region, or something is wrong with a leaf.
+    /// Takes a line, or returns the first thing that is wrong with it, in this order: no line feed ends it, it follows
+    /// the last line, the first line isn't `once-certificate` with its version, another is no item's text, an item
+    /// isn't in its place or a leaf says where exempt packets are counted, split and leaf lines are too many, a split
+    /// is too deep or isn't strictly inside its region, or something is wrong with a leaf.
     pub(crate) fn take<'t>(
         &mut self,
         scratch: &mut PathScratch<'t>,
@@ -390,7 +389,7 @@ impl Course {
         }
     }
 
-    /// What is answered at the text's end, behind the line of this number.
+    /// Returns the result at the text's end, after the line of this number.
     pub(crate) fn end(&self, targets: &[Target<'_>], number: u64) -> Result<(), Fault>
         requires { IsConsistent targets.now self.now }
         ensures ok { OnOk result ((n : ℕ) → at_end n (goals targets.now self.now) ≡ None) }
@@ -404,10 +403,10 @@ impl Course {
     }
 }
 
-/// Keeps the lower part of a region that a line splits, and returns the upper part, each one deeper. The first `active`
+/// Keeps the lower part of a region that a line splits, and returns the upper part, both one deeper. The first `active`
 /// selection processes may count packets of both.
 ///
-/// Fails with 414 after 1,000,000 split and leaf lines, else with 412 at depth 512, else with 404 where the split is not
+/// Fails with 414 after 1,000,000 split and leaf lines, then with 412 at depth 512, then with 404 if the split is not
 /// strictly inside the region.
 fn split_waiting(
     made: u32,

@@ -17,9 +17,9 @@ pub enum Due<'a> {
         version: Version,
         /// The path of a class whose tree it belongs to.
         target: &'a Target<'a>,
-        /// The packets that the line is about.
+        /// The packets that the line describes.
         region: &'a Region,
-        /// How many splits the region is below, 0 for the whole region of the class.
+        /// The number of splits above the region, 0 for the whole region of the class.
         depth: u32,
     },
     /// The line `end`.

@@ -1,4 +1,4 @@
-//! What is wrong with a leaf.
+//! Judging of leaves.
 ghost use Rattle.std.specs.Prelude.{◌≡◌, ◌≤◌, Some, None};
 ghost use Rattle.fx_leaf.specs.PathSelections.{IsNarrowed};
 ghost use Rattle.fx_leaf.specs.PathTables.{HasProcessRoom, IsPathBegun};
@@ -16,8 +16,8 @@ fn same_leaf(one: &Counted, other: &Counted) -> bool
     one.crossing == other.crossing && one.point == other.point && one.process == other.process
 }
 
-/// The number of what is wrong with a leaf for a region of a target, if anything is: why no leaf is sound there, or
-/// 410 where another one is.
+/// Returns the number of what is wrong with a leaf for a region of a target, if anything is: why no leaf is sound
+/// there, or 410 if another one is.
 pub(crate) fn leaf_fault(
     scratch: &mut PathScratch<'_>,
     tables: &Tables<'_>,
@@ -48,7 +48,8 @@ pub(crate) fn leaf_fault(
     }
 }
 
-/// The number of what is wrong with a leaf that says that no packet of a region of a target is counted.
+/// Returns the number of what is wrong with a leaf which says that no packet of a region of a target is counted, if
+/// anything is.
 pub(crate) fn never_fault(
     scratch: &mut PathScratch<'_>,
     tables: &Tables<'_>,

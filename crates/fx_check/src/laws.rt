@@ -1,4 +1,4 @@
-//! The laws: no code, but contracts over the definitions.
+//! Laws: no code, but contracts over the definitions.
 ghost use Rattle.std.specs.Prelude.{◌≡◌, ℕ, List, None, Some};
 ghost use Rattle.fx_boxes.specs.Boxes.{Bounds, IsRegion};
 ghost use Rattle.fx_base.specs.Fault.{fault_at};
@@ -15,8 +15,8 @@ ghost use Rattle.fx_check.specs.Judging.{judge_of, IsWrong};
 ghost use Rattle.fx_traffic.specs.Targets.{AreRegions, Target, targets_of};
 ghost use Rattle.fx_check.specs.FirstRefusal.{Line, first_refusal, whole};
 
-/// Lines have no refusal exactly where they are those of a certificate: a sound tree for each path of each class,
-/// within the limits.
+/// States that lines have no refusal exactly if they are those of a certificate: a sound tree for each path of each
+/// class, within the limits.
 pub fn certificates_are_accepted()
     ensures only { (net : network.Net) (classes : List traffic.Class) (before : ℕ)
         (lines : List Line) → IsNetwork net → AreRegions (targets_of classes)
@@ -28,8 +28,8 @@ pub fn certificates_are_accepted()
         (whole (targets_of classes)) lines ≡ None }
 {}
 
-/// Where there is a certificate, each packet of the classes is counted exactly once by every complete run, and those of
-/// exempt classes never.
+/// States that, if there is a certificate, each packet of the classes is counted exactly once by every complete run,
+/// and those of exempt classes never.
 pub fn certificates_count_once()
     ensures once { (net : network.Net) (classes : List traffic.Class) (lines : List Line)
         → IsNetwork net → IsCertificate net classes lines → ExactlyOnce net classes }
@@ -38,9 +38,9 @@ pub fn certificates_count_once()
         → IsNetwork net → IsCertificate net classes lines → OnceModulo net classes }
 {}
 
-/// Where each of several traffic declarations over one network has a certificate of its own, each packet of all their
-/// classes together is counted exactly once by every complete run over them, and those of exempt classes never: more
-/// traffic than one document holds is checked one document at a time.
+/// States that, if each of several traffic declarations over one network has its own certificate, each packet of all
+/// their classes together is counted exactly once by every complete run over them, and those of exempt classes never:
+/// more traffic than one document can hold is checked one document at a time.
 pub fn certificates_join()
     ensures once { (net : network.Net) (declarations : List (List traffic.Class)) → IsNetwork net
         → AllCertified net declarations → ExactlyOnce net (all_classes declarations) }
@@ -50,8 +50,8 @@ pub fn certificates_join()
         → OnceModulo net (all_classes declarations) }
 {}
 
-/// Where something is wrong with a leaf for a region, its number says why no leaf is sound there, or is 410 where
-/// another one is; of a leaf that says that nothing is counted it says why packets are.
+/// States that, if something is wrong with a leaf for a region, its number gives why no leaf is sound there, or is 410
+/// if another one is; for a leaf which says that nothing is counted it gives why packets are.
 pub fn wrong_leaves_are_told()
     ensures counted { (net : network.Net) (target : Target) (region : Bounds) (leaf : Counted)
         (number : ℕ)

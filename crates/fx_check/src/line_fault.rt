@@ -1,34 +1,34 @@
-//! What is wrong with a line of a certificate.
+//! Reasons for refusing lines of a certificate.
 ghost use Rattle.std.specs.Prelude.{◌≡◌};
 ghost use Rattle.fx_check.specs.LineFaults.{number_of};
 
 use fx_base::refusals;
 
-/// Why a line of a certificate is refused.
+/// The reason why a line of a certificate is refused.
 #[derive(Clone, Copy)]
 pub(crate) enum LineFault {
-    /// The first line isn't the one that certificates begin with.
+    /// The first line isn't the first line of a certificate.
     Header,
     /// The line is no item's text.
     Form,
-    /// The item isn't in its place, or a leaf is of another kind than its class wants.
+    /// The item isn't in its place, or a leaf is of another kind than its class requires.
     Place,
     /// A split isn't strictly inside its region.
     SplitPlace,
     /// The text ends inside the line, or before the last one.
     Cut,
-    /// The line comes after the last one.
+    /// The line follows the last one.
     BehindEnd,
     /// A split is too deep.
     SplitDepth,
     /// There are too many split and leaf lines.
     LineCount,
-    /// A leaf isn't the sound one: the number of what is wrong with it.
+    /// A leaf isn't the sound one, with the number of what is wrong with it.
     Leaf(u16),
 }
 
 impl LineFault {
-    /// The fault's number: 401 to 405, 411, 412 and 414 in the variants' order, and the leaf's.
+    /// Returns the fault's number: 401 to 405, 411, 412 and 414 in the variants' order, or the leaf's.
     pub(crate) fn number(self) -> u16
         ensures { result ≡ number_of self }
     {

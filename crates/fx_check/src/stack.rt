@@ -1,11 +1,11 @@
-//! Regions whose trees are still to come.
+//! Regions whose trees weren't read yet.
 ghost use Rattle.std.specs.Prelude.{◌≡◌, ◌<◌, ◌∷◌, ◌++◌, [], length, IfOk, IfNone, option_to_list};
 
 use fx_boxes::Region;
 use std::alloc::{AllocError, Global};
 use std::marker::Model;
 
-/// The depth of a split is below this.
+/// The depth of every split is less than this.
 pub(crate) const DEPTHS: usize = 512;
 
 /// A region that waits for its tree.
@@ -14,11 +14,11 @@ pub(crate) struct WaitingRegion {
     pub(crate) region: Region,
     /// The depth of the tree's root.
     pub(crate) depth: u32,
-    /// How many of the path's selection processes may count packets of the region.
+    /// The number of the path's selection processes that may count packets of the region.
     pub(crate) active: usize,
 }
 
-/// Up to 512 regions, the last of which comes next. All its room is made at the start.
+/// A stack of up to 512 regions, the last of which is next. All its room is made at the start.
 #[derive(Drop)]
 pub(crate) struct Stack {
     items: Vec<WaitingRegion>,
@@ -36,7 +36,7 @@ impl Model for Stack {
 }
 
 impl Stack {
-    /// No regions, and room for 512.
+    /// Creates a stack without regions, with room for 512. Fails if out of memory.
     pub(crate) fn new(alloc: Global) -> Result<Stack, AllocError>
         ensures { IfOk result (λ s. s ≡ []) }
     {
@@ -45,7 +45,7 @@ impl Stack {
         })
     }
 
-    /// Puts a region on top.
+    /// Pushes a region on top.
     pub(crate) fn push(&mut self, waiting: WaitingRegion)
         requires { length self.old < 512 }
         ensures { self.new ≡ self.old ++ waiting ∷ [] }
@@ -56,7 +56,7 @@ impl Stack {
         }
     }
 
-    /// Takes the region on top.
+    /// Removes and returns the region on top, if there is one.
     pub(crate) fn pop(&mut self) -> Option<WaitingRegion>
         ensures items { self.old ≡ self.new ++ option_to_list result }
         ensures none { IfNone result (self.old ≡ []) }

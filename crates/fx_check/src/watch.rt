@@ -2,14 +2,14 @@
 use crate::due::Due;
 use fx_base::{Fault, Line};
 
-/// Gets to see where a certificate is refused. It changes nothing about the check.
+/// An observer of where a certificate is refused. It has no influence on the check.
 pub trait CheckWatch: Drop {
-    /// A line is refused, or the reader of lines failed there: what the line had to be, and the line, which is none where
-    /// the text ends before it.
+    /// Called when a line is refused, or the reader of lines failed there, with what the line had to be, and the line,
+    /// which is `None` if the text ends before it.
     fn on_refused(&mut self, due: &Due<'_>, line: Option<&Line<'_>>, fault: &Fault);
 }
 
-/// Observes nothing.
+/// An observer that ignores everything.
 #[derive(Debug, Drop)]
 pub struct Unwatched;
 
