@@ -15,8 +15,8 @@ use Rattle.fx_traffic.specs.Targets.{Target}
 use Rattle.fx_check.specs.Judging.{Judge}
 use Rattle.fx_check.specs.FirstRefusal.{after}
 use Rattle.fx_check.specs.Remaining.{AreDeep, goals_at, HasBegun, IsConsistentAt, IsInTree}
-use Rattle.fx_check.specs.declared.course.Stage.{Stage}
-use Rattle.fx_check.specs.declared.course.Stage.TheVariants as stage
+use Rattle.fx_check.specs.declared.progress.Stage.{Stage}
+use Rattle.fx_check.specs.declared.progress.Stage.TheVariants as stage
 use Rattle.fx_check.specs.declared.line_fault.LineFault.TheVariants as faults
 use Rattle.fx_check.specs.declared.stack.WaitingRegion.{WaitingRegion}
 

@@ -1,4 +1,4 @@
-pub mod ConsistentCourses
+pub mod ConsistentProgress
 pub mod ItemsRead
 pub mod FirstRefusals
 pub mod LentTables
@@ -9,4 +9,4 @@ pub mod PlanAndTraffic
 pub mod Numbers
 pub mod JoinedCertificates
 pub mod BetweenTrees
-pub mod ReadyCourses
+pub mod ReadyProgress

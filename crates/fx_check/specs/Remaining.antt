@@ -8,9 +8,9 @@ use Rattle.fx_leaf.specs.PathTables.{HasPathRoom, HasProcessRoom, IsPathBegun, P
 use Rattle.fx_leaf.specs.Tables.{Tables}
 use Rattle.fx_traffic.specs.Targets.{Target}
 use Rattle.fx_check.specs.declared.stack.WaitingRegion.{WaitingRegion}
-use Rattle.fx_check.specs.declared.course.Course.{Course}
-use Rattle.fx_check.specs.declared.course.Stage.{Stage}
-use Rattle.fx_check.specs.declared.course.Stage.TheVariants as stage
+use Rattle.fx_check.specs.declared.progress.Progress.{Progress}
+use Rattle.fx_check.specs.declared.progress.Stage.{Stage}
+use Rattle.fx_check.specs.declared.progress.Stage.TheVariants as stage
 use Rattle.fx_check.specs.FirstRefusal.{Goal, header, tree, ahead}
 use Rattle.fx_check.specs.declared.line_fault.LineFault.{LineFault}
 
@@ -37,7 +37,7 @@ goals_at v ts at ws stage.Between = ahead v (drop at ts)
 goals_at v ts at ws (stage.Tree w) = tree_goals v (drop at ts) w ws
 goals_at v ts at ws stage.Ended = []
 
-abbrev pub goals : List Target → Course → List Goal
+abbrev pub goals : List Target → Progress → List Goal
 goals ts c = goals_at c.version ts c.current c.waiting c.stage
 
 -- each region that waits is deeper than its place, which counts from k
@@ -54,7 +54,7 @@ IsConsistentAt ts at ws stage.Between = ws ≡ []
 IsConsistentAt ts at ws (stage.Tree w) = (at < length ts) × AreDeep ws w.depth
 IsConsistentAt ts at ws stage.Ended = ws ≡ []
 
-abbrev pub IsConsistent : List Target → Course → Type 0
+abbrev pub IsConsistent : List Target → Progress → Type 0
 IsConsistent ts c = IsConsistentAt ts c.current c.waiting c.stage
 
 -- in the tree of a region
@@ -92,7 +92,7 @@ pub record IsNarrowedTo (old new : PathTable) (w : WaitingRegion) (active : ℕ)
   pub more : old.room ≤ new.room
 
 -- the room is there in which leaves are judged
-pub record IsReady (t : Tables) (ts : List Target) (c : Course) (p : PathTable) : Type 0 where
+pub record IsReady (t : Tables) (ts : List Target) (c : Progress) (p : PathTable) : Type 0 where
   pub room : HasProcessRoom t p
   pub rooms : HasRooms t ts p
   pub begun : HasBegun t ts c.current c.stage p
@@ -103,7 +103,7 @@ rest_of_tree v [] ws = []
 rest_of_tree v (t ∷ ts) ws = waiting_goals v t ws (ahead v ts)
 
 -- what is to be said after the region's tree
-abbrev pub rest_goals : List Target → Course → List Goal
+abbrev pub rest_goals : List Target → Progress → List Goal
 rest_goals ts c = rest_of_tree c.version (drop c.current ts) c.waiting
 
 -- a call's outcome, with what is left to say

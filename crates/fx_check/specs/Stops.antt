@@ -4,7 +4,7 @@ use Rattle.fx_base.specs.declared.fault.Fault.{Fault}
 use Rattle.fx_base.specs.Lines.{Lines, AtLine, AtTextEnd, RefusesText}
 use Rattle.fx_tables.specs.Network.{Net}
 use Rattle.fx_traffic.specs.Targets.{Target}
-use Rattle.fx_check.specs.declared.course.Course.{Course}
+use Rattle.fx_check.specs.declared.progress.Progress.{Progress}
 use Rattle.fx_check.specs.declared.due.Due.{Due}
 use Rattle.fx_check.specs.declared.due.Due.TheVariants as due
 use Rattle.fx_check.specs.FirstRefusal.{Goal, header, opening, tree, close, whole, reading_of, after_reading, at_line, at_end}
@@ -23,7 +23,7 @@ pub record CheckerState : Type 0 where
 abbrev pub IsBeforeFirst : CheckerState → Type 0
 IsBeforeFirst c = (c.goals ≡ whole c.targets) × (c.made ≡ 0)
 
-abbrev pub state_of : Net → List Target → Course → CheckerState
+abbrev pub state_of : Net → List Target → Progress → CheckerState
 state_of net ts c = record { net = net; targets = ts; goals = goals ts c; made = c.made }
 
 -- this is due where this is still to be said

@@ -9,8 +9,8 @@ ghost use Rattle.fx_check.specs.Outcomes.{IsToldBy, MayBeAccepted, MayBeRefused}
 ghost use Rattle.fx_check.specs.Stops.{IsBeforeFirst, IsDue, IsStop};
 
 use crate::checking::{make_room, take_lines};
-use crate::course::Course;
 use crate::due::Due;
+use crate::progress::Progress;
 use crate::tables::tables_of;
 use fx_base::{Fault, LineReader, Source};
 use fx_leaf::{PathScratch, Tables};
@@ -25,7 +25,7 @@ pub struct Checker<'a> {
     tables: Tables<'a>,
     targets: Vec<Target<'a>>,
     scratch: PathScratch<'a>,
-    course: Course,
+    progress: Progress,
 }
 
 impl Drop for Checker<'_> {
@@ -35,7 +35,7 @@ impl Drop for Checker<'_> {
             tables: _,
             targets: _,
             scratch: _,
-            course: _,
+            progress: _,
         } = self;
     }
 }
@@ -47,11 +47,11 @@ impl<'a> Model for Checker<'a> {
 
     ghost Value = { CheckerState };
 
-    ghost view = { λ c. state_of c.tables.net c.targets.items c.course };
+    ghost view = { λ c. state_of c.tables.net c.targets.items c.progress };
 
     ghost invariant = { λ c. AreTables c.tables
-        × IsReady c.tables c.targets.items c.course c.scratch
-        × IsConsistent c.targets.items c.course };
+        × IsReady c.tables c.targets.items c.progress c.scratch
+        × IsConsistent c.targets.items c.progress };
 }
 
 impl<'a> Checker<'a> {
@@ -70,12 +70,12 @@ impl<'a> Checker<'a> {
         let targets = traffic.targets(alloc)?;
         let mut scratch = PathScratch::new(alloc, &tables)?;
         make_room(&mut scratch, &tables, targets.as_slice())?;
-        let course = Course::new(alloc)?;
+        let progress = Progress::new(alloc)?;
         Ok(Checker {
             tables,
             targets,
             scratch,
-            course,
+            progress,
         })
     }
 
@@ -97,7 +97,7 @@ impl<'a> Checker<'a> {
         ensures numbers { IfErr result (IsToldBy lines.old) }
     {
         take_lines(
-            &mut self.course,
+            &mut self.progress,
             &mut self.scratch,
             &self.tables,
             self.targets.as_slice(),
@@ -109,6 +109,6 @@ impl<'a> Checker<'a> {
     pub fn due(&self) -> Due<'_>
         ensures { IsDue self.now.goals result }
     {
-        self.course.due(self.targets.as_slice())
+        self.progress.due(self.targets.as_slice())
     }
 }

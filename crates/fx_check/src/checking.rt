@@ -13,7 +13,7 @@ ghost use Rattle.fx_check.specs.FirstRefusal.{whole};
 ghost use Rattle.fx_check.specs.Stops.{IsStop, state_of};
 
 use crate::checker::Checker;
-use crate::course::Course;
+use crate::progress::Progress;
 use crate::watch::{CheckWatch, Unwatched};
 use fx_base::{Fault, LineReader, Place, Source};
 use fx_leaf::{PathScratch, Tables};
@@ -23,31 +23,31 @@ use std::alloc::Global;
 
 /// Takes all lines, beginning with the first line of a certificate.
 pub(crate) fn take_lines<'t, R: Source>(
-    course: &mut Course,
+    progress: &mut Progress,
     scratch: &mut PathScratch<'t>,
     tables: &Tables<'t>,
     targets: &[Target<'_>],
     lines: &mut LineReader<R>,
 ) -> Result<(), Fault>
     requires tables { AreTables tables.now }
-    requires ready { IsReady tables.now targets.now course.old scratch.old }
-    requires consistent { IsConsistent targets.now course.old }
-    requires made { course.old.made ≡ 0 }
-    requires goals { goals targets.now course.old ≡ whole targets.now }
+    requires ready { IsReady tables.now targets.now progress.old scratch.old }
+    requires consistent { IsConsistent targets.now progress.old }
+    requires made { progress.old.made ≡ 0 }
+    requires goals { goals targets.now progress.old ≡ whole targets.now }
     ensures ok { OnOk result (MayBeAccepted tables.now.net targets.now lines.old) }
     ensures err { IfErr result (λ e. Fails lines.old lines.new e
         ⊎ MayBeRefused tables.now.net targets.now lines.old lines.new e) }
     ensures stops { IfErr result (IsStop lines.old lines.new
-        (state_of tables.now.net targets.now course.new)) }
+        (state_of tables.now.net targets.now progress.new)) }
     ensures numbers { IfErr result (IsToldBy lines.old) }
-    ensures ready { IsReady tables.now targets.now course.new scratch.new }
-    ensures consistent { IsConsistent targets.now course.new }
+    ensures ready { IsReady tables.now targets.now progress.new scratch.new }
+    ensures consistent { IsConsistent targets.now progress.new }
 {
     'lines: loop {
         if !lines.advance()? {
-            return course.end(targets, lines.number());
+            return progress.end(targets, lines.number());
         }
-        if let Err(fault) = course.take(scratch, tables, targets, &lines.line()) {
+        if let Err(fault) = progress.take(scratch, tables, targets, &lines.line()) {
             return Err(Fault::at_line(fault.number(), lines.number()));
         }
     }

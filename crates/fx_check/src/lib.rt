@@ -3,11 +3,11 @@
 
 mod checker;
 mod checking;
-mod course;
 mod due;
 mod judging;
 mod laws;
 mod line_fault;
+mod progress;
 mod stack;
 mod tables;
 mod watch;

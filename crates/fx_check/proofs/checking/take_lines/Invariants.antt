@@ -9,11 +9,11 @@ use Rattle.fx_check.proofs.checking.take_lines.Given as goal
 
 abbrev pub invariant-lines : goal.invariant-lines
 invariant-lines g l = record {
-  ready : IsReady l.tables l.targets l.course l.scratch;
-  consistent : IsConsistent l.targets l.course;
+  ready : IsReady l.tables l.targets l.progress l.scratch;
+  consistent : IsConsistent l.targets l.progress;
   stopped : (e : Fault) → l.lines.stopped ≡ Some e → l.fn.lines.stopped ≡ Some e;
   on : GoesOnToLines l.fn.lines l.lines;
-  reads : Continues (judge_of l.tables.net) l.fn.lines (whole l.targets) l.lines l.course.made (goals l.targets l.course);
+  reads : Continues (judge_of l.tables.net) l.fn.lines (whole l.targets) l.lines l.progress.made (goals l.targets l.progress);
 }
 
 abbrev pub decreases-lines : goal.decreases-lines

@@ -1,6 +1,6 @@
 use Rattle.fx_check.specs.Judging.{judge_of}
-use Rattle.fx_check.proofs.ConsistentCourses.{refuses_tree, no_tree, region_of}
-use Rattle.fx_check.proofs.course.Course.within.Goals as goal
+use Rattle.fx_check.proofs.ConsistentProgress.{refuses_tree, no_tree, region_of}
+use Rattle.fx_check.proofs.progress.Progress.within.Goals as goal
 
 pub returns-in_default-clause-after : goal.returns-in_default-clause-after
 returns-in_default-clause-after c =

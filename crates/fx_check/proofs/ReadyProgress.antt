@@ -7,8 +7,8 @@ use Rattle.fx_leaf.specs.Tables.{Tables}
 use Rattle.fx_leaf.proofs.NarrowedRegions.{above_lies, below_lies, front_narrowed, last_narrowed, part_narrowed, split_narrowed}
 use Rattle.fx_traffic.specs.Targets.{Target}
 use Rattle.fx_check.specs.Remaining.{HasBegun, HasNarrowed, HasRooms, IsInTree, IsNarrowedTo, below_waits, above_waits}
-use Rattle.fx_check.specs.declared.course.Stage.{Stage}
-use Rattle.fx_check.specs.declared.course.Stage.TheVariants as stage
+use Rattle.fx_check.specs.declared.progress.Stage.{Stage}
+use Rattle.fx_check.specs.declared.progress.Stage.TheVariants as stage
 use Rattle.fx_check.specs.declared.stack.WaitingRegion.{WaitingRegion}
 
 pub rooms_more : (t : Tables) (ts : List Target) (p q : PathTable) → p.room ≤ q.room → HasRooms t ts p → HasRooms t ts q

@@ -1,9 +1,9 @@
 use Rattle.std.proofs.Common.{◌≡◌, ◌∙◌, arith, sym, subst}
 use Rattle.fx_check.specs.Remaining.{IsNarrowedTo}
-use Rattle.fx_check.specs.declared.course.Stage.TheVariants as stage
+use Rattle.fx_check.specs.declared.progress.Stage.TheVariants as stage
 use Rattle.fx_check.specs.declared.stack.WaitingRegion.{WaitingRegion}
-use Rattle.fx_check.proofs.ReadyCourses.{narrowed_there}
-use Rattle.fx_check.proofs.course.Course.narrow.Goals as goal
+use Rattle.fx_check.proofs.ReadyProgress.{narrowed_there}
+use Rattle.fx_check.proofs.progress.Progress.narrow.Goals as goal
 
 pub narrow-requires : goal.narrow-requires
 narrow-requires c = record { narrowed = narrowed_there c.args.self.now.stage c.args.self.now.waiting c.args.scratch.now.selections c.in-Tree.here c.in-Tree.is c.requires.narrowed }

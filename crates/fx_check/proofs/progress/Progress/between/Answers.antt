@@ -5,9 +5,9 @@ use Rattle.fx_leaf.specs.PathTables.{IsPathBegun}
 use Rattle.fx_tables.specs.declared.traffic.Crossing.{Crossing}
 use Rattle.fx_traffic.specs.Targets.{Target}
 use Rattle.fx_check.proofs.BetweenTrees.{class_opens, deep_none, end_closes, no_class, no_end, none_waits, not_both, opens_begun, region_whole, wrong_class}
-use Rattle.fx_check.proofs.ReadyCourses.{narrowed_first, rooms_more}
-use Rattle.fx_check.proofs.course.Course.between.Goals.{else-class-target-via-then-class-target+else-path-target, else-class-target-via-else-class-target}
-use Rattle.fx_check.proofs.course.Course.between.Goals as goal
+use Rattle.fx_check.proofs.ReadyProgress.{narrowed_first, rooms_more}
+use Rattle.fx_check.proofs.progress.Progress.between.Goals.{else-class-target-via-then-class-target+else-path-target, else-class-target-via-else-class-target}
+use Rattle.fx_check.proofs.progress.Progress.between.Goals as goal
 
 pub begin-active-requires-clause-path : goal.begin-active-requires-clause-path
 begin-active-requires-clause-path c =

@@ -1,5 +1,5 @@
-use Rattle.fx_check.proofs.ConsistentCourses.{not_ended}
-use Rattle.fx_check.proofs.course.Course.end.Goals as goal
+use Rattle.fx_check.proofs.ConsistentProgress.{not_ended}
+use Rattle.fx_check.proofs.progress.Progress.end.Goals as goal
 
 pub returns-in_default : goal.returns-in_default
 returns-in_default c = record {

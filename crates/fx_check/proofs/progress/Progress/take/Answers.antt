@@ -4,7 +4,7 @@ use Rattle.fx_check.specs.LineFaults.{number_of}
 use Rattle.fx_check.specs.Remaining.{goals}
 use Rattle.fx_check.specs.FirstRefusal.{LineReading, after_reading, made_after, by_number}
 use Rattle.fx_check.proofs.ItemsRead.{line_says, line_malformed}
-use Rattle.fx_check.proofs.course.Course.take.Goals as goal
+use Rattle.fx_check.proofs.progress.Progress.take.Goals as goal
 
 pub returns-in_default-clause-after : goal.returns-in_default-clause-after
 returns-in_default-clause-after c =

@@ -41,7 +41,7 @@ pub(crate) enum Stage {
 
 /// The progress of a checker through a certificate.
 #[derive(Drop)]
-pub(crate) struct Course {
+pub(crate) struct Progress {
     pub(crate) stage: Stage,
     /// The version that the first line names, 1 before it.
     pub(crate) version: Version,
@@ -53,13 +53,13 @@ pub(crate) struct Course {
     pub(crate) made: u32,
 }
 
-impl Course {
+impl Progress {
     /// Creates the progress before the first line. Fails if out of memory.
-    pub(crate) fn new(alloc: Global) -> Result<Course, AllocError>
+    pub(crate) fn new(alloc: Global) -> Result<Progress, AllocError>
         ensures { IfOk result (λ c. (c.stage ≡ Stage.Header) × (c.current ≡ 0) × (c.waiting ≡ [])
             × (c.made ≡ 0)) }
     {
-        Ok(Course {
+        Ok(Progress {
             stage: Stage::Header,
             version: Version::One,
             current: 0,

@@ -1,10 +1,10 @@
 use Rattle.std.proofs.Common.{List, None, subst, sym, arith}
 use Rattle.fx_leaf.specs.PathSelections.{PathSelection}
 use Rattle.fx_check.specs.Judging.{judge_of}
-use Rattle.fx_check.proofs.ConsistentCourses.{never_out_of_place, never_too_many, never_judged, begun_there, begins_there, region_of, stands}
+use Rattle.fx_check.proofs.ConsistentProgress.{never_out_of_place, never_too_many, never_judged, begun_there, begins_there, region_of, stands}
 use Rattle.fx_check.specs.Remaining.{HasNarrowed}
-use Rattle.fx_check.proofs.ReadyCourses.{narrowed_there, rooms_more}
-use Rattle.fx_check.proofs.course.Course.never.Goals as goal
+use Rattle.fx_check.proofs.ReadyProgress.{narrowed_there, rooms_more}
+use Rattle.fx_check.proofs.progress.Progress.never.Goals as goal
 
 pub returns-then-eq-clause-after : goal.returns-then-eq-clause-after
 returns-then-eq-clause-after c =

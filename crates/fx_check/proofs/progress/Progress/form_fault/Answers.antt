@@ -1,5 +1,5 @@
-use Rattle.fx_check.proofs.ConsistentCourses.{form_fault_between, form_fault_tree}
-use Rattle.fx_check.proofs.course.Course.form_fault.Goals as goal
+use Rattle.fx_check.proofs.ConsistentProgress.{form_fault_between, form_fault_tree}
+use Rattle.fx_check.proofs.progress.Progress.form_fault.Goals as goal
 
 pub returns-in-Between : goal.returns-in-Between
 returns-in-Between c = form_fault_between c.args.self.now.version c.args.targets.now c.args.self.now.current c.args.self.now.waiting c.args.self.now.stage c.in-Between.is

@@ -14,8 +14,8 @@ use Rattle.fx_cert.specs.declared.item.Item.TheVariants as item
 use Rattle.fx_cert.specs.declared.item.Version.{Version}
 use Rattle.fx_traffic.specs.Targets.{Target}
 use Rattle.fx_check.specs.declared.stack.WaitingRegion.{WaitingRegion}
-use Rattle.fx_check.specs.declared.course.Stage.{Stage}
-use Rattle.fx_check.specs.declared.course.Stage.TheVariants as stage
+use Rattle.fx_check.specs.declared.progress.Stage.{Stage}
+use Rattle.fx_check.specs.declared.progress.Stage.TheVariants as stage
 use Rattle.fx_check.specs.FirstRefusal.{Goal, tree, ahead, may_say_never, after, leaf_answer, line_limit, unless_wrong, split_answer, form_fault, at_end, at_line, Refusal}
 use Rattle.fx_base.specs.Lines.{next_number}
 use Rattle.fx_check.specs.Remaining.{below_waits, above_waits, waiting_goals, tree_goals, goals_at, rest_of_tree, AreDeepFrom, AreDeep, IsConsistentAt, IsInTree, HasBegun}

@@ -1,10 +1,10 @@
 use Rattle.std.proofs.Common.{List, None, subst, sym, arith}
 use Rattle.fx_leaf.specs.PathSelections.{PathSelection}
 use Rattle.fx_check.specs.Judging.{judge_of}
-use Rattle.fx_check.proofs.ConsistentCourses.{leaf_out_of_place, leaf_too_many, leaf_judged, begun_there, begins_there, region_of, stands}
+use Rattle.fx_check.proofs.ConsistentProgress.{leaf_out_of_place, leaf_too_many, leaf_judged, begun_there, begins_there, region_of, stands}
 use Rattle.fx_check.specs.Remaining.{HasNarrowed}
-use Rattle.fx_check.proofs.ReadyCourses.{narrowed_there, rooms_more}
-use Rattle.fx_check.proofs.course.Course.leaf.Goals as goal
+use Rattle.fx_check.proofs.ReadyProgress.{narrowed_there, rooms_more}
+use Rattle.fx_check.proofs.progress.Progress.leaf.Goals as goal
 
 pub returns-then-target-clause-after : goal.returns-then-target-clause-after
 returns-then-target-clause-after c =
