@@ -13,7 +13,7 @@ use Rattle.fx_elements.proofs.EveryAxis.{along, axis_is, each_on, index_at, inde
 use Rattle.fx_boxes.specs.Boxes.{IsFields}
 use Rattle.fx_layout.specs.Keys.{Layout, Key, key_of}
 use Rattle.fx_wire.specs.Values.{Value}
-use Rattle.fx_session.specs.declared.seen.Seen.{Seen}
+use Rattle.fx_session.specs.declared.field_numbers.FieldNumbers.{FieldNumbers}
 use Rattle.fx_session.specs.Flows.{Found, found_in, is_refused, key_by, found_or_none, layout_of, fields_of, flow_in, part_of, value_of}
 use Rattle.fx_session.specs.Parts.{AllStand, IsTold, Stands, bits_of, layout_by}
 use Rattle.fx_session.specs.Values.{Notes, noted_part}
@@ -75,7 +75,7 @@ same_values : (f g : Axis → ℕ) (xs : List Axis) → ((axis : Axis) → f axi
 same_values f g [] h = refl
 same_values f g (x ∷ xs) h = cc (h x, same_values f g xs h)
 
-same_part : (seen : Seen) (vs : List Value) → Notes seen vs → (axis : Axis) → noted_part seen axis ≡ found_in vs axis
+same_part : (seen : FieldNumbers) (vs : List Value) → Notes seen vs → (axis : Axis) → noted_part seen axis ≡ found_in vs axis
 same_part seen vs h axis = cc (h.numbers axis, h.prefixes axis, h.lengths axis)
 
 key_refused : (found : Axis → Result Found StreamFault) (axis : Axis) → is_refused (found axis) ≡ true → key_by found ≡ Err faults.PrefixLength
@@ -88,13 +88,13 @@ key_known found own h =
     ∙ ap (λ (l : Layout). Ok (key_of l (fields_of (λ axis. found_or_none (found axis))))) (same_parts (λ axis. part_of axis (found_or_none (found axis))) (λ axis. part_of axis (own axis)) axes (λ axis. ap (λ (r : Result Found StreamFault). part_of axis (found_or_none r)) (h axis)))
     ∙ ap (λ (f : List ℕ). Ok (key_of (layout_of own) f)) (same_values (λ axis. value_of axis (found_or_none (found axis))) (λ axis. value_of axis (own axis)) axes (λ axis. ap (λ (r : Result Found StreamFault). value_of axis (found_or_none r)) (h axis)))
 
-pub flow_refused : (seen : Seen) (octets packets : ℕ) (fault : StreamFault) → seen.octets ≡ Some octets → seen.packets ≡ Some packets → (fault ≡ faults.PrefixLength) × (axis : Axis) × (is_refused (noted_part seen axis) ≡ true) → (vs : List Value) → Notes seen vs → Err fault ≡ flow_in vs
+pub flow_refused : (seen : FieldNumbers) (octets packets : ℕ) (fault : StreamFault) → seen.octets ≡ Some octets → seen.packets ≡ Some packets → (fault ≡ faults.PrefixLength) × (axis : Axis) × (is_refused (noted_part seen axis) ≡ true) → (vs : List Value) → Notes seen vs → Err fault ≡ flow_in vs
 unfolding flow_in
 flow_refused seen octets packets fault o p refusal vs h =
     let key = key_refused (found_in vs) refusal.1 (ap is_refused (sym (same_part seen vs h refusal.1)) ∙ refusal.2) in
     cc (o, p, h.octets, h.packets, key, refusal.0)
 
-pub flow_known : (seen : Seen) (octets packets : ℕ) (bits values : List ℕ) (key : Key) → seen.octets ≡ Some octets → seen.packets ≡ Some packets → length values ≡ axis_count
+pub flow_known : (seen : FieldNumbers) (octets packets : ℕ) (bits values : List ℕ) (key : Key) → seen.octets ≡ Some octets → seen.packets ≡ Some packets → length values ≡ axis_count
     → ((axis : Axis) → IsTold bits values axis (noted_part seen axis)) → key ≡ key_of (layout_by bits) values → (vs : List Value) → Notes seen vs
     → Ok (Some (record { key = key; counts = record { packets = packets % 2 ^ 64; octets = octets % 2 ^ 64 } })) ≡ flow_in vs
 unfolding flow_in

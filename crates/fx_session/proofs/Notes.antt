@@ -14,8 +14,8 @@ use Rattle.fx_wire.specs.Fields.{element_of}
 use Rattle.fx_wire.specs.Values.{Value, value_at, record_at, before_values}
 use Rattle.fx_wire.specs.declared.field.FieldSpecifier.{FieldSpecifier}
 use Rattle.fx_wire.proofs.RecordSteps.{here_and_on, none_left, record_at-first, record_at-cut, record_at-end}
-use Rattle.fx_session.specs.declared.seen.Numbers.{Numbers}
-use Rattle.fx_session.specs.declared.seen.Seen.{Seen}
+use Rattle.fx_session.specs.declared.field_numbers.Numbers.{Numbers}
+use Rattle.fx_session.specs.declared.field_numbers.FieldNumbers.{FieldNumbers}
 use Rattle.fx_session.specs.Flows.{first_where, is_value, is_prefix, is_prefix_length, is_octets, is_packets, number_in}
 use Rattle.fx_session.specs.Values.{Notes, number_on, first_on}
 
@@ -84,7 +84,7 @@ noted_before old own place n at is axis = by (same_axis own axis) refl where
 
 -- ---- a value of each kind of element
 
-pub note_value : (seen : Seen) (vs : List Value) (v : Value) (own : Axis) (new : Numbers) → element_of v.field ≡ OnAxis own
+pub note_value : (seen : FieldNumbers) (vs : List Value) (v : Value) (own : Axis) (new : Numbers) → element_of v.field ≡ OnAxis own
     → ((axis : Axis) → number_on new axis ≡ first_on seen.numbers own (number_in v.content) axis) → Notes seen vs → Notes (record seen { numbers = new }) (vs ++ v ∷ [])
 note_value seen vs v own new e is h = record {
   numbers = taken_on is_value vs v own seen.numbers new (λ a. ap (is_value a) e) is h.numbers;
@@ -94,7 +94,7 @@ note_value seen vs v own new e is h = record {
   packets = kept is_packets vs v _ (ap is_packets e) h.packets;
 }
 
-pub note_prefix : (seen : Seen) (vs : List Value) (v : Value) (own : Axis) (new : Numbers) → element_of v.field ≡ Prefix own
+pub note_prefix : (seen : FieldNumbers) (vs : List Value) (v : Value) (own : Axis) (new : Numbers) → element_of v.field ≡ Prefix own
     → ((axis : Axis) → number_on new axis ≡ first_on seen.prefixes own (number_in v.content) axis) → Notes seen vs → Notes (record seen { prefixes = new }) (vs ++ v ∷ [])
 note_prefix seen vs v own new e is h = record {
   numbers = λ axis. kept (is_value axis) vs v _ (ap (is_value axis) e) (h.numbers axis);
@@ -104,7 +104,7 @@ note_prefix seen vs v own new e is h = record {
   packets = kept is_packets vs v _ (ap is_packets e) h.packets;
 }
 
-pub note_length : (seen : Seen) (vs : List Value) (v : Value) (own : Axis) (new : Numbers) → element_of v.field ≡ PrefixLength own
+pub note_length : (seen : FieldNumbers) (vs : List Value) (v : Value) (own : Axis) (new : Numbers) → element_of v.field ≡ PrefixLength own
     → ((axis : Axis) → number_on new axis ≡ first_on seen.lengths own (number_in v.content) axis) → Notes seen vs → Notes (record seen { lengths = new }) (vs ++ v ∷ [])
 note_length seen vs v own new e is h = record {
   numbers = λ axis. kept (is_value axis) vs v _ (ap (is_value axis) e) (h.numbers axis);
@@ -114,7 +114,7 @@ note_length seen vs v own new e is h = record {
   packets = kept is_packets vs v _ (ap is_packets e) h.packets;
 }
 
-pub note_octets : (seen : Seen) (vs : List Value) (v : Value) (new : Option ℕ) → element_of v.field ≡ OctetDeltaCount → new ≡ option_or seen.octets (Some (number_in v.content)) → Notes seen vs → Notes (record seen { octets = new }) (vs ++ v ∷ [])
+pub note_octets : (seen : FieldNumbers) (vs : List Value) (v : Value) (new : Option ℕ) → element_of v.field ≡ OctetDeltaCount → new ≡ option_or seen.octets (Some (number_in v.content)) → Notes seen vs → Notes (record seen { octets = new }) (vs ++ v ∷ [])
 note_octets seen vs v new e is h = record {
   numbers = λ axis. kept (is_value axis) vs v _ (ap (is_value axis) e) (h.numbers axis);
   prefixes = λ axis. kept (is_prefix axis) vs v _ (ap (is_prefix axis) e) (h.prefixes axis);
@@ -123,7 +123,7 @@ note_octets seen vs v new e is h = record {
   packets = kept is_packets vs v _ (ap is_packets e) h.packets;
 }
 
-pub note_packets : (seen : Seen) (vs : List Value) (v : Value) (new : Option ℕ) → element_of v.field ≡ PacketDeltaCount → new ≡ option_or seen.packets (Some (number_in v.content)) → Notes seen vs → Notes (record seen { packets = new }) (vs ++ v ∷ [])
+pub note_packets : (seen : FieldNumbers) (vs : List Value) (v : Value) (new : Option ℕ) → element_of v.field ≡ PacketDeltaCount → new ≡ option_or seen.packets (Some (number_in v.content)) → Notes seen vs → Notes (record seen { packets = new }) (vs ++ v ∷ [])
 note_packets seen vs v new e is h = record {
   numbers = λ axis. kept (is_value axis) vs v _ (ap (is_value axis) e) (h.numbers axis);
   prefixes = λ axis. kept (is_prefix axis) vs v _ (ap (is_prefix axis) e) (h.prefixes axis);
@@ -133,7 +133,7 @@ note_packets seen vs v new e is h = record {
 }
 
 -- an element that is not read
-pub note_none : (seen : Seen) (vs : List Value) (v : Value) (element : Element) → element_of v.field ≡ element
+pub note_none : (seen : FieldNumbers) (vs : List Value) (v : Value) (element : Element) → element_of v.field ≡ element
     → ((axis : Axis) → is_value axis element ≡ false) → ((axis : Axis) → is_prefix axis element ≡ false) → ((axis : Axis) → is_prefix_length axis element ≡ false) → is_octets element ≡ false → is_packets element ≡ false
     → Notes seen vs → Notes seen (vs ++ v ∷ [])
 note_none seen vs v element e value prefix length octets packets h = record {

@@ -5,9 +5,9 @@ ghost use Rattle.fx_session.specs.DataSets as sets;
 ghost use Rattle.fx_session.specs.DataReading as reading;
 ghost use Rattle.fx_session.specs.Calls.{Does, Grows};
 
+use crate::field_numbers::{FieldNumbers, read_record};
 use crate::flow::flow_of;
 use crate::key::LastLayout;
-use crate::seen::{Seen, read_record};
 use crate::stream_fault::StreamFault;
 use crate::taken::Taken;
 use crate::template::Template;
@@ -20,7 +20,7 @@ use fx_wire::cut_record;
 /// taken then.
 fn take_by_fields<'a>(
     template: &Template,
-    seen: &mut Seen,
+    seen: &mut FieldNumbers,
     last: &mut LastLayout,
     taken: &mut Taken,
     octets: &'a [u8],
@@ -41,7 +41,7 @@ fn take_by_fields<'a>(
 /// taken then.
 fn take_flow<'a>(
     template: &Template,
-    seen: &mut Seen,
+    seen: &mut FieldNumbers,
     last: &mut LastLayout,
     values: &mut Values,
     taken: &mut Taken,
@@ -71,7 +71,7 @@ pub(crate) fn take_flows(
     ensures grows { Grows taken.old.waiting taken.new.waiting }
 {
     let shortest = template.shortest();
-    let mut seen = Seen::new();
+    let mut seen = FieldNumbers::new();
     let mut last = LastLayout::new();
     let mut values = Values::new();
     let mut rest = octets;

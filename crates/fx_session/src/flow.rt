@@ -4,8 +4,8 @@ ghost use Rattle.fx_session.specs.Flows as flows;
 ghost use Rattle.fx_session.specs.Parts as parts;
 ghost use Rattle.fx_session.specs.Values as values;
 
+use crate::field_numbers::FieldNumbers;
 use crate::key::{LastLayout, Leading, bits_of, prefix_part, value_of};
-use crate::seen::Seen;
 use crate::stream_fault::StreamFault;
 use fx_base::Counts;
 use fx_boxes::Fields;
@@ -15,7 +15,7 @@ use fx_tables::Record;
 /// Returns what is known on the axis: its value, or what a prefix of it gives.
 ///
 /// Fails if a prefix that is read is longer than the address.
-fn noted_part(axis: Axis, seen: &Seen) -> Result<Option<Leading>, StreamFault>
+fn noted_part(axis: Axis, seen: &FieldNumbers) -> Result<Option<Leading>, StreamFault>
     ensures part { result ≡ values.noted_part seen.now axis }
     ensures stands { parts.PartStands axis result }
 {
@@ -36,7 +36,7 @@ fn noted_part(axis: Axis, seen: &Seen) -> Result<Option<Leading>, StreamFault>
 ///
 /// Fails if a prefix that is read is longer than the address.
 fn gather(
-    seen: &Seen,
+    seen: &FieldNumbers,
     bits: &mut [u32; AXES],
     numbers: &mut [u128; AXES],
 ) -> Result<(), StreamFault>
@@ -55,7 +55,10 @@ fn gather(
 ///
 /// Fails if a prefix that is read is longer than the address.
 #[tactic(auto, unfolding(crate::specs::Flows::flow_in))]
-pub(crate) fn flow_of(last: &mut LastLayout, seen: &Seen) -> Result<Option<Record>, StreamFault>
+pub(crate) fn flow_of(
+    last: &mut LastLayout,
+    seen: &FieldNumbers,
+) -> Result<Option<Record>, StreamFault>
     ensures { (vs : values.Values) → values.Notes seen.now vs → result ≡ flows.flow_in vs }
 {
     let Some(octets) = seen.octets else {

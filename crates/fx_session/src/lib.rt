@@ -3,6 +3,7 @@
 
 mod data_set;
 mod domain;
+mod field_numbers;
 mod flow;
 mod front;
 mod key;
@@ -10,7 +11,6 @@ mod known;
 mod laws;
 mod number;
 mod places;
-mod seen;
 mod session;
 mod sets;
 mod stream_fault;

@@ -75,7 +75,7 @@ impl Numbers {
 /// The first number of each element that is read: the values on the axes, prefixes and their lengths, and the counters.
 /// It is reused from record to record, so that no record needs new space for it.
 #[derive(Drop)]
-pub(crate) struct Seen {
+pub(crate) struct FieldNumbers {
     pub numbers: Numbers,
     pub prefixes: Numbers,
     pub lengths: Numbers,
@@ -83,12 +83,12 @@ pub(crate) struct Seen {
     pub packets: Option<u128>,
 }
 
-impl Seen {
+impl FieldNumbers {
     /// Creates the numbers with none noted.
-    pub(crate) fn new() -> Seen
+    pub(crate) fn new() -> FieldNumbers
         ensures { values.Notes result [] }
     {
-        Seen {
+        FieldNumbers {
             numbers: Numbers::new(),
             prefixes: Numbers::new(),
             lengths: Numbers::new(),
@@ -128,7 +128,7 @@ impl Seen {
 /// Notes the numbers of the record at the front, read under a template. Returns the octets after it, `None` if it is
 /// cut.
 pub(crate) fn read_record<'a>(
-    seen: &mut Seen,
+    seen: &mut FieldNumbers,
     template: &Template,
     octets: &'a [u8],
 ) -> Option<&'a [u8]>

@@ -3,7 +3,7 @@ use Rattle.std.proofs.lemmas.List.{append-nil}
 use Rattle.fx_wire.specs.Values.{Value, before_values, record_at}
 use Rattle.fx_wire.specs.declared.field.FieldSpecifier.{FieldSpecifier}
 use Rattle.fx_session.proofs.Notes.{record_at-cut_at, record_at-some_at, record_at-all, before_values-again, element_at}
-use Rattle.fx_session.proofs.seen.read_record.Goals as goal
+use Rattle.fx_session.proofs.field_numbers.read_record.Goals as goal
 
 pub returns-in-None-clause-none : goal.returns-in-None-clause-none
 returns-in-None-clause-none c =

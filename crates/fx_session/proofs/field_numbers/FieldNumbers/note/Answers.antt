@@ -5,7 +5,7 @@ use Rattle.fx_session.specs.Flows.{is_value, is_prefix, is_prefix_length, is_oct
 use Rattle.fx_session.specs.Values.{Notes}
 use Rattle.fx_elements.specs.declared.element.Element.TheVariants.{OctetTotalCount, PacketTotalCount, Other}
 use Rattle.fx_session.proofs.Notes.{note_value, note_prefix, note_length, note_octets, note_packets, note_none}
-use Rattle.fx_session.proofs.seen.Seen.note.Goals as goal
+use Rattle.fx_session.proofs.field_numbers.FieldNumbers.note.Goals as goal
 
 pub returns-in-OnAxis : goal.returns-in-OnAxis
 returns-in-OnAxis c = λ vs field e known. note_value c.args.self.now vs (record { field = field; content = c.args.content.now }) c.in-OnAxis.axis c.note.new.self (e ∙ c.in-OnAxis.is) c.note.ensures known
