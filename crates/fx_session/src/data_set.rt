@@ -9,7 +9,7 @@ use crate::field_numbers::{FieldNumbers, read_record};
 use crate::flow::flow_of;
 use crate::key::LastLayout;
 use crate::stream_fault::StreamFault;
-use crate::taken::Taken;
+use crate::taken_records::TakenRecords;
 use crate::template::Template;
 use fx_layout::Values;
 use fx_wire::cut_record;
@@ -22,7 +22,7 @@ fn take_by_fields<'a>(
     template: &Template,
     seen: &mut FieldNumbers,
     last: &mut LastLayout,
-    taken: &mut Taken,
+    taken: &mut TakenRecords,
     octets: &'a [u8],
 ) -> Result<&'a [u8], StreamFault>
     ensures done { reading.Follows
@@ -44,7 +44,7 @@ fn take_flow<'a>(
     seen: &mut FieldNumbers,
     last: &mut LastLayout,
     values: &mut Values,
-    taken: &mut Taken,
+    taken: &mut TakenRecords,
     octets: &'a [u8],
 ) -> Result<&'a [u8], StreamFault>
     requires { shortest_record template.now.fields ≤ length octets.now }
@@ -64,7 +64,7 @@ fn take_flow<'a>(
 /// Fails with the fault of the first record that is refused.
 pub(crate) fn take_flows(
     template: &Template,
-    taken: &mut Taken,
+    taken: &mut TakenRecords,
     octets: &[u8],
 ) -> Result<(), StreamFault>
     ensures done { Does result (sets.flow_set template.now.fields taken.old octets.now) taken.new }
@@ -86,7 +86,7 @@ pub(crate) fn take_flows(
 /// Fails if one is cut.
 pub(crate) fn pass_records(
     template: &Template,
-    taken: &mut Taken,
+    taken: &mut TakenRecords,
     octets: &[u8],
 ) -> Result<(), StreamFault>
     ensures done { Does result (sets.option_set template.now.fields taken.old octets.now)

@@ -7,7 +7,7 @@ ghost use Rattle.fx_session.specs.Streams as streams;
 use crate::domain::{Domain, put_domain, take_domain};
 use crate::sets::take_sets;
 use crate::stream_fault::StreamFault;
-use crate::taken::Taken;
+use crate::taken_records::TakenRecords;
 use crate::watch::SessionWatch;
 use fx_tables::Record;
 use fx_wire::Message;
@@ -20,7 +20,7 @@ use std::marker::Model;
 #[derive(Drop)]
 pub(crate) struct Known {
     domains: BTreeMap<u32, Domain>,
-    taken: Taken,
+    taken: TakenRecords,
     gaps: u64,
 }
 
@@ -62,7 +62,7 @@ fn gaps_after<W: SessionWatch>(gaps: u64, next: Option<u32>, sequence: u32, watc
 fn read_message<W: SessionWatch>(
     alloc: Global,
     domains: &mut BTreeMap<u32, Domain>,
-    taken: &mut Taken,
+    taken: &mut TakenRecords,
     gaps: &mut u64,
     message: &Message<'_>,
     watch: &mut W,
@@ -107,7 +107,7 @@ impl Known {
     {
         Known {
             domains: BTreeMap::new(alloc),
-            taken: Taken::new(alloc),
+            taken: TakenRecords::new(alloc),
             gaps: 0,
         }
     }

@@ -14,7 +14,7 @@ mod places;
 mod session;
 mod sets;
 mod stream_fault;
-mod taken;
+mod taken_records;
 mod template;
 mod template_set;
 mod templates;

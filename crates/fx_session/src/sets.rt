@@ -7,7 +7,7 @@ ghost use Rattle.fx_session.specs.Templates as tables;
 
 use crate::data_set::{pass_records, take_flows};
 use crate::stream_fault::StreamFault;
-use crate::taken::Taken;
+use crate::taken_records::TakenRecords;
 use crate::template::Template;
 use crate::template_set::take_templates;
 use crate::templates::Templates;
@@ -35,7 +35,7 @@ fn report_data<W: SessionWatch>(
 /// Fails if there is no such template, and with the fault of the first record that is refused.
 fn take_data<W: SessionWatch>(
     templates: &Templates,
-    taken: &mut Taken,
+    taken: &mut TakenRecords,
     id: u16,
     content: &[u8],
     watch: &mut W,
@@ -82,7 +82,7 @@ fn take_data<W: SessionWatch>(
 fn take_set<W: SessionWatch>(
     alloc: Global,
     templates: &mut Templates,
-    taken: &mut Taken,
+    taken: &mut TakenRecords,
     set: &Set<'_>,
     watch: &mut W,
 ) -> Result<(), StreamFault>
@@ -106,7 +106,7 @@ fn take_set<W: SessionWatch>(
 pub(crate) fn take_sets<W: SessionWatch>(
     alloc: Global,
     templates: &mut Templates,
-    taken: &mut Taken,
+    taken: &mut TakenRecords,
     sets: Sets<'_>,
     watch: &mut W,
 ) -> Result<(), StreamFault>

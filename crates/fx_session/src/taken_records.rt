@@ -16,7 +16,7 @@ use std::marker::Model;
 /// The records from `start` to `end` wait. The others are places for later records, so that a record that is read at
 /// its places is assembled where it waits.
 #[derive(Drop)]
-pub(crate) struct Taken {
+pub(crate) struct TakenRecords {
     records: Vec<Record>,
     start: usize,
     end: usize,
@@ -24,7 +24,7 @@ pub(crate) struct Taken {
     count: u32,
 }
 
-impl Model for Taken {
+impl Model for TakenRecords {
     ghost use Rattle.std.specs.Prelude.{◌≤◌, length, slice_range};
     ghost use Rattle.fx_session.specs.DataSets as sets;
 
@@ -95,12 +95,12 @@ fn find_place(
     make_place(records, start, end)
 }
 
-impl Taken {
+impl TakenRecords {
     /// Creates the state in which nothing was taken.
-    pub fn new(alloc: Global) -> Taken
+    pub fn new(alloc: Global) -> TakenRecords
         ensures { result ≡ record { waiting = []; skipped = 0; count = 0 } }
     {
-        Taken {
+        TakenRecords {
             records: Vec::new(alloc),
             start: 0,
             end: 0,

@@ -2,7 +2,7 @@ use Rattle.std.proofs.Common.{◌+◌, ◌∷◌, ◌∙◌, List, ap, sym, slic
 use Rattle.fx_tables.specs.declared.record.Record.{Record}
 use Rattle.fx_session.specs.DataSets.{Taken}
 use Rattle.fx_session.proofs.PlacesThatWait.{first_waits}
-use Rattle.fx_session.proofs.taken.Taken.next.Goals as goal
+use Rattle.fx_session.proofs.taken_records.TakenRecords.next.Goals as goal
 
 pub returns : goal.returns
 returns c =
