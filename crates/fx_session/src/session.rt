@@ -7,8 +7,8 @@ ghost use Rattle.fx_session.specs.declared.stream_fault.StreamFault.TheVariants 
 ghost use Rattle.fx_base.specs.Refusals.{want_of_memory};
 
 use crate::front::remove_front;
-use crate::known::Known;
 use crate::stream_fault::StreamFault;
+use crate::stream_state::StreamState;
 use crate::watch::{SessionWatch, Unwatched};
 use fx_base::{Fault, refusals};
 use fx_tables::Record;
@@ -20,7 +20,7 @@ use std::marker::Model;
 /// any.
 fn take_messages<W: SessionWatch>(
     alloc: Global,
-    known: &mut Known,
+    known: &mut StreamState,
     place: &mut u64,
     octets: &[u8],
     watch: &mut W,
@@ -64,7 +64,7 @@ fn take_messages<W: SessionWatch>(
 /// octets, and the number of the fault that it returns from then on.
 pub struct Session {
     alloc: Global,
-    known: Known,
+    known: StreamState,
     place: u64,
     octets: Vec<u8>,
     fault: Option<StreamFault>,
@@ -115,7 +115,7 @@ impl Session {
     {
         Ok(Session {
             alloc,
-            known: Known::new(alloc),
+            known: StreamState::new(alloc),
             place: 0,
             octets: Vec::new(alloc),
             fault: None,

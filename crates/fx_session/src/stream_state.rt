@@ -1,4 +1,4 @@
-//! The state of a session between messages.
+//! What a session knows of its stream between messages.
 ghost use Rattle.std.specs.Prelude.{◌≡◌, ◌≢◌, ◌+◌, ◌++◌, ◌%◌, ◌^◌, [], ◌∷◌, Ok, Err, OnErr, Some, None};
 ghost use Rattle.fx_session.specs.Calls.{Does, Grows};
 ghost use Rattle.fx_session.specs.Messages as messages;
@@ -15,16 +15,16 @@ use std::alloc::Global;
 use std::collections::BTreeMap;
 use std::marker::Model;
 
-/// What a session knows: its domains, the waiting records, and the numbers of gaps and of skipped records, modulo 2 to
-/// the 64.
+/// What a session knows of its stream: its domains, the waiting records, and the numbers of gaps and of skipped
+/// records, modulo 2 to the 64.
 #[derive(Drop)]
-pub(crate) struct Known {
+pub(crate) struct StreamState {
     domains: BTreeMap<u32, Domain>,
     taken: TakenRecords,
     gaps: u64,
 }
 
-impl Model for Known {
+impl Model for StreamState {
     ghost use Rattle.fx_session.specs.Messages as messages;
 
     ghost Value = { messages.Known };
@@ -100,12 +100,12 @@ fn read_message<W: SessionWatch>(
     Ok(())
 }
 
-impl Known {
+impl StreamState {
     /// Creates a state that knows nothing.
-    pub fn new(alloc: Global) -> Known
+    pub fn new(alloc: Global) -> StreamState
         ensures { result ≡ record { domains = []; waiting = []; gaps = 0; skipped = 0 } }
     {
-        Known {
+        StreamState {
             domains: BTreeMap::new(alloc),
             taken: TakenRecords::new(alloc),
             gaps: 0,
