@@ -1,4 +1,4 @@
-//! A store with a bound, which the least recently added-to entry leaves.
+//! A store with a bound, which evicts the least recently updated entry.
 ghost use Rattle.std.specs.Prelude.{◌≡◌, ◌≤◌, ◌<◌, [], None, Some, length, option_map, OnOk, OnErr, IfOk, IfErr, IfSome, IfNone, IsOk, IsSome};
 ghost use Rattle.std.specs.FinMap as map;
 ghost use Rattle.fx_base.specs.Fault.{IsMemory};
@@ -17,15 +17,15 @@ use std::collections::BTreeSet;
 use std::marker::Model;
 use std::num::NonZeroUsize;
 
-/// A store of at most so many entries, seen as the list of its entries, the latest added-to first.
+/// A store of at most the given number of entries, seen as the list of its entries, the most recently updated first.
 ///
-/// Where it is full and a new key comes, the least recently added-to entry leaves. Keys are found by
-/// a hash of its seed.
+/// If it is full and a new key is added, the least recently updated entry leaves. Keys are found by a hash with its
+/// seed.
 #[derive(Drop)]
 pub struct BoundedStore {
     recent: LruCache<Ordered, Counts, Seed>,
     order: BTreeSet<Ordered>,
-    /// The room of a packet's key, by which it is looked up.
+    /// Space for a packet's key, which is used to look it up.
     probe: Ordered,
 }
 
@@ -41,9 +41,9 @@ impl Model for BoundedStore {
 }
 
 impl BoundedStore {
-    /// A store of nothing, with room for so many entries, which hashes keys by the seed.
+    /// Creates an empty store with room for the given number of entries, which hashes keys with the seed.
     ///
-    /// Fails with 900, at no place, for want of memory.
+    /// Fails with 900, at no place, if out of memory.
     pub fn new(alloc: Global, seed: Seed, capacity: usize) -> Result<BoundedStore, Fault>
         requires { 1 ≤ capacity }
         ensures ok { IfOk result (λ s. s ≡ record { entries = []; capacity = capacity }) }
@@ -59,14 +59,15 @@ impl BoundedStore {
         })
     }
 
-    /// Adds the counts at a key that isn't there.
+    /// Adds the counts at a key that isn't in the store. Fails with 900 if out of memory.
     fn add_new(&mut self, key: Ordered, counts: Counts) -> Result<Option<(Key, Counts)>, Fault>
         requires { counts_at self.old.entries key ≡ None }
         ensures recent { OnOk result (self.new ≡ after_add self.old key counts) }
         ensures leaves { IfOk result (λ left. left ≡ pushed_out self.old key counts) }
         ensures err { IfErr result (λ e. IsMemory e × (self.new ≡ self.old)) }
     {
-        // For the prover alone, here and below: `len` says that keys are distinct and fit, the other calls don't.
+        // This line and similar ones below are only for the prover: `len` gives it that keys are distinct and fit,
+        // which the other calls don't.
         let _held = self.recent.len();
         self.order.insert(key.copy())?;
         match self.recent.push(key, counts) {
@@ -86,8 +87,7 @@ impl BoundedStore {
 impl FlowStore for BoundedStore {
     ghost flows = { λ s. flows_of s.entries };
 
-    /// Adds the counts at the key. Where the store is full and the key is new, the least recently
-    /// added-to entry leaves.
+    /// Adds the counts at the key. If the store is full and the key is new, the least recently updated entry leaves.
     fn add(&mut self, key: Key, counts: Counts) -> Result<Option<(Key, Counts)>, Fault>
         ensures ok { IfOk result (λ left. Adds (flows_of self.old.entries)
             (flows_of self.new.entries) key counts left) }
@@ -109,8 +109,8 @@ impl FlowStore for BoundedStore {
         }
     }
 
-    /// Adds the counts at the key of a packet. Where the store is full and the key is new, the least
-    /// recently added-to entry leaves.
+    /// Adds the counts at the key of a packet. If the store is full and the key is new, the least recently updated
+    /// entry leaves.
     fn add_packet(
         &mut self,
         layout: &Layout,

@@ -1,4 +1,4 @@
-//! A store that nothing leaves by itself.
+//! A store from which no entry leaves by itself.
 ghost use Rattle.std.specs.Prelude.{◌≡◌, [], None, OnOk, OnErr, IfOk, IfErr, IsOk, IsSome};
 ghost use Rattle.std.specs.FinMap as map;
 ghost use Rattle.fx_base.specs.Fault.{IsMemory};
@@ -16,14 +16,14 @@ use std::alloc::Global;
 use std::collections::BTreeSet;
 use std::marker::Model;
 
-/// A store without a bound, seen as the list of its entries, in no order that matters.
+/// A store without a bound, seen as the list of its entries, in no particular order.
 ///
-/// Keys are found by a hash of its seed, and the least one by their order.
+/// Keys are found by a hash with its seed, and the least one by their order.
 #[derive(Drop)]
 pub struct ListStore {
     flows: IndexMap<Ordered, Counts, Seed>,
     order: BTreeSet<Ordered>,
-    /// The room of a packet's key, by which it is looked up.
+    /// Space for a packet's key, which is used to look it up.
     probe: Ordered,
 }
 
@@ -40,7 +40,7 @@ impl Model for ListStore {
 }
 
 impl ListStore {
-    /// A store of nothing, which hashes keys by the seed.
+    /// Creates an empty store, which hashes keys with the seed.
     pub fn new(alloc: Global, seed: Seed) -> ListStore
         ensures { result ≡ [] }
     {
@@ -51,7 +51,7 @@ impl ListStore {
         }
     }
 
-    /// Adds the counts at a key that isn't there.
+    /// Adds the counts at a key that isn't in the store. Fails with 900 if out of memory.
     fn add_new(&mut self, key: Ordered, counts: Counts) -> Result<(), Fault>
         requires { counts_at self.old key ≡ None }
         ensures ok { OnOk result (Adds (flows_of self.old) (flows_of self.new) key counts None) }

@@ -1,4 +1,4 @@
-//! Flow keys in their order.
+//! Flow keys with their order.
 ghost use Rattle.std.specs.Prelude.{◌≡◌, [], Some, refl};
 ghost use Rattle.std.specs.Cmp.{partial_equiv_from_equiv, po};
 ghost use Rattle.fx_layout.specs.Keys.{key_of, same_key};
@@ -11,7 +11,7 @@ use std::cmp::Ordering;
 use std::hash::{Hash, Hasher};
 use std::marker::Model;
 
-/// A flow key by all that it has: its values and its layout.
+/// A flow key that is compared by all of its parts: its values and its layout.
 #[derive(Drop)]
 pub(crate) struct Ordered {
     key: Key,
@@ -27,7 +27,7 @@ impl Model for Ordered {
     ghost inverse = { λ k. record { key = k } };
 }
 
-/// The order of two parts: by the axis, then by the bits.
+/// Compares two parts: by the axis, then by the bits.
 fn compare_part(p: Part, q: Part) -> Ordering
     ensures { result ≡ part_cmp p q }
 {
@@ -38,7 +38,7 @@ fn compare_part(p: Part, q: Part) -> Ordering
     }
 }
 
-/// The order of two lists of parts: by the first part that differs.
+/// Compares two lists of parts: by the first part that differs.
 fn compare_parts(a: &[Part], b: &[Part]) -> Ordering
     ensures { result ≡ layout_cmp a.now b.now }
 {
@@ -59,35 +59,35 @@ fn compare_parts(a: &[Part], b: &[Part]) -> Ordering
 }
 
 impl Ordered {
-    /// The key in its order.
+    /// Wraps a key, to compare it in this order.
     pub(crate) fn new(key: Key) -> Ordered
         ensures { result ≡ key }
     {
         Ordered { key }
     }
 
-    /// The key under the layout without parts.
+    /// Returns the key under the layout without parts.
     pub(crate) fn of_all() -> Ordered
         ensures { result ≡ record { layout = []; values = [] } }
     {
         Ordered { key: Key::of_all() }
     }
 
-    /// The key that a packet with these fields has under the layout takes the place of this one.
+    /// Replaces this key by the one that a packet with these fields has under the layout.
     pub(crate) fn become_of_packet(&mut self, layout: &Layout, fields: &Fields)
         ensures { self.new ≡ key_of layout.now fields.now }
     {
         self.key.become_of_packet(layout, fields);
     }
 
-    /// The key.
+    /// Returns the key.
     pub(crate) fn into_key(self) -> Key
         ensures { result ≡ self }
     {
         self.key
     }
 
-    /// The same key once more.
+    /// Returns a copy of the key.
     pub(crate) fn copy(&self) -> Ordered
         ensures { result ≡ self.now }
     {

@@ -1,4 +1,4 @@
-//! What a store of flows does.
+//! The interface of a store of flows.
 ghost use Rattle.std.specs.Prelude.{◌≡◌, IfOk, IfErr, IsOk, IsSome};
 ghost use Rattle.std.specs.FinMap as map;
 ghost use Rattle.fx_base.specs.Fault.{IsMemory};
@@ -11,26 +11,25 @@ use fx_layout::{Key, Layout};
 
 /// A finite map from flow keys to counts.
 ///
-/// Keys are the same where their layouts and their values are. They ascend by the first value that
-/// differs, in axis order; keys of equal values by their layouts, so among keys of one layout the
-/// values decide.
+/// Two keys are the same if their layouts and their values are. Keys are ordered by the first value that differs, in
+/// axis order, and keys of equal values by their layouts; so among keys of one layout the values decide.
 pub trait FlowStore: Drop {
-    /// What it holds.
+    /// The flows that it holds.
     ghost flows: { Self → Flows };
 
-    /// Adds the counts at the key, each modulo 2 to the 64, and answers the entry that left to make
-    /// room for a new key, if one did.
+    /// Adds the counts at the key, each modulo 2 to the 64, and returns the entry that left to make room for a new key,
+    /// if one did.
     ///
-    /// Fails with 900, at no place, for want of memory, only where the key is new; what it holds is
-    /// as before then.
+    /// Fails with 900, at no place, if out of memory, which happens only if the key is new; the flows that it holds are
+    /// unchanged then.
     fn add(&mut self, key: Key, counts: Counts) -> Result<Option<(Key, Counts)>, Fault>
         ensures ok { IfOk result (λ left. Adds (flows self.old) (flows self.new) key counts left) }
         ensures err { IfErr result (λ e. IsMemory e
             × (flows self.new ≡ flows self.old)) }
         ensures held { IsSome (map.get (flows self.old) key) → IsOk result };
 
-    /// Adds the counts at the key that a packet with these fields has under the layout, as
-    /// [`FlowStore::add`] does: where the key is there, it is not copied.
+    /// Adds the counts at the key that a packet with these fields has under the layout, like [`FlowStore::add`]. The
+    /// key is not copied if it is in the store already.
     ///
     /// Fails as [`FlowStore::add`].
     fn add_packet(
@@ -46,17 +45,17 @@ pub trait FlowStore: Drop {
         ensures held { IsSome (map.get (flows self.old) (key_of layout.now fields.now))
             → IsOk result };
 
-    /// Takes the key's entry out, and answers its counts, if it is there.
+    /// Removes the key's entry, and returns its counts, if it is there.
     fn take(&mut self, key: &Key) -> Option<Counts>
         ensures value { result ≡ map.get (flows self.old) key.now }
         ensures rest { flows self.new ≡ map.remove (flows self.old) key.now };
 
-    /// Takes the entry of the least key out, if there is one.
+    /// Removes and returns the entry of the least key, if there is one.
     fn take_least(&mut self) -> Option<(Key, Counts)>
         ensures value { result ≡ least (flows self.old) }
         ensures rest { flows self.new ≡ without (flows self.old) result };
 
-    /// How many keys it holds.
+    /// Returns how many keys it holds.
     fn len(&self) -> usize
         ensures { result ≡ map.len (flows self.now) };
 }
