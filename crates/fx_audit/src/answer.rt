@@ -1,4 +1,4 @@
-//! What a command answers.
+//! Answers of commands.
 ghost use Rattle.std.specs.Prelude.{◌≡◌, ◌⊎◌, IfOk, IfErr};
 ghost use Rattle.fx_base.specs.Device.{IsWriteFault, PutsText, Writes};
 ghost use Rattle.fx_audit.specs.Checks.{IsWithin, no_line};
@@ -7,18 +7,18 @@ ghost use Rattle.fx_audit.specs.declared.answer.Answer.TheVariants.{No};
 
 use fx_base::{Fault, Sink, put_fault, put_text};
 
-/// What a command answers once it has written its text.
+/// The answer of a command that has written its text.
 #[derive(Clone, Copy, Debug, PartialEq, Eq)]
 pub enum Answer {
-    /// It did what was asked, or the answer is yes.
+    /// The command did what was asked, or the answer is yes.
     Yes,
     /// The answer is no.
     No,
-    /// It can't tell within its limits.
+    /// The command can't decide within its limits.
     Unknown,
 }
 
-/// Writes the line of an answer of no: the number of the refusal and its place.
+/// Writes the line of a negative answer: the number of the refusal and its place.
 pub(crate) fn put_no<S: Sink>(sink: &mut S, fault: &Fault) -> Result<(), Fault>
     ensures { PutsText S.taken S.failed (no_line fault.now) sink.old sink.new result }
 {
@@ -27,7 +27,8 @@ pub(crate) fn put_no<S: Sink>(sink: &mut S, fault: &Fault) -> Result<(), Fault>
     put_text(sink, b"\n")
 }
 
-/// Answers a refusal: no, where its number is one of `first` to `last`, or the refusal itself.
+/// Returns the answer no, and writes its line, if the number of a refusal is in `first` to `last`. Otherwise fails with
+/// the refusal itself.
 pub(crate) fn answer_refusal<S: Sink>(
     sink: &mut S,
     fault: Fault,

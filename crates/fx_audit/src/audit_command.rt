@@ -20,8 +20,8 @@ use fx_refute::put_refutation;
 use fx_search::{Found, Watch, search};
 use std::alloc::Global;
 
-/// The most split and leaf lines of the certificate that an audit searches for, where no fewer are asked for: as many as
-/// a certificate may have.
+/// The default limit, and the largest, on the number of split and leaf lines in the certificate that an audit searches
+/// for: the most that a certificate may have.
 pub const AUDIT_LIMIT: u64 = 1_000_000;
 
 /// Writes the lines of a certificate.
@@ -34,7 +34,7 @@ fn put_items<S: Sink>(sink: &mut S, items: &[Item]) -> Result<(), Fault>
     Ok(())
 }
 
-/// Writes what was found, and answers yes or no.
+/// Writes the result of a search, and returns the answer yes or no.
 fn put_found<S: Sink>(sink: &mut S, found: &Found) -> Result<Answer, Fault>
     ensures answers { AnswersWith S.taken S.failed (IsFoundText found.now) sink.old sink.new
         result }
@@ -52,7 +52,7 @@ fn put_found<S: Sink>(sink: &mut S, found: &Found) -> Result<Answer, Fault>
     }
 }
 
-/// Answers that nothing was found within the limits, or fails as the search did.
+/// Writes that nothing was found within the limits, and returns that answer, or fails as the search did.
 fn answer_none<S: Sink>(sink: &mut S, fault: Fault) -> Result<Answer, Fault>
     ensures ok { IfOk result (λ answer. (answer ≡ Unknown) × (fault.number ≡ search_too_large)
         × Writes (S.taken sink.old) (S.taken sink.new) unknown_line) }
@@ -67,7 +67,7 @@ fn answer_none<S: Sink>(sink: &mut S, fault: Fault) -> Result<Answer, Fault>
     Ok(Answer::Unknown)
 }
 
-/// Lends the explainer a refutation that was found.
+/// Passes the refutation that was found, if any, to the explainer.
 fn lend_found<E: Explainer>(documents: &AcceptedDocuments, found: &Found, explainer: &mut E) {
     if let Found::Refutation(refutation) = found {
         explainer.on_refutation(documents, refutation);
@@ -97,16 +97,16 @@ fn audit<W: Watch, E: Explainer, S: Sink>(
     }
 }
 
-/// Reads a network document and a traffic declaration, and audits them: writes the text of a certificate of at most
-/// `limit` split and leaf lines (a limit above 1,000,000 counts as that), which [`check_bytes`](crate::check_bytes)
-/// answers with yes; or the text of a refutation, a run of one packet that ends in a wrong total, as
-/// [`confirm`](fx_refute::confirm) judges it; or, where what is needed is too large, as [`search`] says it, the line
-/// `unknown 601`. `watch` is told of each line that the search finds.
+/// Reads a network document and a traffic declaration, and audits them. Writes one of: the text of a certificate of at
+/// most `limit` split and leaf lines (a limit above 1,000,000 counts as that), to which
+/// [`check_bytes`](crate::check_bytes) answers yes; the text of a refutation, which is a run of one packet that ends in
+/// a wrong total, as judged by [`confirm`](fx_refute::confirm); or, if what is needed is too large, as described at
+/// [`search`], the line `unknown 601`. Each line that the search finds is reported to `watch`.
 ///
-/// Fails with the first refusal: 101 and those of [`fx_plan::read_plan`] for the network, with nothing of the traffic
-/// read before; 101 and those of [`fx_traffic::read_traffic`] for the traffic. 901 comes where a read fails or a reader
-/// hasn't ended after 4,294,967,296 calls, 900 for want of memory, 902 where a write fails. Nothing is written for a
-/// fault other than 902, nor before the answer is known.
+/// Fails with the first refusal: for the network, 101 and the errors of [`fx_plan::read_plan`], before any of the
+/// traffic is read; for the traffic, 101 and the errors of [`fx_traffic::read_traffic`]. Fails with 901 if a read fails
+/// or a reader hasn't ended after 4,294,967,296 calls, with 900 if out of memory, and with 902 if a write fails. For
+/// faults other than 902 nothing is written, nor is anything before the answer is known.
 pub fn audit_bytes<N: Source, T: Source, W: Watch, S: Sink>(
     alloc: Global,
     network: &mut N,
@@ -139,7 +139,7 @@ pub fn audit_bytes<N: Source, T: Source, W: Watch, S: Sink>(
     )
 }
 
-/// Does what [`audit_bytes`] does, and lends the explainer what it knows.
+/// Does what [`audit_bytes`] does, and passes what it knows to the explainer.
 pub fn audit_explained<N: Source, T: Source, W: Watch, E: Explainer, S: Sink>(
     alloc: Global,
     network: &mut N,

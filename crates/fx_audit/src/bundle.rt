@@ -1,4 +1,4 @@
-//! Bundles: a command and its texts in one text.
+//! Bundles: a command and its texts in a single text.
 ghost use Rattle.std.specs.Prelude.{◌≡◌, ℕ, ◌+◌, ◌<◌, ◌≤◌, List, [], true, false, take, drop, length, IfSome, IfNone, ◌++◌};
 ghost use Rattle.fx_audit.specs.Bundle.{begins_line, is_mark_at, FirstText, HasNoMark, IsBundle, ThirdText, command_line};
 ghost use Rattle.fx_audit.specs.declared.bundle.Command.{Command};
@@ -12,17 +12,17 @@ pub enum Command {
     Audit,
 }
 
-/// The command of a bundle and its texts.
+/// A bundle's command and its texts.
 #[derive(Drop)]
 pub struct Bundle<'a> {
     pub command: Command,
     pub network: &'a [u8],
     pub traffic: &'a [u8],
-    /// A run, a certificate or a refutation; empty for an audit, which has none.
+    /// A run, a certificate or a refutation; empty for an audit, which has no third text.
     pub third: &'a [u8],
 }
 
-/// Whether a line begins at a place.
+/// Returns whether a line begins at an index.
 fn begins_line(bytes: &[u8], at: usize) -> bool
     requires { at ≤ length bytes.now }
     ensures { result ≡ begins_line bytes.now at }
@@ -30,7 +30,7 @@ fn begins_line(bytes: &[u8], at: usize) -> bool
     at == 0 || bytes[at - 1] == b'\n'
 }
 
-/// Whether a line `%%` stands at a place.
+/// Returns whether a line `%%` is at an index.
 fn is_mark_at(bytes: &[u8], at: usize) -> bool
     requires { at ≤ length bytes.now }
     ensures { result ≡ is_mark_at bytes.now at }
@@ -38,7 +38,7 @@ fn is_mark_at(bytes: &[u8], at: usize) -> bool
     begins_line(bytes, at) && bytes[at..].starts_with(b"%%\n")
 }
 
-/// The place of the first line `%%`.
+/// Returns the index of the first line `%%`.
 #[tactic(auto, using(crate::proofs::Marks::mark_within))]
 fn first_mark(bytes: &[u8]) -> Option<usize>
     ensures some { IfSome result (λ at. (at + 3 ≤ length bytes.now)
@@ -53,7 +53,7 @@ fn first_mark(bytes: &[u8]) -> Option<usize>
     None
 }
 
-/// The first text of these octets, and what stands behind the line `%%` that ends it.
+/// Returns the first text of these octets, and what follows the line `%%` that ends it.
 fn first_text(bytes: &[u8]) -> Option<(&[u8], &[u8])>
     ensures some { IfSome result (λ parts. FirstText bytes.now parts.0.now parts.1.now) }
     ensures none { IfNone result (HasNoMark bytes.now) }
@@ -62,7 +62,7 @@ fn first_text(bytes: &[u8]) -> Option<(&[u8], &[u8])>
     Some((bytes.split_at(at).0, bytes.split_at(at + 3).1))
 }
 
-/// What stands behind the line of a command, and the command.
+/// Returns the command, and what follows its line.
 fn command_of(bytes: &[u8]) -> Option<(Command, &[u8])>
     ensures some { IfSome result (λ p. bytes.now ≡ command_line p.0 ++ p.1.now) }
     ensures none { IfNone result ((command : Command) (rest : List ℕ)
@@ -81,7 +81,7 @@ fn command_of(bytes: &[u8]) -> Option<(Command, &[u8])>
     Some((Command::Check, rest))
 }
 
-/// The third text of a command, and what stands behind it.
+/// Returns the third text of a command, and what follows it.
 fn third_text(command: Command, bytes: &[u8]) -> Option<(&[u8], &[u8])>
     ensures some { IfSome result (λ parts. ThirdText command bytes.now parts.0.now parts.1.now) }
     ensures none { IfNone result ((text : List ℕ) (rest : List ℕ)
@@ -93,7 +93,7 @@ fn third_text(command: Command, bytes: &[u8]) -> Option<(&[u8], &[u8])>
     }
 }
 
-/// The bundle that these octets are, or None where they have another shape.
+/// Splits octets into the parts of a bundle. Returns `None` if they have another shape.
 pub fn read_bundle(bytes: &[u8]) -> Option<Bundle<'_>>
     ensures some { IfSome result (λ bundle. IsBundle bytes.now bundle.command bundle.network.now
         bundle.traffic.now bundle.third.now) }

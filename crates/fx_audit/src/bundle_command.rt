@@ -1,4 +1,4 @@
-//! Bundles read from octets, and what their commands do.
+//! Reading bundles from octets, and running their commands.
 ghost use Rattle.std.specs.Prelude.{◌≡◌, ◌⊎◌, ℕ, List, IfOk, IfErr, false};
 ghost use Rattle.fx_base.specs.Device.{MayHaveLeft, IsWriteFault};
 ghost use Rattle.fx_base.specs.Fault.{IsMemory};
@@ -22,16 +22,15 @@ use fx_layout::Seed;
 use fx_search::Unwatched;
 use std::alloc::Global;
 
-/// A text in memory doesn't fail.
+/// Proves that reading a text in memory doesn't fail.
 fn never_fails(lines: &LineReader<Octets<'_>>)
     ensures { lines.now.failed ≡ false }
 {
-    // For the prover alone: what the type of the source keeps.
+    // For the prover only: the invariant of the source's type.
     let _text = lines.get_ref();
 }
 
-/// Does what a command does with a network document, a traffic declaration and a third text, of which an audit reads
-/// nothing.
+/// Runs a command on a network document, a traffic declaration and a third text. An audit reads nothing of the third.
 fn answer_texts<N: Source, T: Source, R: Source, E: Explainer, S: Sink>(
     alloc: Global,
     seed: Seed,
@@ -70,7 +69,7 @@ fn answer_texts<N: Source, T: Source, R: Source, E: Explainer, S: Sink>(
     }
 }
 
-/// Does what a bundle's command does with its texts.
+/// Runs a bundle's command on its texts.
 fn answer_bundle<E: Explainer, S: Sink>(
     alloc: Global,
     seed: Seed,
@@ -106,12 +105,12 @@ fn answer_bundle<E: Explainer, S: Sink>(
     answer
 }
 
-/// Reads a bundle, a command with its texts, and does what the command does with them; an audit has the limit
+/// Reads a bundle, which is a command with its texts, and runs the command on them. The limit of an audit is
 /// [`AUDIT_LIMIT`]. Totals hash keys by the seed.
 ///
-/// Fails with 801, at no place, where the octets are no bundle, else as the command does; with 901 where a read
-/// fails or the source hasn't ended after 4,294,967,296 calls, 900 for want of memory and 902 where a write
-/// fails. Nothing is written for a fault other than 902.
+/// Fails with 801, at no place, if the octets are no bundle, and otherwise as the command does. Fails with 901 if a
+/// read fails or the source hasn't ended after 4,294,967,296 calls, with 900 if out of memory, and with 902 if a write
+/// fails. For faults other than 902 nothing is written.
 pub fn bundle_bytes<B: Source, S: Sink>(
     alloc: Global,
     seed: Seed,
@@ -132,7 +131,7 @@ pub fn bundle_bytes<B: Source, S: Sink>(
     bundle_explained(alloc, seed, bundle, &mut Unexplained, sink)
 }
 
-/// Does what [`bundle_bytes`] does, and lends the explainer what it knows.
+/// Does what [`bundle_bytes`] does, and passes what it knows to the explainer.
 pub fn bundle_explained<B: Source, E: Explainer, S: Sink>(
     alloc: Global,
     seed: Seed,

@@ -17,7 +17,7 @@ use fx_base::{Fault, Line, LineReader, Sink, Source, put_text, refusals};
 use fx_check::{CheckWatch, Due, check_watched};
 use std::alloc::Global;
 
-/// Lends an explainer where a certificate is refused.
+/// An observer of a check that passes a refusal of the certificate to an explainer.
 #[derive(Drop)]
 struct Refusal<'a, E> {
     documents: &'a AcceptedDocuments,
@@ -31,7 +31,7 @@ impl<E: Explainer> CheckWatch for Refusal<'_, E> {
     }
 }
 
-/// Checks the certificate that a reader's lines say, and writes the answer.
+/// Checks the certificate in a reader's lines, and writes the answer.
 fn check_lines<C: Source, E: Explainer, S: Sink>(
     alloc: Global,
     documents: &AcceptedDocuments,
@@ -73,15 +73,15 @@ fn check_lines<C: Source, E: Explainer, S: Sink>(
     }
 }
 
-/// Reads a network document, a traffic declaration and the text of a certificate, and checks the certificate. Where it
-/// is accepted, the line `yes` is written, and each packet of the traffic is counted exactly once by every complete run
-/// of the network. Where it is refused by a number from 401 to 415, `no` is written with that number and its place.
+/// Reads a network document, a traffic declaration and the text of a certificate, and checks the certificate. If it is
+/// accepted, writes the line `yes`: each packet of the traffic is counted exactly once by every complete run of the
+/// network. If it is refused with a number from 401 to 415, writes `no` with that number and its place.
 ///
-/// Fails with the first other refusal: 101 and those of [`fx_plan::read_plan`] for the network, with nothing of the
-/// traffic read before; 101 and those of [`fx_traffic::read_traffic`] for the traffic; then, with nothing of the
-/// certificate's text read before, 903 at a line of the certificate that has more than 4,096 octets. 901 comes where a
-/// read fails or a reader hasn't ended after 4,294,967,296 calls, 900 for want of memory, 902 where a write fails.
-/// Nothing is written for a fault other than 902, nor before the answer is known.
+/// Fails with the first other refusal: for the network, 101 and the errors of [`fx_plan::read_plan`], before any of the
+/// traffic is read; for the traffic, 101 and the errors of [`fx_traffic::read_traffic`], before any of the certificate
+/// is read; for the certificate, 903 at a line of more than 4,096 octets. Fails with 901 if a read fails or a reader
+/// hasn't ended after 4,294,967,296 calls, with 900 if out of memory, and with 902 if a write fails. For faults other
+/// than 902 nothing is written, nor is anything before the answer is known.
 pub fn check_bytes<N: Source, T: Source, C: Source, S: Sink>(
     alloc: Global,
     network: &mut N,
@@ -99,7 +99,7 @@ pub fn check_bytes<N: Source, T: Source, C: Source, S: Sink>(
         (Fails certificate.old certificate.new) (S.failed sink.new)
         (λ e. BothMayHaveLeft (N.left network.old) (T.left traffic.old)
         (λ n t. IsRefusedCheck n t certificate.old e))) }
-    // 401 to 415, with the line, are answered no. Once the certificate is read, what isn't answered is 900 to 903.
+    // For 401 to 415, with the line, the answer is no. Once the certificate is read, only 900 to 903 are errors.
     ensures numbers { IfErr result (λ e. (certificate.new ≡ certificate.old)
         ⊎ IsUnanswered certificate.old e) }
     ensures answers { AnswersWith S.taken S.failed IsCheckText sink.old sink.new result }
@@ -110,7 +110,7 @@ pub fn check_bytes<N: Source, T: Source, C: Source, S: Sink>(
     check_explained(alloc, network, traffic, certificate, &mut Unexplained, sink)
 }
 
-/// Does what [`check_bytes`] does, and lends the explainer what it knows.
+/// Does what [`check_bytes`] does, and passes what it knows to the explainer.
 pub fn check_explained<N: Source, T: Source, C: Source, E: Explainer, S: Sink>(
     alloc: Global,
     network: &mut N,
@@ -129,7 +129,7 @@ pub fn check_explained<N: Source, T: Source, C: Source, E: Explainer, S: Sink>(
         (Fails certificate.old certificate.new) (S.failed sink.new)
         (λ e. BothMayHaveLeft (N.left network.old) (T.left traffic.old)
         (λ n t. IsRefusedCheck n t certificate.old e))) }
-    // 401 to 415, with the line, are answered no. Once the certificate is read, what isn't answered is 900 to 903.
+    // For 401 to 415, with the line, the answer is no. Once the certificate is read, only 900 to 903 are errors.
     ensures numbers { IfErr result (λ e. (certificate.new ≡ certificate.old)
         ⊎ IsUnanswered certificate.old e) }
     ensures answers { AnswersWith S.taken S.failed IsCheckText sink.old sink.new result }

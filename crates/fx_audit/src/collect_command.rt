@@ -17,14 +17,15 @@ use fx_layout::Seed;
 use fx_session::{SessionWatch, Unwatched};
 use std::alloc::Global;
 
-/// Reads a network document, collects an IPFIX stream at the network's report and writes the totals of its flow
-/// records, then `gaps` with the number of messages whose sequence number isn't the one that comes next, and `skipped`
-/// with the number of data records that aren't flow records since their template lacks a counter. Totals hash keys by
-/// the seed.
+/// Reads a network document, collects an IPFIX stream at the network's report, and writes the totals of its flow
+/// records, then `gaps` with the number of messages whose sequence number isn't the expected one, and `skipped` with
+/// the number of data records that aren't flow records because their template lacks a counter. Totals hash keys by the
+/// seed.
 ///
-/// Fails with the first refusal: 101 and those of [`fx_plan::read_plan`] for the network, with nothing of the stream
-/// read before; then, for the stream, those of [`collect`]. 901 comes where a read fails or a reader hasn't ended after
-/// 4,294,967,296 calls, 900 for want of memory, 902 where a write fails. Nothing is written for a fault other than 902.
+/// Fails with the first refusal: for the network, 101 and the errors of [`fx_plan::read_plan`], before any of the
+/// stream is read; for the stream, the errors of [`collect`]. Fails with 901 if a read fails or a reader hasn't ended
+/// after 4,294,967,296 calls, with 900 if out of memory, and with 902 if a write fails. For faults other than 902
+/// nothing is written.
 pub fn collect_bytes<N: Source, R: Source, S: Sink>(
     alloc: Global,
     seed: Seed,
@@ -55,8 +56,8 @@ pub fn collect_bytes<N: Source, R: Source, S: Sink>(
     )
 }
 
-/// Does what [`collect_bytes`] does, lends the explainer what it knows, and reports to `watch` what the stream's messages
-/// say and under which layout they are tallied.
+/// Does what [`collect_bytes`] does, passes what it knows to the explainer, and reports to `watch` the content of the
+/// stream's messages and the layout under which they are tallied.
 pub fn collect_explained<N: Source, R: Source, E: Explainer, W: SessionWatch, S: Sink>(
     alloc: Global,
     seed: Seed,

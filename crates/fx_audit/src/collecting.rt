@@ -1,4 +1,4 @@
-//! A stream's records, tallied as they come.
+//! Tallying a stream's records as they arrive.
 ghost use Rattle.std.specs.Prelude.{◌≡◌, ◌⊎◌, None, Err, OnOk, IfOk, IfErr};
 ghost use Rattle.fx_base.specs.Device.{MayHaveLeft, IsWriteFault};
 ghost use Rattle.fx_base.specs.Fault.{IsMemory};
@@ -19,7 +19,7 @@ use fx_session::{Session, SessionWatch};
 use fx_tables::Net;
 use std::alloc::Global;
 
-/// Tallies the records that wait.
+/// Tallies the pending records.
 fn tally_waiting(session: &mut Session, totals: &mut Totals) -> Result<(), Fault>
     ensures totals { OnOk result (totals.new ≡ with_records totals.old session.old.known.waiting) }
     ensures session { OnOk result (session.new ≡ without_waiting session.old) }
@@ -32,7 +32,7 @@ fn tally_waiting(session: &mut Session, totals: &mut Totals) -> Result<(), Fault
     Ok(())
 }
 
-/// Reads on with a piece of a stream, and tallies the records that it completes.
+/// Feeds a piece of a stream to the session, and tallies the records that it completes.
 fn take_piece<W: SessionWatch>(
     session: &mut Session,
     totals: &mut Totals,
@@ -76,9 +76,9 @@ fn tally_stream<R: Source, W: SessionWatch>(
 }
 
 /// Writes the text of totals, with their keys in ascending order, and the numbers of gaps and of skipped records.
-/// Nothing is written before all that takes memory is done.
+/// Nothing is written before everything that allocates is done.
 ///
-/// Fails with 900 for want of memory and with 902 where a write fails, each at no place.
+/// Fails at no place: with 900 if out of memory, and with 902 if a write fails.
 fn put_collected<S: Sink>(session: &Session, totals: &mut Totals, sink: &mut S) -> Result<(), Fault>
     ensures ok { OnOk result (Prints
         (IsTotalsText totals.old session.now.known.gaps session.now.known.skipped)
@@ -146,14 +146,14 @@ fn collect_into<R: Source, W: SessionWatch, S: Sink>(
 }
 
 /// Tallies the flow records of an IPFIX stream under the keys of a network's report, and writes the totals and the
-/// numbers of gaps and of skipped records. The stream is read in pieces; of what was read, its templates, the
-/// unfinished message and the totals are kept, which hash keys by the seed. What its messages say, and under which layout
-/// they are tallied, is reported to `watch`; what is returned and written is the same for every observer.
+/// numbers of gaps and of skipped records. The stream is read in pieces; only its templates, the unfinished message and
+/// the totals are kept. Totals hash keys by the seed. The content of its messages, and the layout under which they are
+/// tallied, are reported to `watch`; what is returned and written is the same for every observer.
 ///
-/// Fails, at the first octet of a message, with 611 to 620 where the message is refused (see [`Session::feed`]) and
-/// with 612 where the stream ends inside it; at no place, with 901 where a read fails or the stream hasn't ended after
-/// 4,294,967,296 calls, with 900 for want of memory and 902 where a write fails. Nothing is written before the stream
-/// has ended and its totals are in order.
+/// Fails at the first octet of a message with 611 to 620 if the message is refused (see [`Session::feed`]), and with
+/// 612 if the stream ends inside it. Fails at no place with 901 if a read fails or the stream hasn't ended after
+/// 4,294,967,296 calls, with 900 if out of memory, and with 902 if a write fails. Nothing is written before the stream
+/// has ended and its totals are sorted.
 pub fn collect<R: Source, W: SessionWatch, S: Sink>(
     alloc: Global,
     seed: Seed,

@@ -25,7 +25,7 @@ use fx_refute::{Refutation, confirm_watched, read_refutation};
 use fx_run_text::Step;
 use std::alloc::Global;
 
-/// Reads the refutation that a reader's lines say. The explainer gets the line where it is refused.
+/// Reads the refutation in a reader's lines. If a line is refused, passes it to the explainer.
 fn read_lent<C: Source, E: Explainer>(
     alloc: Global,
     documents: &AcceptedDocuments,
@@ -43,7 +43,7 @@ fn read_lent<C: Source, E: Explainer>(
     read
 }
 
-/// Lends an explainer the state in which the run of a refutation stops.
+/// An observer of a confirmation that passes the state in which the run of a refutation stops to an explainer.
 #[derive(Drop)]
 struct Stop<'a, E> {
     documents: &'a AcceptedDocuments,
@@ -63,7 +63,7 @@ impl<E: Explainer> StepWatch for Stop<'_, E> {
     }
 }
 
-/// Confirms a refutation. The explainer gets it, with where its run stops if it refutes nothing.
+/// Confirms a refutation. Passes it to the explainer, and where its run stops if it refutes nothing.
 fn confirm_lent<E: Explainer>(
     alloc: Global,
     documents: &AcceptedDocuments,
@@ -101,7 +101,7 @@ fn confirm_lent<E: Explainer>(
     confirmed
 }
 
-/// The totals of the run of the refutation that a reader's lines say, and the plain sums over its packet.
+/// Returns the totals of the run of the refutation in a reader's lines, and the plain sums over its packet.
 fn confirm_said<C: Source, E: Explainer>(
     alloc: Global,
     documents: &AcceptedDocuments,
@@ -120,7 +120,7 @@ fn confirm_said<C: Source, E: Explainer>(
     confirm_lent(alloc, documents, &said, explainer)
 }
 
-/// Puts the keys of both totals in ascending order.
+/// Sorts the keys of both totals in ascending order.
 fn sort_both(ran: &mut Totals, plain: &mut Totals) -> Result<(), Fault>
     ensures ran { OnOk result (IsInOrder ran.old ran.new) }
     ensures plain { OnOk result (IsInOrder plain.old plain.new) }
@@ -131,7 +131,7 @@ fn sort_both(ran: &mut Totals, plain: &mut Totals) -> Result<(), Fault>
     Ok(())
 }
 
-/// The totals of the run of the refutation that a reader's lines say, and the plain sums over its packet, both with
+/// Returns the totals of the run of the refutation in a reader's lines, and the plain sums over its packet, both with
 /// their keys in ascending order.
 fn totals_of_refutation<C: Source, E: Explainer>(
     alloc: Global,
@@ -162,7 +162,7 @@ fn put_refuted<S: Sink>(sink: &mut S, ran: &Totals, plain: &Totals) -> Result<()
     plain.put_report(sink)
 }
 
-/// Answers yes, with the totals of a refuting run and the plain sums.
+/// Writes the totals of a refuting run and the plain sums, and returns the answer yes.
 fn answer_refuted<S: Sink>(sink: &mut S, ran: &Totals, plain: &Totals) -> Result<Answer, Fault>
     requires ran { KeysAscend ran.now.entries }
     requires plain { KeysAscend plain.now.entries }
@@ -186,7 +186,7 @@ fn without_place_of_form(fault: Fault) -> Fault
     }
 }
 
-/// Confirms the refutation that a reader's lines say, and writes the answer.
+/// Confirms the refutation in a reader's lines, and writes the answer.
 fn confirm_lines<C: Source, E: Explainer, S: Sink>(
     alloc: Global,
     documents: &AcceptedDocuments,
@@ -214,16 +214,16 @@ fn confirm_lines<C: Source, E: Explainer, S: Sink>(
     }
 }
 
-/// Reads a network document, a traffic declaration and the text of a refutation, and confirms the refutation. If its run
-/// shows a wrong total, `refuted` is written, then, after the line `run`, the totals of the run and, after the line `plain`, the
-/// plain sums over its packet. If it is refused by a number from 501 to 505, `no` is written with that number, and for 502
-/// and 503 with the line.
+/// Reads a network document, a traffic declaration and the text of a refutation, and confirms the refutation. If its
+/// run shows a wrong total, writes `refuted`, then the totals of the run after the line `run`, and the plain sums over
+/// its packet after the line `plain`. If it is refused with a number from 501 to 505, writes `no` with that number, and
+/// for 502 and 503 with the line.
 ///
-/// Fails with the first other refusal: 101 and those of [`fx_plan::read_plan`] for the network, with nothing of the
-/// traffic read before; 101 and those of [`fx_traffic::read_traffic`] for the traffic; then, with nothing of the
-/// refutation's text read before, 903 at a line that has more than 4,096 octets. 901 comes where a read fails or a
-/// reader hasn't ended after 4,294,967,296 calls, 900 for want of memory, 902 where a write fails. Nothing is written
-/// for a fault other than 902, nor before the answer is known and both totals are in order.
+/// Fails with the first other refusal: for the network, 101 and the errors of [`fx_plan::read_plan`], before any of the
+/// traffic is read; for the traffic, 101 and the errors of [`fx_traffic::read_traffic`], before any of the refutation
+/// is read; for the refutation, 903 at a line of more than 4,096 octets. Fails with 901 if a read fails or a reader
+/// hasn't ended after 4,294,967,296 calls, with 900 if out of memory, and with 902 if a write fails. For faults other
+/// than 902 nothing is written, nor is anything before the answer is known and both totals are sorted.
 pub fn confirm_bytes<N: Source, T: Source, C: Source, S: Sink>(
     alloc: Global,
     network: &mut N,
@@ -249,7 +249,7 @@ pub fn confirm_bytes<N: Source, T: Source, C: Source, S: Sink>(
     confirm_explained(alloc, network, traffic, refutation, &mut Unexplained, sink)
 }
 
-/// Does what [`confirm_bytes`] does, and lends the explainer what it knows.
+/// Does what [`confirm_bytes`] does, and passes what it knows to the explainer.
 pub fn confirm_explained<N: Source, T: Source, C: Source, E: Explainer, S: Sink>(
     alloc: Global,
     network: &mut N,

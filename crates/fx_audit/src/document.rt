@@ -1,4 +1,4 @@
-//! The two documents that every command begins with.
+//! The network document and the traffic declaration, which most commands read first.
 ghost use Rattle.std.specs.Prelude.{◌≡◌, ◌⊎◌, [], IfOk, IfErr, IfSome};
 ghost use Rattle.serde_json.specs.View.{view};
 ghost use Rattle.serde_json.specs.Data.{Data};
@@ -20,9 +20,9 @@ use fx_traffic::{Traffic, read_traffic};
 use serde_json::Value;
 use std::alloc::Global;
 
-/// The JSON value that these octets are the text of.
+/// Parses octets as a JSON text.
 ///
-/// Fails, at no place, with 101 where they are no text of a value in UTF-8, and with 900 for want of memory.
+/// Fails, at no place, with 101 if they are no JSON text in UTF-8, and with 900 if out of memory.
 fn value_of(alloc: Global, octets: &[u8]) -> Result<Value, Fault>
     ensures ok { IfOk result (λ value. IsJson octets.now (view value)) }
     ensures err { IfErr result (λ e. IsMemory e
@@ -58,8 +58,7 @@ fn plan_from<E: Explainer>(
     read
 }
 
-/// The value that the octets of a network's document are the text of. The explainer gets the octets where they are
-/// none.
+/// Parses the octets of a network document as JSON. If they are no JSON text, passes them to the explainer.
 ///
 /// Fails as [`value_of`] does.
 fn network_value<E: Explainer>(
@@ -78,8 +77,7 @@ fn network_value<E: Explainer>(
     read
 }
 
-/// The value that the octets of a traffic declaration are the text of. The explainer gets the octets where they are
-/// none.
+/// Parses the octets of a traffic declaration as JSON. If they are no JSON text, passes them to the explainer.
 ///
 /// Fails as [`value_of`] does.
 fn traffic_value<E: Explainer>(
@@ -120,7 +118,7 @@ fn classes_from<E: Explainer>(
     read
 }
 
-/// What the two documents say.
+/// The content of the two documents.
 pub struct AcceptedDocuments {
     /// The network.
     pub plan: Plan,
@@ -129,7 +127,7 @@ pub struct AcceptedDocuments {
 }
 
 impl Drop for AcceptedDocuments {
-    /// Takes it apart in one place.
+    /// Drops its parts in one place.
     fn drop(self) {
         let Self {
             plan: _,
@@ -138,10 +136,10 @@ impl Drop for AcceptedDocuments {
     }
 }
 
-/// The network that a source's octets are the document of.
+/// Reads the network document in a source's octets.
 ///
-/// Fails with 101, at no place, where they are no JSON text; as [`read_plan`] does; with 901, at no place, where
-/// a read fails or the source hasn't ended after 4,294,967,296 calls; and with 900 for want of memory.
+/// Fails with 101, at no place, if they are no JSON text; as [`read_plan`] does; with 901, at no place, if a read fails
+/// or the source hasn't ended after 4,294,967,296 calls; and with 900 if out of memory.
 pub(crate) fn network_from<R: Source, E: Explainer>(
     alloc: Global,
     source: &mut R,
@@ -158,9 +156,9 @@ pub(crate) fn network_from<R: Source, E: Explainer>(
     plan_from(alloc, octets.as_slice(), &value, explainer)
 }
 
-/// The traffic that a source's octets are the declaration of, in a network.
+/// Reads the traffic declaration in a source's octets, for a network.
 ///
-/// Fails as [`network_from`] does, but as [`read_traffic`] in place of [`read_plan`].
+/// Fails as [`network_from`] does, but as [`read_traffic`] instead of [`read_plan`].
 fn traffic_from<R: Source, E: Explainer>(
     alloc: Global,
     source: &mut R,
@@ -179,10 +177,10 @@ fn traffic_from<R: Source, E: Explainer>(
     classes_from(alloc, octets.as_slice(), &value, plan, explainer)
 }
 
-/// Reads the network's document and then, where it is accepted, the declaration of its traffic.
+/// Reads the network document and then, if it is accepted, the traffic declaration.
 ///
-/// Fails, at the first fault, with 101 at no place, or as [`read_plan`] and [`read_traffic`] do; with 901, at no
-/// place, where a read fails or a source hasn't ended after 4,294,967,296 calls; and with 900 for want of memory.
+/// Fails, at the first fault, with 101 at no place, or as [`read_plan`] and [`read_traffic`] do; with 901, at no place,
+/// if a read fails or a source hasn't ended after 4,294,967,296 calls; and with 900 if out of memory.
 pub(crate) fn read_documents<N: Source, T: Source, E: Explainer>(
     alloc: Global,
     network: &mut N,

@@ -1,4 +1,4 @@
-//! What a command lends to whoever explains its answer.
+//! What a command passes to the explainer of its answer.
 
 use crate::bundle::Command;
 use crate::document::AcceptedDocuments;
@@ -12,33 +12,34 @@ use fx_refute::Refutation;
 use fx_run_text::Step;
 use fx_traffic::Traffic;
 
-/// Where a run over a capture is: at the last packet that was read.
+/// The position of a run over a capture: the last packet that was read.
 #[derive(Clone, Copy, Drop)]
 pub struct PacketAt<'a> {
     /// The packet.
     pub frame: Frame<'a>,
-    /// How many packets were read, with this one. Where it is 0, none was read.
+    /// The number of packets that were read, including this one. If it is 0, none was read.
     pub packets: u64,
     /// The frames that were skipped.
     pub skipped: Skipped,
 }
 
-/// Gets what a command knows when it answers or refuses, while the command still has it. Methods get shared references
-/// and return nothing, and no clause about an answer names the explainer, so an answer is the same whoever explains it.
+/// A receiver of what a command knows when it answers or refuses. Its methods take shared references and return
+/// nothing, and no clause about an answer names the explainer, so an answer is the same whoever explains it.
 pub trait Explainer: Drop {
-    /// The network's document was accepted.
+    /// Called when the network document was accepted.
     fn on_network(&mut self, octets: &[u8], plan: &Plan);
 
-    /// The network's document was refused.
+    /// Called when the network document was refused.
     fn on_refused_network(&mut self, octets: &[u8], fault: &Fault);
 
-    /// The traffic's declaration was accepted.
+    /// Called when the traffic declaration was accepted.
     fn on_traffic(&mut self, octets: &[u8], plan: &Plan, traffic: &Traffic);
 
-    /// The traffic's declaration was refused in this network.
+    /// Called when the traffic declaration was refused for this network.
     fn on_refused_traffic(&mut self, octets: &[u8], plan: &Plan, fault: &Fault);
 
-    /// A certificate was refused: what the line had to be, and the line, which is none where the text ends before it.
+    /// Called when a certificate was refused, with what the line had to be, and the line, which is `None` if the text
+    /// ends before it.
     fn on_refused_certificate(
         &mut self,
         documents: &AcceptedDocuments,
@@ -47,16 +48,17 @@ pub trait Explainer: Drop {
         fault: &Fault,
     );
 
-    /// An audit found this refutation, or a confirmation confirmed it.
+    /// Called when an audit found this refutation, or a confirmation confirmed it.
     fn on_refutation(&mut self, documents: &AcceptedDocuments, refutation: &Refutation);
 
-    /// The text of a run or of a refutation was refused. The line is the last one that was read.
+    /// Called when the text of a run or of a refutation was refused. The line is the last one that was read.
     fn on_refused_line(&mut self, documents: &AcceptedDocuments, line: &Line<'_>, fault: &Fault);
 
-    /// A refutation was read, and its packet isn't in its class.
+    /// Called when a refutation was read whose packet isn't in its class.
     fn on_refused_packet(&mut self, documents: &AcceptedDocuments, refutation: &Refutation);
 
-    /// A step of a refutation was refused in this state, the one after the steps before it. Steps count from 1.
+    /// Called when a step of a refutation was refused in this state, which follows the steps before it. Steps count
+    /// from 1.
     fn on_refused_refutation(
         &mut self,
         documents: &AcceptedDocuments,
@@ -66,7 +68,7 @@ pub trait Explainer: Drop {
         fault: &Fault,
     );
 
-    /// The run of a refutation came to this state, and isn't complete or has the plain sums.
+    /// Called when the run of a refutation ended in this state, and isn't complete or has the plain sums.
     fn on_unconfirmed(
         &mut self,
         documents: &AcceptedDocuments,
@@ -74,10 +76,10 @@ pub trait Explainer: Drop {
         last: &State<'_>,
     );
 
-    /// A step of a run is about to be made.
+    /// Called before each step of a run is made.
     fn on_step(&mut self, step: &Step);
 
-    /// A step of a run was refused in this state. The line is that of the step, from 1.
+    /// Called when a step of a run was refused in this state. The line is that of the step, from 1.
     fn on_refused_step(
         &mut self,
         documents: &AcceptedDocuments,
@@ -87,10 +89,10 @@ pub trait Explainer: Drop {
         fault: &Fault,
     );
 
-    /// A run that was replayed came to this state.
+    /// Called when a replayed run ended in this state.
     fn on_last_state(&mut self, documents: &AcceptedDocuments, state: &State<'_>);
 
-    /// A run over a capture was refused. The line is the last one of the schedule that was read.
+    /// Called when a run over a capture was refused. The line is the last one of the schedule that was read.
     fn on_refused_metering(
         &mut self,
         documents: &AcceptedDocuments,
@@ -99,20 +101,20 @@ pub trait Explainer: Drop {
         fault: &Fault,
     );
 
-    /// A text of totals under this key was refused. The line is the last one that was read.
+    /// Called when a text of totals under this key was refused. The line is the last one that was read.
     fn on_refused_totals(&mut self, key: &Layout, line: &Line<'_>, fault: &Fault);
 
-    /// Octets are a bundle, which has this command.
+    /// Called when octets are a bundle with this command.
     fn on_bundle(&mut self, command: Command);
 
-    /// The command of a bundle has answered that reads this text, line by line, after the documents.
+    /// Called when a bundle's command has answered that reads this text, line by line, after the documents.
     fn on_answered_text(&mut self, text: &[u8]);
 
-    /// Octets are no bundle.
+    /// Called when octets are no bundle.
     fn on_refused_bundle(&mut self, octets: &[u8], fault: &Fault);
 }
 
-/// Explains nothing.
+/// An explainer that explains nothing.
 #[derive(Debug, Drop)]
 pub struct Unexplained;
 

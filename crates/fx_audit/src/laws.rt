@@ -1,4 +1,4 @@
-//! Laws of what the commands answer.
+//! Laws about the answers of commands.
 ghost use Rattle.std.specs.Prelude.{◌≡◌, ℕ, List, None, Option, true};
 ghost use Rattle.fx_base.specs.Lines.{Lines};
 ghost use Rattle.fx_base.specs.Refusals.{is_refusal_number};
@@ -13,9 +13,10 @@ ghost use Rattle.fx_audit.specs.Documents.{IsRefusedByDocuments, IsRefusedNetwor
 ghost use Rattle.fx_audit.specs.Metering.{IsRefusedMetering};
 ghost use Rattle.fx_audit.specs.Sums.{IsRefusedSum};
 
-/// The first fault of a network's document, that of a declaration of traffic, a number that makes the answer to a
-/// certificate or to a refutation `no`, what else a check ends with, and what each command refuses behind its documents
-/// have numbers that are listed: each is told in words. The reader of a schedule is one that hadn't stopped before.
+/// Proves that the numbers of the refusals are listed, so that each has an explanation in words: those of the first
+/// fault of a network document and of a traffic declaration, those that make the answer to a certificate or a
+/// refutation `no`, those with which a check ends otherwise, and those with which each command refuses what follows its
+/// documents. The reader of a schedule is one that hadn't stopped before.
 pub fn refusals_are_listed()
     ensures network { (octets : List ℕ) (e : faults.Fault)
         → IsRefusedNetwork octets e → is_refusal_number e.number ≡ true }

@@ -1,4 +1,4 @@
-//! The commands that say whether documents mean a network and its traffic, from octets to octets.
+//! The commands that check whether documents are valid, from octets to octets.
 ghost use Rattle.std.specs.Prelude.{◌≡◌, ◌⊎◌, IfOk, IfErr};
 ghost use Rattle.fx_base.specs.Device.{IsWriteFault, MayHaveLeft};
 ghost use Rattle.fx_base.specs.Fault.{IsMemory};
@@ -14,12 +14,12 @@ use crate::explainer::{Explainer, Unexplained};
 use fx_base::{Fault, Sink, Source, put_text};
 use std::alloc::Global;
 
-/// Reads a network document, and writes the line `ok` where it means a network: where every other command would take
-/// it.
+/// Reads a network document, and writes the line `ok` if it describes a network, so that every other command would
+/// accept it.
 ///
-/// Fails with the first refusal: 101 and those of [`fx_plan::read_plan`]. 901 comes where a read fails or the reader
-/// hasn't ended after 4,294,967,296 calls, 900 for want of memory, 902 where a write fails. Nothing is written for a
-/// fault other than 902, nor before the document is read to its end.
+/// Fails with the first refusal: 101 and the errors of [`fx_plan::read_plan`]. Fails with 901 if a read fails or the
+/// reader hasn't ended after 4,294,967,296 calls, with 900 if out of memory, and with 902 if a write fails. For faults
+/// other than 902 nothing is written, nor is anything before the document is read to its end.
 pub fn lint_bytes<N: Source, S: Sink>(
     alloc: Global,
     network: &mut N,
@@ -37,7 +37,7 @@ pub fn lint_bytes<N: Source, S: Sink>(
     lint_explained(alloc, network, &mut Unexplained, sink)
 }
 
-/// Does what [`lint_bytes`] does, and lends the explainer what it knows.
+/// Does what [`lint_bytes`] does, and passes what it knows to the explainer.
 pub fn lint_explained<N: Source, E: Explainer, S: Sink>(
     alloc: Global,
     network: &mut N,
@@ -58,13 +58,13 @@ pub fn lint_explained<N: Source, E: Explainer, S: Sink>(
     Ok(Answer::Yes)
 }
 
-/// Reads a network document and a traffic declaration, and writes the line `ok` where both mean something: where every
-/// other command would take them.
+/// Reads a network document and a traffic declaration, and writes the line `ok` if both are valid, so that every other
+/// command would accept them.
 ///
-/// Fails with the first refusal: 101 and those of [`fx_plan::read_plan`] for the network, with nothing of the traffic
-/// read before; 101 and those of [`fx_traffic::read_traffic`] for the traffic. 901 comes where a read fails or a reader
-/// hasn't ended after 4,294,967,296 calls, 900 for want of memory, 902 where a write fails. Nothing is written for a
-/// fault other than 902, nor before both documents are read to their ends.
+/// Fails with the first refusal: for the network, 101 and the errors of [`fx_plan::read_plan`], before any of the
+/// traffic is read; for the traffic, 101 and the errors of [`fx_traffic::read_traffic`]. Fails with 901 if a read fails
+/// or a reader hasn't ended after 4,294,967,296 calls, with 900 if out of memory, and with 902 if a write fails. For
+/// faults other than 902 nothing is written, nor is anything before both documents are read to their ends.
 pub fn lint_both_bytes<N: Source, T: Source, S: Sink>(
     alloc: Global,
     network: &mut N,
@@ -86,7 +86,7 @@ pub fn lint_both_bytes<N: Source, T: Source, S: Sink>(
     lint_both_explained(alloc, network, traffic, &mut Unexplained, sink)
 }
 
-/// Does what [`lint_both_bytes`] does, and lends the explainer what it knows.
+/// Does what [`lint_both_bytes`] does, and passes what it knows to the explainer.
 pub fn lint_both_explained<N: Source, T: Source, E: Explainer, S: Sink>(
     alloc: Global,
     network: &mut N,

@@ -17,7 +17,7 @@ use fx_base::{Fault, LineReader, Sink, Source};
 use fx_layout::Seed;
 use std::alloc::Global;
 
-/// Replays the run that a reader's lines say, and writes the text of its last state.
+/// Replays the run in a reader's lines, and writes the text of its last state.
 fn replay_lines<R: Source, E: Explainer, S: Sink>(
     alloc: Global,
     seed: Seed,
@@ -48,13 +48,13 @@ fn replay_lines<R: Source, E: Explainer, S: Sink>(
     )
 }
 
-/// Reads a network document, a traffic declaration and the text of a run, replays the run and writes the
-/// collector's totals in its last state, then whether the run is complete. Totals hash keys by the seed.
+/// Reads a network document, a traffic declaration and the text of a run, replays the run, and writes the collector's
+/// totals in its last state, then whether the run is complete. Totals hash keys by the seed.
 ///
-/// Fails with the first refusal: 101 and those of [`fx_plan::read_plan`] for the network, with nothing of the traffic
-/// read before; 101 and those of [`fx_traffic::read_traffic`] for the traffic; then, with nothing of the run's text
-/// read before, those of [`replay`]. 901 comes where a read fails or a reader hasn't ended after 4,294,967,296 calls,
-/// 900 for want of memory, 902 where a write fails. Nothing is written for a fault other than 902.
+/// Fails with the first refusal: for the network, 101 and the errors of [`fx_plan::read_plan`], before any of the
+/// traffic is read; for the traffic, 101 and the errors of [`fx_traffic::read_traffic`], before any of the run is read;
+/// for the run, the errors of [`replay`]. Fails with 901 if a read fails or a reader hasn't ended after 4,294,967,296
+/// calls, with 900 if out of memory, and with 902 if a write fails. For faults other than 902 nothing is written.
 pub fn replay_bytes<N: Source, T: Source, R: Source, S: Sink>(
     alloc: Global,
     seed: Seed,
@@ -79,7 +79,7 @@ pub fn replay_bytes<N: Source, T: Source, R: Source, S: Sink>(
     replay_explained(alloc, seed, network, traffic, run, &mut Unexplained, sink)
 }
 
-/// Does what [`replay_bytes`] does, and lends the explainer what it knows.
+/// Does what [`replay_bytes`] does, and passes what it knows to the explainer.
 pub fn replay_explained<N: Source, T: Source, R: Source, E: Explainer, S: Sink>(
     alloc: Global,
     seed: Seed,

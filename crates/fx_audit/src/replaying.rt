@@ -1,4 +1,4 @@
-//! A run replayed over the tables of a network.
+//! Replaying a run over the tables of a network.
 ghost use Rattle.std.specs.Prelude.{◌≡◌, ◌⊎◌, ◌++◌, None, Some, Ok, Err, OnOk, IfOk, IfErr, IfSome};
 ghost use Rattle.fx_base.specs.Device.{IsWriteFault, PutsText};
 ghost use Rattle.fx_base.specs.Fault.{IsMemory};
@@ -24,9 +24,9 @@ use fx_run_text::{RunBeginning, Step, read_next_step, read_packets};
 use fx_tables::{Classes, Net};
 use std::alloc::Global;
 
-/// Makes the step unless one before it was refused, and returns the first refusal, if there is one.
+/// Makes a step unless one before it was refused, and returns the first refusal, if any.
 ///
-/// Fails with 900, at no place, where memory runs out.
+/// Fails with 900, at no place, if out of memory.
 #[inline(always)]
 fn make_step<E: Explainer>(
     documents: &AcceptedDocuments,
@@ -67,11 +67,11 @@ fn make_step<E: Explainer>(
     }
 }
 
-/// Makes the steps of the run that the lines say, each when it is read, and returns the state after the last. After a step
-/// that is refused the lines are read to their end, since what is wrong in them goes before the refusal.
+/// Makes the steps of the run in the lines, each when it is read, and returns the state after the last. After a refused
+/// step the lines are read to their end, since an error in them precedes the refusal.
 ///
-/// Fails, where the lines say no run, as [`fx_run_text::read_run`]; else, at no place, with the number of the first step
-/// that is refused (851, 853, 852); and with 900 as soon as memory runs out.
+/// Fails as [`fx_run_text::read_run`] does if the lines are no run; otherwise, at no place, with the number of the
+/// first refused step (851, 853, 852); and with 900 as soon as memory runs out.
 fn last_state<'a, R: Source, E: Explainer>(
     alloc: Global,
     documents: &AcceptedDocuments,
@@ -115,7 +115,8 @@ fn last_state<'a, R: Source, E: Explainer>(
     }
 }
 
-/// Does what [`last_state`] does, and lends the explainer the state, or the last line that was read and the refusal.
+/// Does what [`last_state`] does, and passes to the explainer the state, or the last line that was read and the
+/// refusal.
 fn lent_state<'a, R: Source, E: Explainer>(
     alloc: Global,
     documents: &AcceptedDocuments,
@@ -149,7 +150,7 @@ fn put_complete<S: Sink>(sink: &mut S, complete: bool) -> Result<(), Fault>
     }
 }
 
-/// Writes totals with their keys in ascending order, and whether the run that came to them is complete.
+/// Writes totals with their keys in ascending order, and whether the run that led to them is complete.
 fn put_totals<S: Sink>(totals: &mut Totals, complete: bool, sink: &mut S) -> Result<(), Fault>
     ensures ok { OnOk result (Prints (λ text. (sorted : Totals)
         × IsInOrder totals.old sorted × (text ≡ totals_text sorted ++ complete_line complete))
@@ -163,10 +164,10 @@ fn put_totals<S: Sink>(totals: &mut Totals, complete: bool, sink: &mut S) -> Res
     put_complete(sink, complete)
 }
 
-/// Writes the text of a state that a run has come to: the totals of its report with their keys in ascending order,
-/// and whether it is complete. Nothing is written before all that takes memory is done.
+/// Writes the text of the last state of a run: the totals of its report with their keys in ascending order, and whether
+/// the run is complete. Nothing is written before everything that allocates is done.
 ///
-/// Fails with 900 for want of memory and with 902 where a write fails, each at no place.
+/// Fails at no place: with 900 if out of memory, and with 902 if a write fails.
 fn put_state<S: Sink>(
     alloc: Global,
     seed: Seed,
@@ -185,12 +186,12 @@ fn put_state<S: Sink>(
     put_totals(&mut totals, state.complete(), sink)
 }
 
-/// Replays the run that the lines say over the tables of a network, and writes the collector's totals in its last
-/// state, then whether the run is complete. Totals hash keys by the seed. Of the run its packets are kept, and no steps.
+/// Replays the run in the lines over the tables of a network, and writes the collector's totals in its last state, then
+/// whether the run is complete. Totals hash keys by the seed. The run's packets are kept, but no steps.
 ///
-/// Fails, where the lines say no run, as [`fx_run_text::read_run`]; else, at no place, with the number of the first step
-/// that is refused (851, 853, 852), with 900 for want of memory and with 902 where a write fails. Nothing is written
-/// before the last state is known and its totals are in order.
+/// Fails as [`fx_run_text::read_run`] does if the lines are no run; otherwise, at no place, with the number of the
+/// first refused step (851, 853, 852), with 900 if out of memory, and with 902 if a write fails. Nothing is written
+/// before the last state is known and its totals are sorted.
 pub fn replay<R: Source, E: Explainer, S: Sink>(
     alloc: Global,
     seed: Seed,
@@ -212,7 +213,7 @@ pub fn replay<R: Source, E: Explainer, S: Sink>(
     ensures quiet { FailsQuietly S.failed sink.old sink.new result }
 {
     let state = lent_state(alloc, documents, net, classes, lines, explainer)?;
-    // For the prover alone: the report's layout fits its axes.
+    // For the prover only: the report's layout fits its axes.
     let _layout = net.report_layout();
     put_state(alloc, seed, &state, sink)?;
     Ok(Answer::Yes)

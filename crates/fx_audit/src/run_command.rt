@@ -24,14 +24,14 @@ use fx_net::run;
 use fx_pcap::{Capture, Skipped};
 use std::alloc::Global;
 
-/// What a run has metered: what the collector has counted, and the frames of the capture that were skipped.
+/// The result of a run over a capture: what the collector has counted, and the frames that were skipped.
 #[derive(Drop)]
 struct Metered {
     totals: Totals,
     skipped: Skipped,
 }
 
-/// Runs a network over a capture, as [`run`] does. The explainer gets where it is refused.
+/// Runs a network over a capture, as [`run`] does. If the run is refused, passes where to the explainer.
 fn run_lent<C: Source, Q: Source, L: Links, E: Explainer>(
     alloc: Global,
     seed: Seed,
@@ -69,7 +69,7 @@ fn run_lent<C: Source, Q: Source, L: Links, E: Explainer>(
     outcome
 }
 
-/// Opens a capture, and runs a network over it as the lines of a schedule say.
+/// Opens a capture, and runs a network over it by the lines of a schedule.
 fn meter<C: Source, Q: Source, L: Links, E: Explainer>(
     alloc: Global,
     seed: Seed,
@@ -101,7 +101,7 @@ fn meter<C: Source, Q: Source, L: Links, E: Explainer>(
         links,
         explainer,
     );
-    // For the prover alone: the contract speaks of the source after the run.
+    // For the prover only: the contract speaks of the source after the run.
     capture.get_ref();
     let totals = outcome?;
     Ok(Metered {
@@ -110,7 +110,7 @@ fn meter<C: Source, Q: Source, L: Links, E: Explainer>(
     })
 }
 
-/// Writes the line that says how many frames were skipped.
+/// Writes the line with the number of skipped frames.
 fn put_skipped<S: Sink>(sink: &mut S, skipped: Skipped) -> Result<(), Fault>
     ensures { PutsText S.taken S.failed (skipped_line skipped.other skipped.malformed) sink.old
         sink.new result }
@@ -120,10 +120,10 @@ fn put_skipped<S: Sink>(sink: &mut S, skipped: Skipped) -> Result<(), Fault>
     put_number_line(sink, b" malformed ", skipped.malformed)
 }
 
-/// Writes the text of what was metered: the totals with their keys in ascending order, and how many frames were
-/// skipped. Nothing is written before all that takes memory is done.
+/// Writes the result of a run over a capture: the totals with their keys in ascending order, and the number of skipped
+/// frames. Nothing is written before everything that allocates is done.
 ///
-/// Fails with 900 for want of memory and with 902 where a write fails, each at no place.
+/// Fails at no place: with 900 if out of memory, and with 902 if a write fails.
 fn put_metered<S: Sink>(metered: Metered, sink: &mut S) -> Result<(), Fault>
     ensures ok { OnOk result (Prints
         (IsMeteredText metered.totals metered.skipped.other metered.skipped.malformed)
@@ -141,7 +141,7 @@ fn put_metered<S: Sink>(metered: Metered, sink: &mut S) -> Result<(), Fault>
     put_skipped(sink, skipped)
 }
 
-/// Runs a network over a capture, and writes the text of what it has metered.
+/// Runs a network over a capture, and writes the result.
 fn run_capture<C: Source, Q: Source, L: Links, E: Explainer, S: Sink>(
     alloc: Global,
     seed: Seed,
@@ -171,16 +171,16 @@ fn run_capture<C: Source, Q: Source, L: Links, E: Explainer, S: Sink>(
     Ok(Answer::Yes)
 }
 
-/// Reads a network document and a traffic declaration, opens a capture, and runs the network over it as the lines of a
-/// schedule say: the packets are metered, what is exported goes out on the links and is mediated, and the collector's
-/// totals are written, then how many frames of the capture were skipped. Stores and totals hash keys by the seed.
+/// Reads a network document and a traffic declaration, opens a capture, and runs the network over it by the lines of a
+/// schedule: meters the packets, sends what is exported on the links, mediates it, and writes the collector's totals,
+/// then the number of skipped frames of the capture. Stores and totals hash keys by the seed.
 ///
-/// Fails with the first refusal: 101 and those of [`fx_plan::read_plan`] for the network, with nothing of the traffic
-/// read before; 101 and those of [`fx_traffic::read_traffic`] for the traffic; then those of [`Capture::new`] for the
-/// capture's file header, with nothing of the schedule read and nothing put on the links before; then those of
-/// [`fx_net::run`]. 901 comes where a read fails or a reader hasn't ended after 4,294,967,296 calls, 900 where memory
-/// runs out, 902 where a write fails. Nothing is written on the sink for a fault other than 902. If a document is refused,
-/// nothing is read of the capture and the schedule, and nothing is put on the links.
+/// Fails with the first refusal: for the network, 101 and the errors of [`fx_plan::read_plan`], before any of the
+/// traffic is read; for the traffic, 101 and the errors of [`fx_traffic::read_traffic`]; for the capture's file header,
+/// the errors of [`Capture::new`], before any of the schedule is read and anything is sent on the links; then the
+/// errors of [`fx_net::run`]. Fails with 901 if a read fails or a reader hasn't ended after 4,294,967,296 calls, with
+/// 900 if out of memory, and with 902 if a write fails. For faults other than 902 nothing is written to the sink. If a
+/// document is refused, nothing is read of the capture and the schedule, and nothing is sent on the links.
 pub fn run_bytes<N: Source, T: Source, C: Source, Q: Source, L: Links, S: Sink>(
     alloc: Global,
     seed: Seed,
@@ -224,7 +224,7 @@ pub fn run_bytes<N: Source, T: Source, C: Source, Q: Source, L: Links, S: Sink>(
     )
 }
 
-/// Does what [`run_bytes`] does, and lends the explainer what it knows.
+/// Does what [`run_bytes`] does, and passes what it knows to the explainer.
 pub fn run_explained<N: Source, T: Source, C: Source, Q: Source, L: Links, E: Explainer, S: Sink>(
     alloc: Global,
     seed: Seed,

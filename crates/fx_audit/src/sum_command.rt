@@ -32,7 +32,7 @@ fn put_sum<S: Sink>(sum: &mut Sum, sink: &mut S) -> Result<Answer, Fault>
     Ok(Answer::Yes)
 }
 
-/// Adds the texts of totals that a reader's lines say to a sum. The explainer gets the line where one is refused.
+/// Adds the texts of totals in a reader's lines to a sum. If a line is refused, passes it to the explainer.
 ///
 /// Fails as [`Sum::add_texts`] does.
 fn add_lent<R: Source, E: Explainer>(
@@ -52,7 +52,7 @@ fn add_lent<R: Source, E: Explainer>(
     added
 }
 
-/// Adds the texts of totals that a reader's lines say to a sum of none, and writes what they come to.
+/// Adds the texts of totals in a reader's lines to an empty sum, and writes the result.
 fn sum_into<R: Source, E: Explainer, S: Sink>(
     sum: &mut Sum,
     key: &Layout,
@@ -74,7 +74,7 @@ fn sum_into<R: Source, E: Explainer, S: Sink>(
     put_sum(sum, sink)
 }
 
-/// Adds up the texts of totals under a layout's keys that a reader's lines say, and writes the sum.
+/// Adds up the texts of totals in a reader's lines, under a layout's keys, and writes the sum.
 fn sum_lines<R: Source, E: Explainer, S: Sink>(
     alloc: Global,
     seed: Seed,
@@ -95,14 +95,15 @@ fn sum_lines<R: Source, E: Explainer, S: Sink>(
     sum_into(&mut sum, layout, texts, explainer, sink)
 }
 
-/// Reads a network document, adds up texts of totals under the key of its report, one or more, one directly behind
-/// another as the commands that collect, run and replay wrote them, and writes the sum as such a text. Totals hash keys
-/// by the seed.
+/// Reads a network document and adds up one or more texts of totals under the key of its report, each directly
+/// following the one before, as written by the commands that collect, run and replay. Writes the sum as such a text.
+/// Totals hash keys by the seed.
 ///
-/// Fails with the first refusal: 101 and those of [`fx_plan::read_plan`] for the network, with nothing of the texts read
-/// before; then those of [`Sum::add_texts`]: 861 at the first line that isn't in its place, 903 at a line of more than
-/// 4,096 octets. 901 comes where a read fails or a reader hasn't ended after 4,294,967,296 calls, 900 for want of memory,
-/// 902 where a write fails. Nothing is written for a fault other than 902, nor before all texts are read.
+/// Fails with the first refusal: for the network, 101 and the errors of [`fx_plan::read_plan`], before any of the texts
+/// is read; then the errors of [`Sum::add_texts`]: 861 at the first misplaced line, and 903 at a line of more than
+/// 4,096 octets. Fails with 901 if a read fails or a reader hasn't ended after 4,294,967,296 calls, with 900 if out of
+/// memory, and with 902 if a write fails. For faults other than 902 nothing is written, nor is anything before all
+/// texts are read.
 pub fn sum_bytes<N: Source, R: Source, S: Sink>(
     alloc: Global,
     seed: Seed,
@@ -124,7 +125,7 @@ pub fn sum_bytes<N: Source, R: Source, S: Sink>(
     sum_explained(alloc, seed, network, texts, &mut Unexplained, sink)
 }
 
-/// Does what [`sum_bytes`] does, and lends the explainer what it knows.
+/// Does what [`sum_bytes`] does, and passes what it knows to the explainer.
 pub fn sum_explained<N: Source, R: Source, E: Explainer, S: Sink>(
     alloc: Global,
     seed: Seed,
