@@ -26,7 +26,7 @@ impl<'a> Documents<'a> {
     }
 }
 
-/// Parses octets as JSON. Returns none if they are no JSON text, or after a failed allocation, which the explanation notes.
+/// Parses octets as JSON. Returns `None` if they are no JSON text, or if out of memory, which the explanation notes.
 pub fn value_of_document(out: &mut Explanation, octets: &[u8]) -> Option<Value> {
     match Value::from_slice(out.alloc, octets) {
         Ok(value) => Some(value),
@@ -39,7 +39,7 @@ pub fn value_of_document(out: &mut Explanation, octets: &[u8]) -> Option<Value> 
     }
 }
 
-/// Returns the value; if it was refused, none. That memory ran out is noted.
+/// Returns the value, or `None` if it was refused. Notes a refusal for lack of memory.
 pub fn unless_refused<T: Drop>(out: &mut Explanation, outcome: Result<T, Fault>) -> Option<T> {
     match outcome {
         Ok(value) => Some(value),
@@ -52,7 +52,7 @@ pub fn unless_refused<T: Drop>(out: &mut Explanation, outcome: Result<T, Fault>)
     }
 }
 
-/// Returns the name of a class by its number, from 1, or an empty text if there is no such class.
+/// Returns the name of a class by its 1-based number, or an empty text if there is no such class.
 pub fn class_name<'a>(documents: &Documents<'a>, number: u64) -> &'a str {
     documents.traffic.class_name(number).unwrap_or("")
 }

@@ -33,7 +33,7 @@ pub(crate) fn write_crossings(out: &mut Explanation, plan: &Plan, crossings: &[C
     }
 }
 
-/// Writes a crossing after its number.
+/// Writes a number, and the crossing after it.
 pub fn write_numbered(out: &mut Explanation, plan: &Plan, number: u64, crossing: &Crossing) {
     out.text_number("crossing ", number);
     out.text(" (");

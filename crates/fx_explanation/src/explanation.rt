@@ -1,4 +1,4 @@
-//! A text that is gathered before any of it is written.
+//! Text that is collected before any of it is written.
 ghost use Rattle.std.specs.Prelude.{◌≡◌, true, IfOk};
 ghost use Rattle.fx_base.specs.Fault.{shown};
 ghost use Rattle.fx_explanation.specs.Explanations.{IsPlainText, is_plain};
@@ -9,11 +9,11 @@ use itoa::Buffer;
 use std::alloc::{AllocError, Global};
 use std::marker::Model;
 
-/// Lines of text, with `?` for each control character that a document has. After a failed allocation further writes are
+/// Lines of text, in which each control character of a document is `?`. After a failed allocation further writes are
 /// ignored, and [`Explanation::octets`] returns the error.
 #[derive(Drop)]
 pub struct Explanation {
-    /// The allocator of its octets, and of what is gathered for it.
+    /// The allocator of its octets and of what is collected for it.
     pub alloc: Global,
     octets: Vec<u8>,
     is_short: bool,
@@ -30,7 +30,7 @@ impl Model for Explanation {
     ghost invariant = { λ s. IsPlainText s.octets.items };
 }
 
-/// Returns an octet, or `?` for a control character.
+/// Returns the octet, or `?` if it is a control character.
 fn shown_octet(octet: u8) -> u8
     ensures { result ≡ shown octet }
 {
@@ -41,14 +41,14 @@ fn shown_octet(octet: u8) -> u8
     }
 }
 
-/// Returns the separator if one of several was shown before, and otherwise an empty text.
+/// Returns the separator if an item was shown before, and otherwise an empty text.
 pub fn between(shown: bool, separator: &'static str) -> &'static str {
     if shown { separator } else { "" }
 }
 
-/// Returns the year, month and day of a day, counted in days since 1 January 1970.
+/// Returns the year, month and day of a day that is given in days since 1 January 1970.
 fn date_of(days: u64) -> (u64, u64, u64) {
-    // Years begin in March here, so that the day of a leap year is the last one; 719,468 days lie between the years 0
+    // Years begin in March here, so that the leap day is the last day of a year; 719,468 days lie between the years 0
     // and 1970.
     let days = days.saturating_add(719_468);
     let (era, day) = (days / 146_097, days % 146_097);
@@ -109,7 +109,7 @@ impl Explanation {
         self.is_short = true;
     }
 
-    /// Returns the value; after a failed allocation, which is noted, none.
+    /// Returns the value, or `None` after a failed allocation, which is noted.
     pub fn unless_short<T: Drop>(&mut self, made: Result<T, AllocError>) -> Option<T> {
         match made {
             Ok(made) => Some(made),
@@ -120,7 +120,7 @@ impl Explanation {
         }
     }
 
-    /// Writes an octet: a line feed or no control character.
+    /// Writes an octet that is a line feed or no control character.
     fn octet(&mut self, octet: u8)
         requires { is_plain octet ≡ true }
     {
@@ -147,7 +147,7 @@ impl Explanation {
         }
     }
 
-    /// Writes another explanation.
+    /// Writes the text of another explanation.
     pub fn all_of(&mut self, other: &Explanation) {
         match other.octets() {
             Ok(octets) => self.lines_of(octets),
@@ -161,7 +161,8 @@ impl Explanation {
     }
 
     /// Writes a text.
-    // Inlined at its hundreds of callers, of which a run takes a few, it would cost more than calls.
+    // It isn't inlined at its hundreds of callers: a run takes only a few of them, so inlining would cost more than
+    // calls.
     #[cold]
     #[inline(never)]
     pub fn text(&mut self, text: &str) {
@@ -207,7 +208,7 @@ impl Explanation {
         self.text("Z");
     }
 
-    /// Writes a value of an axis, addresses in their usual notation.
+    /// Writes a value of an axis; an address is in the usual notation.
     pub fn value(&mut self, axis: Axis, value: u128) {
         if value > top(axis) {
             return;
@@ -219,7 +220,7 @@ impl Explanation {
         self.octets_of(room.octets());
     }
 
-    /// Writes a text, and after it a name in quotation marks.
+    /// Writes a text, and a name in quotation marks after it.
     #[cold]
     #[inline(never)]
     pub fn text_quoted(&mut self, text: &str, name: &str) {
@@ -227,7 +228,7 @@ impl Explanation {
         self.quoted(name);
     }
 
-    /// Writes a text, and after it a number in decimal.
+    /// Writes a text, and a number in decimal after it.
     #[cold]
     #[inline(never)]
     pub fn text_number(&mut self, text: &str, number: u64) {

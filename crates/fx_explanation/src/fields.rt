@@ -1,12 +1,12 @@
-//! Fields of templates in words.
+//! Descriptions of the fields of templates.
 use crate::explanation::{Explanation, between};
 use fx_elements::{Element, by_id, width};
 use fx_wire::{FieldSpecifier, VARIABLE};
 
-/// How many fields of a template are written.
+/// The maximum number of fields of a template that are written.
 const FIELDS: usize = 20;
 
-/// The elements of the IANA registry (RFC 7012) that exporters send, by their numbers.
+/// The elements of the IANA registry (RFC 7012) that exporters send, with their numbers.
 const ELEMENTS: [(u16, &str); 64] = [
     (1, "octetDeltaCount"),
     (2, "packetDeltaCount"),
@@ -74,7 +74,8 @@ const ELEMENTS: [(u16, &str); 64] = [
     (311, "samplingProbability"),
 ];
 
-/// Returns the name of an information element of the IANA registry, or an empty text if it is not one of those that exporters often send.
+/// Returns the name of an information element of the IANA registry, or an empty text if it isn't one that exporters
+/// often send.
 pub fn element_name(number: u16) -> &'static str {
     for (known, name) in &ELEMENTS {
         if *known == number {
@@ -84,7 +85,7 @@ pub fn element_name(number: u16) -> &'static str {
     ""
 }
 
-/// Writes a field's element: its name, where it is known, and its number and enterprise.
+/// Writes a field's element: its name, if known, and its number and enterprise.
 pub fn write_element(out: &mut Explanation, field: &FieldSpecifier) {
     let number = u64::from(field.element);
     if let Some(enterprise) = field.enterprise {
@@ -124,7 +125,7 @@ pub(crate) fn write_fields_of(out: &mut Explanation, fields: &[FieldSpecifier]) 
     }
 }
 
-/// Writes how many octets the values of a field's element must have.
+/// Writes the lengths, in octets, that the values of a field's element may have.
 pub fn write_allowed_length(out: &mut Explanation, field: &FieldSpecifier) {
     let wide = match by_id(field.element, field.enterprise.unwrap_or(0)) {
         Element::OnAxis(axis) | Element::Prefix(axis) => width(axis) / 8,

@@ -1,6 +1,6 @@
-//! What stands in the place of an IPFIX message, by its first octets.
+//! Recognizing other file formats by their first octets where an IPFIX message is expected.
 
-/// Returns what octets are that are no IPFIX message, in words, with what to do about it.
+/// Returns a description of octets that are no IPFIX message, with what to do about it.
 pub fn format_of(octets: &[u8]) -> Option<&'static str> {
     capture_format(octets)
         .or(flow_format(octets))
@@ -8,7 +8,7 @@ pub fn format_of(octets: &[u8]) -> Option<&'static str> {
         .or(text_format(octets))
 }
 
-/// Returns whether octets begin a capture in pcap.
+/// Returns whether octets begin a pcap capture.
 pub(crate) fn is_pcap(octets: &[u8]) -> bool {
     matches!(
         octets,
@@ -19,19 +19,19 @@ pub(crate) fn is_pcap(octets: &[u8]) -> bool {
     )
 }
 
-/// Returns whether octets begin a capture in pcapng.
+/// Returns whether octets begin a pcapng capture.
 pub fn is_pcapng(octets: &[u8]) -> bool {
     octets.starts_with(b"\x0a\x0d\x0d\x0a")
 }
 
-/// Octets with which a file begins, and what to say of it.
+/// The first octets of a file format, and its description.
 #[derive(Clone, Copy)]
 struct Format {
     begins: &'static [u8],
     words: &'static str,
 }
 
-/// Messages of other protocols of flows, and what is made of them.
+/// Messages of other flow protocols, with their descriptions.
 const FLOWS: &[Format] = &[
     Format {
         begins: b"\x00\x05",
@@ -55,7 +55,7 @@ const FLOWS: &[Format] = &[
     },
 ];
 
-/// What to say of a file of nfdump, whichever octet its numbers have first.
+/// The description of an nfdump file, in either byte order.
 const NFDUMP: &str =
     "These octets begin a file of nfdump, which nfcapd wrote, and not what the exporter sent. Capture that: docs/GUIDE.md says how to take the messages out.";
 
@@ -79,7 +79,7 @@ const PACKED: &[Format] = &[
     },
 ];
 
-/// Returns what to say of octets that begin as the first of these formats that they begin as.
+/// Returns the description of the first of these formats whose first octets these are.
 fn words_of(formats: &[Format], octets: &[u8]) -> Option<&'static str> {
     for format in formats {
         if octets.starts_with(format.begins) {
@@ -89,7 +89,7 @@ fn words_of(formats: &[Format], octets: &[u8]) -> Option<&'static str> {
     None
 }
 
-/// Returns what octets are that begin a capture.
+/// Returns a description of octets that begin a capture.
 fn capture_format(octets: &[u8]) -> Option<&'static str> {
     if is_pcap(octets) {
         Some(
@@ -104,12 +104,12 @@ fn capture_format(octets: &[u8]) -> Option<&'static str> {
     }
 }
 
-/// Returns what octets are that begin a message of another protocol of flows.
+/// Returns a description of octets that begin a message of another flow protocol.
 pub fn flow_format(octets: &[u8]) -> Option<&'static str> {
     words_of(FLOWS, octets)
 }
 
-/// Returns what octets are that begin a compressed file.
+/// Returns a description of octets that begin a compressed file.
 pub fn packed_format(octets: &[u8]) -> Option<&'static str> {
     words_of(PACKED, octets)
 }
@@ -135,7 +135,7 @@ fn is_digits_of_message(octets: &[u8]) -> bool {
     )
 }
 
-/// Returns what octets are that begin a text.
+/// Returns a description of octets that begin a text.
 fn text_format(octets: &[u8]) -> Option<&'static str> {
     if is_digits_of_message(octets) {
         return Some(

@@ -1,4 +1,4 @@
-//! What explanations have in common: text without control characters, names, crossings, regions and fields.
+//! What explanations share: text without control characters, names, crossings, regions and fields.
 #![tactic(auto)]
 
 mod accepted;

@@ -5,13 +5,13 @@ use fx_plan::Plan;
 use fx_topology::NamedLink;
 use fx_walk::{Named, place_of};
 
-/// Returns the entry with this name.
+/// Returns the entry with the given name.
 pub fn entry_named<'a, T: Named>(entries: &'a [T], name: &Name) -> Option<&'a T> {
     let place = place_of(entries, name)?;
     entries.get(place)
 }
 
-/// Returns the name of a device by its number, from 1.
+/// Returns the name of a device by its 1-based number.
 pub(crate) fn device_name(plan: &Plan, number: u64) -> Option<&str> {
     let device = entry_numbered(plan.network().devices.as_slice(), number)?;
     Some(device.name.as_str())
@@ -35,7 +35,7 @@ pub fn link_from<'a>(
     None
 }
 
-/// Returns the selection process of an observation point by its number, from 1.
+/// Returns the selection process of an observation point by its 1-based number.
 pub fn selection_process<'a>(
     device: &'a Device,
     point: &ObservationPoint,

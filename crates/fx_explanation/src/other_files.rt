@@ -1,9 +1,9 @@
-//! Files of another kind in a document's place, by their first octets.
+//! Recognizing files of other kinds by their first octets where a document is expected.
 use crate::explanation::Explanation;
 use crate::formats::{is_pcap, is_pcapng, packed_format};
 use std::str;
 
-/// What to do with a file that is to be left out.
+/// What to do with a file that should be left out.
 const LEFT_OUT: &str = "name the document's file in its place";
 
 /// A file that is no document.
@@ -11,13 +11,13 @@ const LEFT_OUT: &str = "name the document's file in its place";
 struct OtherFile {
     /// The octets with which it begins, or the first word of a text.
     mark: &'static [u8],
-    /// What it is, with its article.
+    /// Its name, with the article.
     name: &'static str,
-    /// Where it belongs, or what is to be done with it.
+    /// Where it belongs, or what to do with it.
     next: &'static str,
 }
 
-/// Where a schedule belongs, and a capture.
+/// Where a schedule belongs, and where a capture does.
 const WITH_CAPTURE: &str = "the order of the files is: once run NETWORK TRAFFIC CAPTURE SCHEDULE";
 
 /// Where a bundle belongs.
@@ -30,7 +30,7 @@ const MODULE: &str =
 /// What to do with a text in YAML.
 const YAML: &str = "a document is JSON: turn it to that, as yq -o json does";
 
-/// Texts, by their first words: those of this program, and others.
+/// Texts by their first words: those of this program, and others.
 const TEXTS: &[OtherFile] = &[
     OtherFile {
         mark: b"once-certificate",
@@ -184,7 +184,7 @@ const TEXTS: &[OtherFile] = &[
     },
 ];
 
-/// Files that are no texts, by the octets with which they begin.
+/// Files that are no texts, by their first octets.
 const FILES: &[OtherFile] = &[
     OtherFile {
         mark: b"\x00\x0a",
@@ -277,7 +277,7 @@ fn is_page(word: &str) -> bool {
         || word.starts_with("<head")
 }
 
-/// Returns which text a word begins.
+/// Returns the text that begins with a word.
 fn text_of(word: &str) -> Option<OtherFile> {
     for text in TEXTS {
         if text.mark == word.as_bytes() {
@@ -295,7 +295,7 @@ fn text_of(word: &str) -> Option<OtherFile> {
     }
 }
 
-/// Returns whether a text is a table of a network, by one of its lines.
+/// Returns whether a text is a table of a network, judged by one of its lines.
 fn is_table(octets: &[u8]) -> bool {
     match str::from_utf8(octets) {
         Ok(text) => text.contains("\nobservation-point "),
@@ -311,7 +311,7 @@ fn first_word(octets: &[u8]) -> &str {
     }
 }
 
-/// Returns which file these octets begin that is known by them alone.
+/// Returns the file that these octets begin, if they alone identify it.
 fn file_of(octets: &[u8]) -> Option<OtherFile> {
     for file in FILES {
         if octets.starts_with(file.mark) {
@@ -327,7 +327,7 @@ fn file_of(octets: &[u8]) -> Option<OtherFile> {
     }
 }
 
-/// Returns what a line is that begins a file of another kind, in words, by its octets.
+/// Returns a description of a line that begins a file of another kind, recognized by its octets.
 fn words_of_file(line: &[u8]) -> Option<&'static str> {
     if line.starts_with(b"\xff\xfe") || line.starts_with(b"\xfe\xff") {
         Some(
@@ -344,7 +344,7 @@ fn words_of_file(line: &[u8]) -> Option<&'static str> {
     }
 }
 
-/// Returns what a line is that begins a file of another kind, in words; none of a line that may be one of a text.
+/// Returns a description of a line that begins a file of another kind, or `None` if the line may belong to a text.
 pub fn foreign_words(line: &[u8]) -> Option<&'static str> {
     words_of_file(line).or(if line.contains(&0) {
         Some("octets of zero stand in it: it is no text in UTF-8")
@@ -353,7 +353,7 @@ pub fn foreign_words(line: &[u8]) -> Option<&'static str> {
     })
 }
 
-/// Returns what follows the kind of a file in the place of a network or of a traffic declaration.
+/// Returns what follows the kind of a file that is given instead of a network or of a traffic declaration.
 fn due_words(is_network: bool) -> &'static str {
     if is_network {
         "; a network document is expected there"
@@ -362,7 +362,7 @@ fn due_words(is_network: bool) -> &'static str {
     }
 }
 
-/// Writes which file of another kind these octets begin, and where that belongs. Answers whether they begin one.
+/// Writes which file of another kind these octets begin, and where that file belongs. Returns whether they begin one.
 pub fn write_other_file(out: &mut Explanation, octets: &[u8], is_network: bool) -> bool {
     if let Some(words) = packed_format(octets) {
         out.sentence(words);

@@ -1,4 +1,4 @@
-//! Octets, and the numbers that they encode.
+//! Octets and the numbers that they encode.
 use crate::explanation::Explanation;
 
 /// The hexadecimal digits.

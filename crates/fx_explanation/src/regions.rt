@@ -3,7 +3,7 @@ use crate::explanation::Explanation;
 use fx_boxes::Region;
 use fx_elements::{Axis, EVERY_AXIS, top};
 
-/// Returns the name of an axis in certificates.
+/// Returns the name of an axis as in certificates.
 pub fn axis_word(axis: Axis) -> &'static str {
     match axis {
         Axis::Source => "source",

@@ -48,7 +48,7 @@ fn write_destinations(
     }
 }
 
-/// Writes where an exporting process sends a record: to the destination with this number, from 1, or to all.
+/// Writes where an exporting process sends a record: to the destination with this 1-based number, or to all.
 fn write_process(
     out: &mut Explanation,
     plan: &Plan,
@@ -74,8 +74,9 @@ pub fn chooses(process: &ExportingProcess) -> bool {
     !matches!(process.mode, ExportMode::Parallel)
 }
 
-/// Writes where the exporting processes with these names send a record, by the choices of a step, one for each process
-/// that isn't parallel; without choices, to all destinations. Returns how many processes choose.
+/// Writes where the exporting processes with these names send a record, by the choices of a step, which has one for
+/// each process that isn't parallel. Without choices, writes all destinations. Returns the number of processes that
+/// choose.
 pub fn write_sending(
     out: &mut Explanation,
     plan: &Plan,
