@@ -1,4 +1,4 @@
-//! Where a certificate says that packets are counted.
+//! Drawing where a certificate says that packets are counted.
 ghost use Rattle.std.specs.Prelude.{IfErr};
 ghost use Rattle.fx_base.specs.Fault.{IsMemory};
 
@@ -12,7 +12,7 @@ use fx_cert::{Item, read_item};
 use fx_traffic::Target;
 use std::alloc::{AllocError, Global};
 
-/// Where a leaf says that the packets of a path are counted.
+/// A place where, by a leaf, the packets of a path are counted.
 #[derive(Clone, Copy, PartialEq, Eq, Drop)]
 struct Place {
     class: u64,
@@ -22,17 +22,17 @@ struct Place {
     process: u64,
 }
 
-/// The places that a certificate's leaves name, each once for a path, in order.
+/// The places in a certificate's leaves, in order, each once per path.
 #[derive(Drop)]
 struct Places {
     class: u64,
     path: u64,
     places: Vec<Place>,
-    /// Where those of the path begin.
+    /// The index of the current path's first place.
     begun: usize,
 }
 
-/// Whether a place is one of these, from a place in the list on.
+/// Returns whether a place is among these, from index `begun` on.
 fn is_among(places: &[Place], begun: usize, place: &Place) -> bool {
     for at in begun..places.len() {
         if places[at] == *place {
@@ -43,7 +43,7 @@ fn is_among(places: &[Place], begun: usize, place: &Place) -> bool {
 }
 
 impl Places {
-    /// Takes a leaf.
+    /// Adds the place of a leaf, unless the current path has it.
     fn leaf(&mut self, crossing: u64, point: u64, process: u64) -> Result<(), AllocError> {
         let place = Place {
             class: self.class,
@@ -58,7 +58,7 @@ impl Places {
         Ok(())
     }
 
-    /// Takes what a line says.
+    /// Takes the item of a line.
     fn take(&mut self, item: &Item) -> Result<(), AllocError> {
         match item {
             Item::Class { class, path } => {
@@ -77,7 +77,7 @@ impl Places {
     }
 }
 
-/// The places that the leaves of a certificate's text name.
+/// Returns the places in the leaves of a certificate's text.
 fn places_of(alloc: Global, certificate: &[u8]) -> Result<Places, Fault>
     ensures { IfErr result IsMemory }
 {
@@ -96,7 +96,7 @@ fn places_of(alloc: Global, certificate: &[u8]) -> Result<Places, Fault>
     Ok(places)
 }
 
-/// Draws where packets of a path are counted.
+/// Draws where the packets of a path are counted.
 fn draw_place(dot: &mut Dot, documents: &Documents, targets: &[Target<'_>], place: &Place) {
     for target in targets {
         if target.class == place.class && target.path == place.path {
@@ -108,7 +108,7 @@ fn draw_place(dot: &mut Dot, documents: &Documents, targets: &[Target<'_>], plac
     }
 }
 
-/// Draws where packets of a path are counted, in a device.
+/// Draws where the packets of a path are counted within a device.
 fn draw_counted(dot: &mut Dot, documents: &Documents, place: &Place, device: u64) {
     let Some(config) = documents.plan.device(device) else {
         return;

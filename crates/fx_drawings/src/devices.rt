@@ -1,4 +1,4 @@
-//! Devices and what they are made of.
+//! Drawing devices and their parts.
 use crate::dot::Dot;
 use crate::labels::{
     add_key, add_match, add_method, add_names, direction_name, kind_name, mode_name,
@@ -12,7 +12,7 @@ use fx_layout::Part;
 use fx_plan::Plan;
 use fx_topology::{NetworkDevice, Report};
 
-/// Begins a node with its name as the first line of its label.
+/// Begins a node, with its name as the first line of its label.
 fn begin<'x>(dot: &mut Dot, node: nodes::Node, look: &'static str, name: &'x Name) {
     dot.code_node("    ", node);
     dot.code(" [");
@@ -25,7 +25,7 @@ fn end(dot: &mut Dot) {
     dot.line("\"];")
 }
 
-/// Draws an observation point: its interfaces, and the directions in which it sees packets.
+/// Draws an observation point: its interfaces, and the directions in which it observes packets.
 fn draw_point(dot: &mut Dot, node: nodes::Node, point: &ObservationPoint) {
     begin(dot, node, "shape=cds", &point.name);
     dot.code("\\n");
@@ -35,7 +35,7 @@ fn draw_point(dot: &mut Dot, node: nodes::Node, point: &ObservationPoint) {
     end(dot)
 }
 
-/// Draws a selection process: what its selectors pass.
+/// Draws a selection process: what its selectors select.
 fn draw_selection(dot: &mut Dot, node: nodes::Node, process: &SelectionProcess) {
     begin(dot, node, "shape=hexagon", &process.name);
     for selector in process.selectors.as_slice() {
@@ -61,7 +61,7 @@ fn draw_exporter(dot: &mut Dot, node: nodes::Node, process: &ExportingProcess) {
     end(dot)
 }
 
-/// Draws an aggregation: which records it takes in, and their key.
+/// Draws an aggregation: which records it aggregates, and their key.
 fn draw_aggregation(dot: &mut Dot, node: nodes::Node, aggregation: &Aggregation) {
     begin(dot, node, "shape=cylinder", &aggregation.name);
     dot.code("\\naggregation");
@@ -72,12 +72,12 @@ fn draw_aggregation(dot: &mut Dot, node: nodes::Node, aggregation: &Aggregation)
     end(dot)
 }
 
-/// Whether the report is that of a collecting process of a device.
+/// Returns whether a report is that of the given collecting process of a device.
 pub(crate) fn reports(report: &Report, device: &Name, process: &Name) -> bool {
     report.device == *device && report.collecting_process == *process
 }
 
-/// Draws a collecting process, with two lines around the one of the report, and the report's key.
+/// Draws a collecting process. The one of the report has two lines around it and shows the report's key.
 fn draw_collector(
     dot: &mut Dot,
     node: nodes::Node,
@@ -159,7 +159,7 @@ fn draw_exporters(dot: &mut Dot, number: u64, device: &NetworkDevice) {
     }
 }
 
-/// Draws the device of this number, from 1, as a box around what it is made of.
+/// Draws the device with this 1-based number as a box around its parts.
 pub(crate) fn draw_device(dot: &mut Dot, plan: &Plan, number: u64, device: &NetworkDevice) {
     dot.code_number("  subgraph cluster_", number);
     dot.line(" {");

@@ -1,24 +1,24 @@
-//! The documents that are drawn, read from their octets.
+//! Reading the documents that are drawn.
 use fx_base::{Fault, entry_numbered, refusals};
 use fx_plan::Plan;
 use fx_traffic::{Traffic, read_traffic};
 use serde_json::Value;
 use std::alloc::Global;
 
-/// What two documents say.
+/// The content of the two documents.
 #[derive(Drop)]
 pub(crate) struct Documents {
     /// The network.
     pub(crate) plan: Plan,
     /// The traffic.
     pub(crate) traffic: Traffic,
-    /// The traffic's document, for the names of its classes.
+    /// The JSON value of the traffic declaration, for the names of its classes.
     pub(crate) classes: Value,
 }
 
-/// The value that octets are the JSON text of.
+/// Parses octets as a JSON text.
 ///
-/// Fails with 101, at no place, where they are no such text, and with 900 for want of memory.
+/// Fails with 101, at no place, if they are no JSON text, and with 900 if out of memory.
 pub(crate) fn read_json(alloc: Global, octets: &[u8]) -> Result<Value, Fault> {
     match Value::from_slice(alloc, octets) {
         Ok(value) => Ok(value),
@@ -31,9 +31,9 @@ pub(crate) fn read_json(alloc: Global, octets: &[u8]) -> Result<Value, Fault> {
     }
 }
 
-/// What both documents say, of which the network was read before.
+/// Returns the content of both documents, given the network.
 ///
-/// Fails with 101 and as [`read_traffic`] does.
+/// Fails with 101, and as [`read_traffic`] does.
 pub(crate) fn with_traffic(alloc: Global, plan: Plan, traffic: &[u8]) -> Result<Documents, Fault> {
     let classes = read_json(alloc, traffic)?;
     let traffic = read_traffic(alloc, &classes, &plan)?;
@@ -44,7 +44,7 @@ pub(crate) fn with_traffic(alloc: Global, plan: Plan, traffic: &[u8]) -> Result<
     })
 }
 
-/// The name of the class of this number, from 1.
+/// Returns the name of the class with this 1-based number.
 fn name_of_class(traffic: &Value, number: u64) -> Option<&str> {
     let classes = traffic.get("classes")?.as_array()?;
     entry_numbered(classes.as_slice(), number)?
@@ -52,7 +52,7 @@ fn name_of_class(traffic: &Value, number: u64) -> Option<&str> {
         .as_str()
 }
 
-/// The name of the class of this number, from 1, or an empty text.
+/// Returns the name of the class with this 1-based number, or an empty text.
 pub(crate) fn class_name(documents: &Documents, number: u64) -> &str {
     name_of_class(&documents.classes, number).unwrap_or("")
 }

@@ -1,4 +1,4 @@
-//! Text in the DOT language of Graphviz that is gathered before any of it is written.
+//! Text in the DOT language of Graphviz that is collected before any of it is written.
 ghost use Rattle.std.specs.Prelude.{◌≡◌, true, IfOk};
 ghost use Rattle.fx_base.specs.Fault.{shown};
 ghost use Rattle.fx_drawings.specs.Drawings.{IsPlainText, is_plain};
@@ -10,8 +10,8 @@ use itoa::Buffer;
 use std::alloc::{AllocError, Global};
 use std::marker::Model;
 
-/// Statements of a graph, without control characters but line feeds: those of a document stand as `?`. Where there is no
-/// memory for more, nothing is added from then on, and that is told at the end alone.
+/// The statements of a graph, with no control characters but line feeds: those of a document become `?`. After a failed
+/// allocation nothing more is added, and [`Dot::octets`] returns the error.
 #[derive(Drop)]
 pub(crate) struct Dot {
     octets: Vec<u8>,
@@ -29,7 +29,7 @@ impl Model for Dot {
     ghost invariant = { λ d. IsPlainText d.octets.items };
 }
 
-/// An octet as it stands in a drawing: a control character as `?`.
+/// Returns the octet as it is drawn: `?` for a control character.
 fn shown_octet(octet: u8) -> u8
     ensures { result ≡ shown octet }
 {
@@ -41,7 +41,7 @@ fn shown_octet(octet: u8) -> u8
 }
 
 impl Dot {
-    /// No statement yet.
+    /// Returns a drawing without statements.
     pub(crate) fn new(alloc: Global) -> Dot {
         Dot {
             octets: Vec::new(alloc),
@@ -49,7 +49,9 @@ impl Dot {
         }
     }
 
-    /// The statements, where there was memory for all of them.
+    /// Returns the statements.
+    ///
+    /// Fails if an allocation failed while they were added.
     pub(crate) fn octets(&self) -> Result<&[u8], AllocError>
         ensures plain { IfOk result (λ octets. IsPlainText octets.now) }
     {
@@ -59,7 +61,7 @@ impl Dot {
         Ok(self.octets.as_slice())
     }
 
-    /// Adds an octet, which is a line feed or no control character.
+    /// Adds an octet that is a line feed or no control character.
     fn octet(&mut self, octet: u8)
         requires { is_plain octet ≡ true }
     {
@@ -80,7 +82,7 @@ impl Dot {
         self.octets_of(text.as_bytes());
     }
 
-    /// Adds octets within quotation marks: those that they have, and backslashes, are escaped; a line feed begins a new line
+    /// Adds octets to a quoted string: quotation marks and backslashes are escaped, and a line feed begins a new line
     /// of a label.
     pub(crate) fn lines(&mut self, octets: &[u8]) {
         for octet in octets {
@@ -93,7 +95,7 @@ impl Dot {
         }
     }
 
-    /// Adds a text within quotation marks, likewise.
+    /// Adds a text to a quoted string, escaped as by [`Dot::lines`].
     pub(crate) fn quoted(&mut self, text: &str) {
         self.lines(text.as_bytes());
     }
@@ -112,31 +114,31 @@ impl Dot {
         self.code_number("_", node.third);
     }
 
-    /// Adds a value of an axis, an address as an address.
+    /// Adds a value of an axis; an address is in the usual notation.
     pub(crate) fn value(&mut self, axis: Axis, value: u128) {
         if value > top(axis) {
             return;
         }
         let mut octets = [0; 64];
         let mut room = Room::new(&mut octets);
-        // No value is longer than the room.
+        // No value is longer than the buffer.
         let _written = put_value(&mut room, axis, width(axis), value);
         self.octets_of(room.octets());
     }
 
-    /// Adds a part of a statement, and behind it a number in decimal.
+    /// Adds a part of a statement, and a number in decimal after it.
     pub(crate) fn code_number(&mut self, text: &str, number: u64) {
         self.code(text);
         self.number(number);
     }
 
-    /// Adds a part of a statement, and behind it a node's name.
+    /// Adds a part of a statement, and a node's name after it.
     pub(crate) fn code_node(&mut self, text: &str, node: Node) {
         self.code(text);
         self.node(node);
     }
 
-    /// Adds a part of a statement, and behind it a text within quotation marks.
+    /// Adds a part of a statement, and an escaped text of a quoted string after it.
     pub(crate) fn code_quoted(&mut self, text: &str, quoted: &str) {
         self.code(text);
         self.quoted(quoted);

@@ -1,4 +1,4 @@
-//! A drawing of documents, and of what is said of them.
+//! Drawing documents, and a certificate or a refutation of them.
 ghost use Rattle.std.specs.Prelude.{◌≡◌, ◌⊎◌, IfErr, OnOk};
 ghost use Rattle.fx_base.specs.Device.{IsWriteFault, KeepsGoing};
 ghost use Rattle.fx_drawings.specs.Drawings.{WritesDrawing};
@@ -16,7 +16,7 @@ use fx_plan::{Plan, read_plan};
 use fx_refute::{Refutation, confirm, read_refutation};
 use std::alloc::{AllocError, Global};
 
-/// What the text of a certificate begins with.
+/// The beginning of a certificate's text.
 const CERTIFICATE: &[u8] = b"once-certificate";
 
 /// Draws the devices of a network, and the edges within and between them.
@@ -35,7 +35,7 @@ fn draw_network(dot: &mut Dot, plan: &Plan) -> Result<(), AllocError> {
     Ok(())
 }
 
-/// Draws a certificate that is accepted.
+/// Checks a certificate, and draws it.
 fn draw_checked(
     alloc: Global,
     dot: &mut Dot,
@@ -48,7 +48,7 @@ fn draw_checked(
     draw_certificate(alloc, dot, documents, targets.as_slice(), certificate)
 }
 
-/// Draws what the run of a refutation comes to, where that is confirmed, and the run.
+/// Confirms a refutation, and draws its run and the result.
 fn draw_ran(
     alloc: Global,
     dot: &mut Dot,
@@ -61,7 +61,7 @@ fn draw_ran(
     Ok(())
 }
 
-/// Draws a refutation that is confirmed.
+/// Reads and confirms a refutation, and draws it.
 fn draw_confirmed(
     alloc: Global,
     dot: &mut Dot,
@@ -73,7 +73,7 @@ fn draw_confirmed(
     draw_ran(alloc, dot, documents, &refutation)
 }
 
-/// Draws the traffic over a network, and what a certificate or a refutation says of it.
+/// Draws the traffic over a network, and the certificate or refutation of it, if given.
 fn draw_over(
     alloc: Global,
     dot: &mut Dot,
@@ -94,13 +94,13 @@ fn draw_over(
     }
 }
 
-/// The network of a document.
+/// Returns the network that a document describes.
 fn plan_of(alloc: Global, network: &[u8]) -> Result<Plan, Fault> {
     let value = read_json(alloc, network)?;
     read_plan(alloc, &value)
 }
 
-/// Draws a network, the traffic over it where that is given, and what is said of them.
+/// Draws a network, the traffic over it, and a certificate or a refutation; the latter two are optional.
 fn draw_documents(
     alloc: Global,
     dot: &mut Dot,
@@ -119,7 +119,8 @@ fn draw_documents(
     }
 }
 
-/// The drawing of a network, of the traffic over it where that is given, and of what is said of them.
+/// Returns the drawing of a network, of the traffic over it, and of a certificate or a refutation; the latter two are
+/// optional.
 fn drawing_of(
     alloc: Global,
     network: &[u8],
@@ -133,17 +134,17 @@ fn drawing_of(
 }
 
 /// Draws the network of a document as a graph in the DOT language of Graphviz: a box for each device, with its
-/// observation points, selection processes, caches, collecting processes with aggregations, and exporting processes; where
-/// packets and records go; destinations without a link in red; and two lines around the collecting process of the report.
-/// Where a traffic declaration is given, the packets of each path of each class, with the observation points that see
-/// them. Where a certificate's text is given, in green where it says that they are counted; where a refutation's, in
-/// orange the steps of its run, with their numbers, and in red what the run comes to and what it should come to. The text
+/// observation points, selection processes, caches, collecting processes with aggregations, and exporting processes;
+/// the ways of packets and records; destinations without a link in red; and two lines around the collecting process of
+/// the report. With a traffic declaration, draws the packets of each path of each class, with the observation points
+/// that observe them. With the text of a certificate, draws in green where it says that they are counted; with that of
+/// a refutation, in orange the numbered steps of its run, and in red the run's totals and the expected ones. The text
 /// has no control characters but line feeds.
 ///
-/// Fails with the first refusal: 101 and those of [`read_plan`] for the network, then 101 and those of
-/// [`fx_traffic::read_traffic`] for the traffic, then for a text that begins with `once-certificate` those of [`check`],
-/// and for any other those of [`read_refutation`] and [`confirm`]; so only what is accepted is drawn. Fails with 900 for
-/// want of memory, and with 902 where a write fails. Nothing is written for a fault other than 902.
+/// Fails with the first refusal: 101 and the errors of [`read_plan`] for the network; then 101 and the errors of
+/// [`fx_traffic::read_traffic`] for the traffic; then, for a text that begins with `once-certificate`, the errors of
+/// [`check`], and for any other text those of [`read_refutation`] and [`confirm`]. So only what is accepted is drawn.
+/// Fails with 900 if out of memory, and with 902 if a write fails. For faults other than 902 nothing is written.
 pub fn put_drawing<S: Sink>(
     alloc: Global,
     network: &[u8],

@@ -1,4 +1,4 @@
-//! How packets go within a device, and how records go within it and between devices.
+//! Drawing the ways of packets within a device, and of records within and between devices.
 use crate::dot::Dot;
 use crate::nodes::{self, Node};
 use fx_base::{Name, entry_at};
@@ -8,7 +8,7 @@ use fx_topology::{NamedLink, NetworkDevice};
 use fx_walk::{Named, place_of};
 use std::alloc::AllocError;
 
-/// The number, from 1, of the entry of this name.
+/// Returns the 1-based number of the entry with the given name.
 pub(crate) fn number_of<T: Named>(entries: &[T], name: &Name) -> Option<u64> {
     let place = place_of(entries, name)?;
     Some((place as u64).saturating_add(1))
@@ -21,7 +21,7 @@ fn draw_edge(dot: &mut Dot, from: Node, to: Node) {
     dot.line(";")
 }
 
-/// Draws an edge to each exporting process of these names.
+/// Draws an edge to each of the exporting processes with these names.
 fn draw_exports(dot: &mut Dot, number: u64, device: &Device, from: Node, names: &[Name]) {
     for name in names {
         if let Some(exporter) = number_of(device.exporting_processes.as_slice(), name) {
@@ -54,7 +54,7 @@ fn draw_from_points(dot: &mut Dot, number: u64, device: &Device) {
     }
 }
 
-/// The number of the cache to which a selection process of this number hands packets.
+/// Returns the 1-based number of the cache to which a selection process passes packets.
 pub(crate) fn cache_of(device: &Device, selection: usize) -> Option<u64> {
     let process = device.selection_processes.as_slice().get(selection)?;
     match &process.cache {
@@ -83,7 +83,7 @@ fn draw_from_caches(dot: &mut Dot, number: u64, device: &Device) {
     }
 }
 
-/// Draws the edges to the aggregations of a collecting process, and from them.
+/// Draws the edges to and from the aggregations of a collecting process.
 fn draw_aggregated(
     dot: &mut Dot,
     number: u64,
@@ -112,7 +112,7 @@ fn draw_from_collectors(dot: &mut Dot, number: u64, device: &Device) {
     }
 }
 
-/// The link that leads from a destination, if there is one.
+/// Returns the link from a destination, if there is one.
 fn link_from<'a>(
     plan: &'a Plan,
     device: &Name,
@@ -124,7 +124,7 @@ fn link_from<'a>(
     Ok(entry_at(links.as_slice(), place.unwrap_or(usize::MAX)))
 }
 
-/// The collecting process at the end of a link.
+/// Returns the collecting process at the end of a link.
 pub(crate) fn end_of(plan: &Plan, link: &NamedLink) -> Option<Node> {
     let devices = plan.network().devices.as_slice();
     let device = number_of(devices, &link.to_device)?;
@@ -133,7 +133,7 @@ pub(crate) fn end_of(plan: &Plan, link: &NamedLink) -> Option<Node> {
     Some(nodes::collector(device, process))
 }
 
-/// Where a destination's records come to: a collecting process, or nowhere.
+/// Returns the node where a destination's records arrive: a collecting process, or the node for lost records.
 pub(crate) fn target_of(
     plan: &Plan,
     number: u64,
@@ -151,13 +151,13 @@ pub(crate) fn target_of(
     Ok(end.unwrap_or(nodes::lost(number, exporter, destination)))
 }
 
-/// Draws a node where records are lost.
+/// Draws a node for lost records.
 fn draw_lost(dot: &mut Dot, node: Node) {
     dot.code_node("  ", node);
     dot.line(" [shape=plaintext, fontcolor=red, label=\"lost: no link\"];")
 }
 
-/// Draws the edge from an exporting process over one of its destinations.
+/// Draws the edge from an exporting process through one of its destinations.
 fn draw_destination(dot: &mut Dot, from: Node, to: Node, destination: &Destination) {
     let look = if to.kind == "lost" {
         draw_lost(dot, to);
@@ -172,7 +172,7 @@ fn draw_destination(dot: &mut Dot, from: Node, to: Node, destination: &Destinati
     dot.line(look)
 }
 
-/// Draws the edges from an exporting process over its destinations.
+/// Draws the edges from an exporting process through its destinations.
 fn draw_from_exporter(
     dot: &mut Dot,
     plan: &Plan,
@@ -207,7 +207,7 @@ fn draw_from_exporters(
     Ok(())
 }
 
-/// Draws the edges that begin in the device of this number, from 1.
+/// Draws the edges that begin in the device with this 1-based number.
 pub(crate) fn draw_edges(
     dot: &mut Dot,
     plan: &Plan,
@@ -221,7 +221,7 @@ pub(crate) fn draw_edges(
     draw_from_exporters(dot, plan, number, device)
 }
 
-/// The collecting process of the report.
+/// Returns the collecting process of the report.
 pub(crate) fn report_of(plan: &Plan) -> Option<Node> {
     let network = plan.network();
     let devices = network.devices.as_slice();

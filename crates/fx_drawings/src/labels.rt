@@ -1,11 +1,11 @@
-//! What stands in labels: keys, filters and names in a row.
+//! The contents of labels: keys, filters and lists of names.
 use crate::dot::Dot;
 use fx_base::Name;
 use fx_config::{CacheKind, Direction, ExportMode, Method, PropertyMatch};
 use fx_elements::{Axis, width};
 use fx_layout::Part;
 
-/// The name of an axis's element (RFC 7012).
+/// Returns the name of an axis's element (RFC 7012).
 pub(crate) fn axis_name(axis: Axis) -> &'static str {
     match axis {
         Axis::Source => "sourceIPv4Address",
@@ -20,7 +20,7 @@ pub(crate) fn axis_name(axis: Axis) -> &'static str {
     }
 }
 
-/// The directions in which an observation point sees packets, as a document spells them.
+/// Returns the directions in which an observation point observes packets, as in documents.
 pub(crate) fn direction_name(direction: Direction) -> &'static str {
     match direction {
         Direction::Ingress => "ingress",
@@ -29,7 +29,7 @@ pub(crate) fn direction_name(direction: Direction) -> &'static str {
     }
 }
 
-/// The kind of a cache in words.
+/// Returns a description of a cache's kind.
 pub(crate) fn kind_name(kind: CacheKind) -> &'static str {
     match kind {
         CacheKind::Immediate => "immediate cache",
@@ -39,7 +39,7 @@ pub(crate) fn kind_name(kind: CacheKind) -> &'static str {
     }
 }
 
-/// The mode of an exporting process, as a document spells it.
+/// Returns the mode of an exporting process, as in documents.
 pub(crate) fn mode_name(mode: ExportMode) -> &'static str {
     match mode {
         ExportMode::Parallel => "parallel",
@@ -48,7 +48,7 @@ pub(crate) fn mode_name(mode: ExportMode) -> &'static str {
     }
 }
 
-/// Adds a line of a label with names, one behind the other.
+/// Adds a line with a list of names to a label.
 pub(crate) fn add_names(dot: &mut Dot, names: &[Name]) {
     let mut separator = "";
     for name in names {
@@ -58,7 +58,7 @@ pub(crate) fn add_names(dot: &mut Dot, names: &[Name]) {
     }
 }
 
-/// Adds a line of a label for each part of a key: its element, and how many leading bits where those aren't all.
+/// Adds a line to a label for each part of a key: its element, and the number of leading bits if those aren't all.
 pub(crate) fn add_key(dot: &mut Dot, parts: &[Part]) {
     if parts.is_empty() {
         dot.code("\\nall packets together");
@@ -73,7 +73,7 @@ pub(crate) fn add_key(dot: &mut Dot, parts: &[Part]) {
     }
 }
 
-/// Adds a line of a label with what a filter passes: an element with one value, or with the addresses of a prefix.
+/// Adds a line to a label with what a filter selects: an element with one value, or with the addresses of a prefix.
 pub(crate) fn add_match(dot: &mut Dot, filter: &PropertyMatch) {
     dot.code("\\n");
     dot.code(axis_name(filter.axis));
@@ -85,7 +85,7 @@ pub(crate) fn add_match(dot: &mut Dot, filter: &PropertyMatch) {
     dot.code_number("/", u64::from(filter.range.bits))
 }
 
-/// Adds a line of a label with what a selector passes.
+/// Adds a line to a label with what a selector selects.
 pub(crate) fn add_method(dot: &mut Dot, method: &Method) {
     match method {
         Method::SelectAll => dot.code("\\nall packets"),

@@ -1,5 +1,5 @@
-//! Drawings: a network, the traffic that crosses it, and what a certificate or a refutation says of it, as a graph in the
-//! DOT language of Graphviz.
+//! Drawing a network, the traffic that crosses it, and a certificate or a refutation of it, as a graph in the DOT
+//! language of Graphviz.
 #![tactic(auto)]
 
 mod certificates;

@@ -1,4 +1,4 @@
-//! Edges that a certificate or a refutation marks.
+//! Drawing the edges that a certificate or a refutation marks.
 use crate::dot::Dot;
 use crate::edges::cache_of;
 use crate::nodes::{self, Node};
@@ -6,14 +6,14 @@ use fx_base::entry_numbered;
 use fx_config::Device;
 use fx_walk::place_of;
 
-/// How an edge is marked.
+/// The mark of an edge.
 #[derive(Clone, Copy, Drop)]
 pub(crate) struct Mark {
-    /// The colour, as Graphviz calls it.
+    /// The Graphviz name of its colour.
     pub(crate) colour: &'static str,
-    /// What the edge's label begins with.
+    /// The beginning of the edge's label.
     pub(crate) word: &'static str,
-    /// The number behind the word.
+    /// The number after the word.
     pub(crate) number: u64,
 }
 
@@ -30,7 +30,7 @@ pub(crate) fn draw_mark(dot: &mut Dot, mark: Mark, from: Node, to: Node) {
     dot.line("\"];")
 }
 
-/// Draws marked edges from packets through an observation point and a selection process into its cache.
+/// Draws marked edges from packets through an observation point and a selection process to its cache.
 pub(crate) fn draw_metering(
     dot: &mut Dot,
     mark: Mark,

@@ -1,4 +1,4 @@
-//! The run of a refutation, step by step, and what it comes to.
+//! Drawing the run of a refutation, step by step, and its result.
 ghost use Rattle.std.specs.Prelude.{IfErr};
 ghost use Rattle.fx_base.specs.Fault.{IsMemory};
 ghost use Rattle.fx_collect.specs.Report.{KeysAscend};
@@ -18,7 +18,7 @@ use fx_tables::{HolderName, Packet};
 use fx_topology::NetworkDevice;
 use std::alloc::{AllocError, Global};
 
-/// The mark of a step of this number, from 1.
+/// Returns the mark of the step with this 1-based number.
 fn step_mark(number: u64) -> Mark {
     Mark {
         colour: "darkorange",
@@ -54,12 +54,13 @@ fn draw_crossing(
     Ok(())
 }
 
-/// Whether an exporting process sends a record over this destination, by the choice of a step where it chooses one.
+/// Returns whether an exporting process sends a record through this destination, by the choice of a step if it chooses
+/// one.
 fn sends(process: &ExportingProcess, chosen: Option<u64>, destination: u64) -> bool {
     matches!(process.mode, ExportMode::Parallel) || chosen == Some(destination)
 }
 
-/// Draws over which destinations an exporting process sends a record.
+/// Draws the destinations through which an exporting process sends a record.
 fn draw_export(
     dot: &mut Dot,
     plan: &Plan,
@@ -83,8 +84,8 @@ fn draw_export(
     Ok(())
 }
 
-/// Draws over which destinations the exporting processes of these names send a record, by the choices of a step, one for
-/// each that isn't parallel.
+/// Draws the destinations through which the exporting processes with these names send a record, by the choices of a
+/// step, which has one for each process that isn't parallel.
 fn draw_exports(
     dot: &mut Dot,
     plan: &Plan,
@@ -113,7 +114,7 @@ fn draw_exports(
     Ok(())
 }
 
-/// Draws where a record goes that leaves what holds it.
+/// Draws where a record goes that leaves its holder.
 fn draw_expiry(
     dot: &mut Dot,
     plan: &Plan,
@@ -177,8 +178,8 @@ fn draw_expired_aggregation(
     draw_exports(dot, plan, number, device, from, names, choices, mark)
 }
 
-/// Draws where a record goes that comes over a link to a collecting process: to its exporting processes, and into
-/// aggregations that take it in.
+/// Draws where a record goes that arrives over a link at a collecting process: to its exporting processes, and into the
+/// aggregations that accept it.
 fn draw_arrival(
     dot: &mut Dot,
     plan: &Plan,
@@ -235,18 +236,18 @@ fn draw_step(
     }
 }
 
-/// Adds totals to a label, as reports have them.
+/// Adds totals to a label, in the form of reports.
 fn add_totals(dot: &mut Dot, totals: &Totals)
     requires { KeysAscend totals.now.entries }
 {
     let mut octets = [0; 4096];
     let mut room = Room::new(&mut octets);
-    // What has no room there is left out.
+    // What doesn't fit in the buffer is left out.
     let _written = totals.put_report(&mut room);
     dot.lines(room.octets());
 }
 
-/// Adds a heading to a label, and behind it totals in the order in which reports have them.
+/// Adds a heading to a label, and totals after it in the order of reports.
 fn add_sorted(dot: &mut Dot, heading: &str, mut totals: Totals) -> Result<(), Fault>
     ensures { IfErr result IsMemory }
 {
@@ -256,7 +257,7 @@ fn add_sorted(dot: &mut Dot, heading: &str, mut totals: Totals) -> Result<(), Fa
     Ok(())
 }
 
-/// Draws an edge from the report to what the run comes to.
+/// Draws an edge from the report to the result of the run.
 fn draw_compared(dot: &mut Dot, plan: &Plan) {
     if let Some(report) = report_of(plan) {
         dot.code_node("  ", report);
@@ -265,7 +266,7 @@ fn draw_compared(dot: &mut Dot, plan: &Plan) {
     }
 }
 
-/// Draws what the run comes to, and what it should come to, beside the report.
+/// Draws the run's totals and the expected ones beside the report.
 pub(crate) fn draw_outcome(
     dot: &mut Dot,
     plan: &Plan,
@@ -283,7 +284,7 @@ pub(crate) fn draw_outcome(
     Ok(())
 }
 
-/// Draws the run of a refutation, each step with its number.
+/// Draws the run of a refutation, with the number of each step.
 pub(crate) fn draw_refutation(
     alloc: Global,
     dot: &mut Dot,

@@ -1,4 +1,4 @@
-//! The packets of each class, and what sees them on their paths.
+//! Drawing the packets of each class, and what observes them on their paths.
 use crate::documents::{Documents, class_name};
 use crate::dot::Dot;
 use crate::nodes::{self, Node};
@@ -23,7 +23,7 @@ fn draw_packets(dot: &mut Dot, documents: &Documents, target: &Target<'_>) {
     dot.line("\"];")
 }
 
-/// Draws an edge from packets to what sees them at a crossing.
+/// Draws an edge from packets to what observes them at a crossing.
 fn draw_sight(dot: &mut Dot, from: Node, to: Node, crossing: u64) {
     dot.code_node("  ", from);
     dot.code_node(" -> ", to);
@@ -34,12 +34,12 @@ fn draw_sight(dot: &mut Dot, from: Node, to: Node, crossing: u64) {
     dot.line("\"];");
 }
 
-/// Returns the place, from 0, of what has this number, from 1.
+/// Returns the 0-based index for a 1-based number.
 fn place_before(number: u64) -> usize {
     number.saturating_sub(1) as usize
 }
 
-/// Adds a crossing to a label, in a line with its number.
+/// Adds a line to a label with a crossing and its number.
 fn add_crossing<'x>(dot: &mut Dot, plan: &'x Plan, number: u64, crossing: &'x Crossing) {
     let devices = plan.network().devices.as_slice();
     let name = match devices.get(place_before(crossing.device)) {
@@ -56,7 +56,7 @@ fn add_crossing<'x>(dot: &mut Dot, plan: &'x Plan, number: u64, crossing: &'x Cr
     });
 }
 
-/// Returns whether an observation point sees a crossing.
+/// Returns whether an observation point observes a crossing.
 fn is_seen(plan: &Plan, crossing: &Crossing) -> bool {
     for point in plan.net().points_of(crossing.device) {
         if point.watches(crossing) {
@@ -66,7 +66,7 @@ fn is_seen(plan: &Plan, crossing: &Crossing) -> bool {
     false
 }
 
-/// Returns whether observation points see all crossings of a path.
+/// Returns whether observation points observe all crossings of a path.
 fn are_all_seen(plan: &Plan, crossings: &[Crossing]) -> bool {
     for crossing in crossings {
         if !is_seen(plan, crossing) {
@@ -76,7 +76,7 @@ fn are_all_seen(plan: &Plan, crossings: &[Crossing]) -> bool {
     true
 }
 
-/// Draws the crossings of a path that no observation point sees, in one node.
+/// Draws the crossings of a path that no observation point observes, in one node.
 fn draw_unseen(dot: &mut Dot, plan: &Plan, target: &Target<'_>) {
     let node = nodes::unseen(target.class, target.path);
     dot.code_node("  ", node);
@@ -93,7 +93,7 @@ fn draw_unseen(dot: &mut Dot, plan: &Plan, target: &Target<'_>) {
     dot.line(" [color=gray40, style=dashed];");
 }
 
-/// Draws what sees a crossing.
+/// Draws what observes a crossing.
 fn draw_seeing(dot: &mut Dot, plan: &Plan, from: Node, number: u64, crossing: &Crossing) {
     let points = plan.net().points_of(crossing.device);
     for place in 0..points.len() {
@@ -104,7 +104,7 @@ fn draw_seeing(dot: &mut Dot, plan: &Plan, from: Node, number: u64, crossing: &C
     }
 }
 
-/// Draws a path of a class: its packets, each crossing with what sees it, and those that nothing sees.
+/// Draws a path of a class: its packets, each crossing with what observes it, and the crossings that nothing observes.
 fn draw_path(dot: &mut Dot, documents: &Documents, target: &Target<'_>) {
     draw_packets(dot, documents, target);
     let from = nodes::packets(target.class, target.path);
