@@ -1,4 +1,4 @@
-//! Members that an object may have, and those that one has which it may not.
+//! The members that an object may have, and members that it may not have.
 use crate::members::one_required;
 use crate::parts::write_whole;
 use crate::pointers::last_member;
@@ -6,8 +6,8 @@ use crate::similar_names::similar_name;
 use fx_explanation::{Explanation, between};
 use serde_json::Value;
 
-/// The members that objects of a network may have, by the member under which such an object stands, but for those that
-/// are refused with a number of their own.
+/// The members that objects of a network may have, by the member that contains the object, except for those whose
+/// refusal has its own number.
 const OF_NETWORK: [(&str, &[&str]); 23] = [
     ("", &["devices", "links", "report"]),
     ("devices", &["name", "config"]),
@@ -139,7 +139,7 @@ const OF_NETWORK: [(&str, &[&str]); 23] = [
     ),
 ];
 
-/// The members that objects of a traffic declaration may have, in the same way.
+/// The members that objects of a traffic declaration may have, by the member that contains the object.
 const OF_TRAFFIC: [(&str, &[&str]); 4] = [
     ("", &["classes"]),
     ("classes", &["name", "region", "paths", "exempt"]),
@@ -160,7 +160,7 @@ const OF_TRAFFIC: [(&str, &[&str]); 4] = [
     ("paths", &["device", "interface", "direction"]),
 ];
 
-/// Returns the members that a table has for the objects under a member.
+/// Returns the members that a table lists for the objects in a member.
 pub(crate) fn members_in(
     table: &[(&'static str, &'static [&'static str])],
     member: &str,
@@ -173,8 +173,8 @@ pub(crate) fn members_in(
     &[]
 }
 
-/// Returns the members that may stand in the object at a pointer whose last member is this one, of a network's document
-/// or of a traffic declaration.
+/// Returns the members that are allowed in an object of a network document or of a traffic declaration, by the last
+/// member of the object's pointer.
 fn members_allowed(member: &str, is_network: bool) -> &'static [&'static str] {
     if is_network {
         members_in(&OF_NETWORK, member)
@@ -198,8 +198,8 @@ pub(crate) fn is_one_of(names: &[&str], name: &str) -> bool {
     names.contains(&name)
 }
 
-/// Writes which of these names an object doesn't have yet, which may not have a member of another name. Of those of
-/// which it has one at most none is written where it has one.
+/// Writes which of the allowed names an object doesn't have yet; it has a member of another name. Names of which it may
+/// have only one aren't written if it has one of them.
 fn write_free(
     out: &mut Explanation,
     object: &Value,
@@ -225,7 +225,7 @@ fn write_free(
     out.end_line();
 }
 
-/// Writes the name that a misspelled member stands for.
+/// Writes the name that a misspelled member probably means.
 fn write_near<'x>(out: &mut Explanation, object: &Value, name: &'x str, known: &'x str) {
     let there = object.get(known).is_some();
     out.text_quoted("member ", name);
@@ -234,35 +234,35 @@ fn write_near<'x>(out: &mut Explanation, object: &Value, name: &'x str, known: &
     out.sentence(if there { ", which is there too" } else { "" });
 }
 
-/// How a source is written in a region.
+/// The notation of a source in a region.
 const SOURCE: &str = "\"sourceIPv4Address\": \"192.0.2.0/24\"";
 
-/// How a destination is written in a region.
+/// The notation of a destination in a region.
 const DESTINATION: &str = "\"destinationIPv4Address\": \"192.0.2.0/24\"";
 
-/// How a source of IPv6 is written in a region.
+/// The notation of an IPv6 source in a region.
 const SOURCE_6: &str = "\"sourceIPv6Address\": \"2001:db8::/32\"";
 
-/// How a destination of IPv6 is written in a region.
+/// The notation of an IPv6 destination in a region.
 const DESTINATION_6: &str = "\"destinationIPv6Address\": \"2001:db8::/32\"";
 
-/// How source ports are written in a region.
+/// The notation of source ports in a region.
 const SOURCE_PORT: &str = "\"sourceTransportPort\": \"1024-65535\"";
 
-/// How destination ports are written in a region.
+/// The notation of destination ports in a region.
 const DESTINATION_PORT: &str = "\"destinationTransportPort\": \"443\"";
 
-/// How a protocol is written in a region.
+/// The notation of a protocol in a region.
 const PROTOCOL: &str = "\"protocolIdentifier\": \"17\"";
 
-/// How a class of service is written in a region.
+/// The notation of a class of service in a region.
 const CLASS_OF_SERVICE: &str =
     "\"ipClassOfService\": \"184\" (the whole octet, as 184 for the DSCP 46)";
 
-/// How a version is written in a region.
+/// The notation of a version in a region.
 const VERSION: &str = "\"ipVersion\": \"6\"";
 
-/// Names that a member of a region is often given, each with the member as it is written.
+/// Names often used for members of a region, each with the notation of the member that is meant.
 const EXAMPLES: [(&str, &str); 28] = [
     ("sourceIPv4Prefix", SOURCE),
     ("sourceIPv4PrefixLength", SOURCE),
@@ -294,7 +294,7 @@ const EXAMPLES: [(&str, &str); 28] = [
     ("version", VERSION),
 ];
 
-/// How a member of a region is written that has another name there, by an example.
+/// Returns an example of the member of a region that a name means which isn't its name there.
 fn region_example(name: &str) -> Option<&'static str> {
     for (known, example) in &EXAMPLES {
         if *known == name {
@@ -304,7 +304,7 @@ fn region_example(name: &str) -> Option<&'static str> {
     None
 }
 
-/// Writes how a member is written that has another name in the region of a class, or in a filter or a match of a
+/// Writes an example of the member that a wrong name means, in the region of a class, or in a filter or a match of a
 /// network.
 fn write_example<'x>(out: &mut Explanation, name: &'x str, example: &'x str, is_network: bool) {
     out.text_quoted("member ", name);
@@ -316,8 +316,7 @@ fn write_example<'x>(out: &mut Explanation, name: &'x str, example: &'x str, is_
     out.sentence(example);
 }
 
-/// Returns the example for a member of another name, where it stands in a region, or for the length of a prefix in a
-/// filter or a match.
+/// Returns the example for a wrong name of a member in a region, or for the length of a prefix in a filter or a match.
 fn example_at(place: &str, name: &str, is_network: bool) -> Option<&'static str> {
     match (last_member(place), name) {
         ("filterMatch" | "match", "prefixLength") if is_network => {
@@ -328,8 +327,8 @@ fn example_at(place: &str, name: &str, is_network: bool) -> Option<&'static str>
     }
 }
 
-/// Writes a member that an object may not have: the nearest name that is allowed, or the names that are. The pointer
-/// leads to the member.
+/// Writes which member is meant instead of the one at a pointer, which isn't allowed: the nearest allowed name, or all
+/// allowed names.
 pub(crate) fn write_unknown_member(
     out: &mut Explanation,
     document: &Value,

@@ -1,4 +1,4 @@
-//! Counters that a cache's layout lacks, and flow keys that a cache can't have.
+//! Counters that are missing in a cache's layout, and flow keys that a cache can't have.
 use crate::elements::{element_of, write_element};
 use crate::pointers::{items_member, text_member, text_or_none};
 use crate::similar_names::similar_name;
@@ -6,7 +6,7 @@ use fx_elements::{Axis, Element, by_name};
 use fx_explanation::Explanation;
 use serde_json::Value;
 
-/// The counters that have to be among the fields of a cache.
+/// The counters that the fields of a cache must include.
 const COUNTERS: [&str; 2] = ["octetDeltaCount", "packetDeltaCount"];
 
 /// Returns whether one of these fields names this element.
@@ -19,7 +19,7 @@ fn is_among(fields: &[Value], element: Element) -> bool {
     false
 }
 
-/// Writes the fields of a layout whose element is misspelled, where it is nearest to this counter.
+/// Writes the fields of a layout whose element is misspelled and most similar to this counter.
 fn write_misspelled(out: &mut Explanation, fields: &[Value], counter: &'static str) {
     for field in fields {
         if let Some(name) = text_member(field, "ieName") {
@@ -45,7 +45,7 @@ pub(crate) fn write_counters(out: &mut Explanation, layout: &Value) {
     }
 }
 
-/// Returns the element of the whole addresses whose prefixes stand on an axis.
+/// Returns the element of the whole addresses whose prefixes are on an axis.
 fn address_name(axis: Axis) -> &'static str {
     match axis {
         Axis::Source => "sourceIPv4Address",

@@ -1,4 +1,4 @@
-//! Links that lead records round in a circle.
+//! Links that form a cycle.
 use fx_base::{Name, entry_at};
 use fx_config::{Aggregation, CollectingProcess};
 use fx_explanation::{Explanation, entry_named, unless_refused, write_end};
@@ -6,12 +6,13 @@ use fx_topology::{NamedLink, NetworkDevice, NetworkDocument, read_network};
 use serde_json::Value;
 use std::alloc::{AllocError, Global};
 
-/// Returns whether an aggregation hands its records to the exporting process of this name.
+/// Returns whether an aggregation passes its records to the exporting process with this name.
 fn aggregates_to(aggregation: &Aggregation, name: &Name) -> bool {
     aggregation.exporting_processes.as_slice().contains(name)
 }
 
-/// Returns whether a collecting process hands records to the exporting process of this name, as they are or added up.
+/// Returns whether a collecting process passes records to the exporting process with this name, unchanged or
+/// aggregated.
 fn hands_to(process: &CollectingProcess, name: &Name) -> bool {
     for aggregation in process.aggregations.as_slice() {
         if aggregates_to(aggregation, name) {
@@ -33,7 +34,7 @@ fn process_at_end<'a>(
     )
 }
 
-/// Returns whether what comes by a link may go on by another.
+/// Returns whether records that arrive by a link may leave by another.
 fn goes_on(devices: &[NetworkDevice], link: &NamedLink, next: &NamedLink) -> bool {
     if link.to_device != next.device {
         return false;
@@ -44,30 +45,30 @@ fn goes_on(devices: &[NetworkDevice], link: &NamedLink, next: &NamedLink) -> boo
     }
 }
 
-/// What is known of a link.
+/// The state of a link in the search.
 #[derive(Clone, Copy)]
 enum Mark {
-    /// Nothing yet.
+    /// Not visited.
     New,
-    /// It is on the way that is being followed.
+    /// On the way that is being followed.
     OnWay,
-    /// It leads to no circle.
+    /// Known to lead to no cycle.
     Done,
 }
 
-/// A search for a circle of links.
+/// A search for a cycle of links.
 #[derive(Drop)]
 struct Search<'a> {
     devices: &'a [NetworkDevice],
     links: &'a [NamedLink],
-    /// What is known of each link.
+    /// The state of each link.
     marks: Vec<Mark>,
-    /// The places of links, each of which may lead on to the next.
+    /// The indices of links, each of which may lead to the next.
     way: Vec<usize>,
 }
 
 impl<'a> Search<'a> {
-    /// Before any link.
+    /// Returns a search that hasn't visited any link.
     fn new(alloc: Global, network: &'a NetworkDocument) -> Result<Search<'a>, AllocError> {
         let links = network.links.as_slice();
         let mut marks = Vec::new(alloc);
@@ -80,7 +81,7 @@ impl<'a> Search<'a> {
         })
     }
 
-    /// Returns what is known of the link at a place.
+    /// Returns the state of the link at an index.
     fn mark(&self, place: usize) -> Mark {
         match self.marks.as_slice().get(place) {
             Some(mark) => *mark,
@@ -88,15 +89,15 @@ impl<'a> Search<'a> {
         }
     }
 
-    /// Notes what is known of the link at a place.
+    /// Sets the state of the link at an index.
     fn set(&mut self, place: usize, mark: Mark) {
         if let Some(entry) = self.marks.get_mut(place) {
             *entry = mark;
         }
     }
 
-    /// Returns the place of the first link by which what comes by the one at a place may go on, but for those that lead
-    /// to no circle.
+    /// Returns the index of the first link by which records that arrive by the one at `place` may leave, not counting
+    /// links that lead to no cycle.
     fn next(&self, place: usize) -> Option<usize> {
         let link = entry_at(self.links, place)?;
         for next in 0..self.links.len() {
@@ -107,21 +108,21 @@ impl<'a> Search<'a> {
         None
     }
 
-    /// Goes on by the link at a place.
+    /// Appends the link at an index to the way.
     fn enter(&mut self, place: usize) -> Result<(), AllocError> {
         self.set(place, Mark::OnWay);
         self.way.push(place)?;
         Ok(())
     }
 
-    /// Goes back after the last link of the way, which leads to no circle.
+    /// Removes the last link, which leads to no cycle, from the way.
     fn leave(&mut self, place: usize) {
         self.set(place, Mark::Done);
         let _left = self.way.pop();
     }
 
-    /// Goes on from the last link of the way, and answers the place of the link that begins a circle, once the way
-    /// comes back to it.
+    /// Continues from the last link of the way. Returns the index of the link that begins a cycle as soon as the way
+    /// returns to it.
     fn step(&mut self, place: usize) -> Result<Option<usize>, AllocError> {
         let Some(next) = self.next(place) else {
             self.leave(place);
@@ -134,7 +135,7 @@ impl<'a> Search<'a> {
         Ok(None)
     }
 
-    /// Follows the links from the one at a place, and answers the place of the link that begins a circle.
+    /// Follows the links from the one at an index. Returns the index of the link that begins a cycle, if one is found.
     fn follow(&mut self, start: usize) -> Result<Option<usize>, AllocError> {
         let steps = self.links.len().saturating_mul(2);
         self.enter(start)?;
@@ -150,7 +151,7 @@ impl<'a> Search<'a> {
         Ok(None)
     }
 
-    /// Returns the place of the link that begins a circle; the way ends with that circle.
+    /// Returns the index of the link that begins a cycle, if there is one; the way then ends with that cycle.
     fn run(&mut self) -> Result<Option<usize>, AllocError> {
         for start in 0..self.links.len() {
             if self.mark(start) == Mark::New {
@@ -164,7 +165,7 @@ impl<'a> Search<'a> {
     }
 }
 
-/// Writes a link by its place in the document and its ends.
+/// Writes a link: its index in the document, and its ends.
 fn write_link(out: &mut Explanation, place: usize, link: &NamedLink) {
     out.text_number("on the circle: /links/", place as u64);
     out.text_quoted(", from destination ", link.destination.as_str());
@@ -176,7 +177,7 @@ fn write_link(out: &mut Explanation, place: usize, link: &NamedLink) {
     out.end_line();
 }
 
-/// Writes the links of a way from the one at a place on.
+/// Writes the links of a way, beginning with the link at an index.
 fn write_way(out: &mut Explanation, links: &[NamedLink], way: &[usize], first: usize) {
     let mut begun = false;
     for place in way {
@@ -188,7 +189,7 @@ fn write_way(out: &mut Explanation, links: &[NamedLink], way: &[usize], first: u
     }
 }
 
-/// Writes the links of a circle that is there.
+/// Writes the links of a cycle, if there is one.
 fn write_circle_of(out: &mut Explanation, network: &NetworkDocument) {
     let begun = Search::new(out.alloc, network);
     let Some(mut search) = out.unless_short(begun) else {
@@ -199,7 +200,7 @@ fn write_circle_of(out: &mut Explanation, network: &NetworkDocument) {
     }
 }
 
-/// Writes the links of a circle of a network, one after another, by their places in the list of links.
+/// Writes the links of a cycle of a network in order, by their indices in the list of links.
 pub(crate) fn write_cycle_of(out: &mut Explanation, network: &Value) {
     let read = read_network(out.alloc, network);
     if let Some(network) = unless_refused(out, read) {

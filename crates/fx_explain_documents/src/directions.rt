@@ -1,4 +1,4 @@
-//! Observation points that observe only the other direction than the packets that cross their interfaces.
+//! Observation points that observe only the direction in which no packet crosses their interfaces.
 use crate::unobserved::is_at;
 use fx_config::{Direction, ObservationPoint};
 use fx_explanation::{Documents, Explanation};
@@ -8,19 +8,19 @@ use fx_topology::NetworkDevice;
 use fx_traffic::Target;
 use std::alloc::{AllocError, Global};
 
-/// What an observation point has of the crossings of all paths.
+/// Which crossings of all paths concern an observation point.
 #[derive(Clone, Copy)]
 struct Sight {
-    /// One is at an interface of it.
+    /// Whether one is at an interface of the point.
     crossed: bool,
-    /// It sees one.
+    /// Whether the point observes one.
     seen: bool,
 }
 
-/// What the observation points of each device have, in the order of the document.
+/// The entries of each device's observation points, in document order.
 type Sights = Vec<Vec<Sight>>;
 
-/// Before any crossing, for the observation points of a device.
+/// Returns the entries of a device's observation points before any crossing.
 fn no_sight(alloc: Global, device: &NetworkDevice) -> Result<Vec<Sight>, AllocError> {
     let mut sights = Vec::new(alloc);
     for _point in device.config.observation_points.as_slice() {
@@ -32,7 +32,7 @@ fn no_sight(alloc: Global, device: &NetworkDevice) -> Result<Vec<Sight>, AllocEr
     Ok(sights)
 }
 
-/// Before any crossing.
+/// Returns the entries of all observation points before any crossing.
 fn no_sights(alloc: Global, plan: &Plan) -> Result<Sights, AllocError> {
     let mut sights = Vec::new(alloc);
     for device in plan.network().devices.as_slice() {
@@ -91,7 +91,7 @@ fn direction_words(point: &ObservationPoint) -> (&'static str, &'static str) {
     }
 }
 
-/// Writes that an observation point sees nothing of what crosses its interfaces.
+/// Writes that an observation point observes none of the packets that cross its interfaces.
 fn write_point<'x>(out: &mut Explanation, device: &'x NetworkDevice, point: &'x ObservationPoint) {
     let (observed, other) = direction_words(point);
     out.text_quoted("observation point ", point.name.as_str());
@@ -104,7 +104,7 @@ fn write_point<'x>(out: &mut Explanation, device: &'x NetworkDevice, point: &'x 
     out.sentence(" alone: it sees none of them");
 }
 
-/// Writes the observation points of a device that see nothing of what crosses their interfaces.
+/// Writes the observation points of a device that observe none of the packets that cross their interfaces.
 fn write_device(out: &mut Explanation, device: &NetworkDevice, sights: &[Sight]) {
     let points = device.config.observation_points.as_slice();
     for place in 0..points.len() {
@@ -115,7 +115,7 @@ fn write_device(out: &mut Explanation, device: &NetworkDevice, sights: &[Sight])
     }
 }
 
-/// Writes the observation points of all devices that see nothing of what crosses their interfaces.
+/// Writes the observation points of all devices that observe none of the packets that cross their interfaces.
 fn write_devices(out: &mut Explanation, plan: &Plan, sights: &[Vec<Sight>]) {
     let devices = plan.network().devices.as_slice();
     for place in 0..devices.len() {
@@ -125,8 +125,8 @@ fn write_devices(out: &mut Explanation, plan: &Plan, sights: &[Vec<Sight>]) {
     }
 }
 
-/// Writes the observation points that see no crossing of any path, though paths cross their interfaces in the other
-/// direction.
+/// Writes the observation points that observe no crossing of any path, although paths cross their interfaces in the
+/// other direction.
 pub(crate) fn write_directions(
     out: &mut Explanation,
     documents: &Documents<'_>,

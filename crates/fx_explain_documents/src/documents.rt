@@ -26,7 +26,7 @@ use fx_plan::Plan;
 use serde_json::Value;
 use std::alloc::Global;
 
-/// Writes what a refusal at a pointer into a network is about: which names name nothing there.
+/// Writes which names at a pointer into a network refer to nothing, if the refusal is about that.
 fn write_names(out: &mut Explanation, network: &Value, value: &Value, pointer: &str, number: u16) {
     match number {
         refusals::UNKNOWN_NAME => {
@@ -41,17 +41,17 @@ fn write_names(out: &mut Explanation, network: &Value, value: &Value, pointer: &
     }
 }
 
-/// A document that is refused.
+/// A refused document.
 #[derive(Clone, Copy, Drop)]
 enum Refused<'a> {
-    /// That of a network.
+    /// A network document.
     Network(&'a Value),
-    /// That of the traffic of this network.
+    /// A traffic declaration for this network.
     Traffic(&'a Value, &'a Plan),
 }
 
 impl<'a> Refused<'a> {
-    /// Returns its value.
+    /// Returns the document's value.
     fn document(&self) -> &'a Value {
         match self {
             Refused::Network(value) | Refused::Traffic(value, _) => value,
@@ -59,7 +59,7 @@ impl<'a> Refused<'a> {
     }
 }
 
-/// Returns whether a refusal of this number is about a value that is written.
+/// Returns whether a refusal with this number is about a value, which is then written.
 fn is_of_value(number: u16) -> bool {
     matches!(
         number,
@@ -75,7 +75,7 @@ fn is_of_value(number: u16) -> bool {
     )
 }
 
-/// A value that is refused: its document, its pointer there, and whether that is a network's document.
+/// A refused value: its document, its pointer, and whether the document is a network's.
 #[derive(Clone, Copy, Drop)]
 struct ValueAt<'a> {
     document: &'a Value,
@@ -84,7 +84,8 @@ struct ValueAt<'a> {
     is_network: bool,
 }
 
-/// Writes of which kind a value is, and which is due there, or as a part of which document it stands in one's place.
+/// Writes the kind of a value and the kind that is expected, or which part of a document was given instead of the
+/// document.
 fn write_wrong_kind(out: &mut Explanation, at: &ValueAt<'_>) {
     write_kinds(out, at.pointer, at.value, at.is_network);
     write_allowed(out, last_member(at.pointer), at.is_network);
@@ -135,7 +136,7 @@ fn write_at(out: &mut Explanation, refused: &Refused<'_>, pointer: &str, number:
     }
 }
 
-/// Explains which names at a pointer name nothing.
+/// Explains which names at a pointer refer to nothing.
 fn write_names_at(
     out: &mut Explanation,
     refused: &Refused<'_>,
@@ -153,7 +154,7 @@ fn write_names_at(
     }
 }
 
-/// Explains a refusal of a document that is JSON.
+/// Explains a refusal of a document that is a JSON text.
 fn write_refused(out: &mut Explanation, refused: &Refused<'_>, fault: &Fault) {
     match (&fault.place, refused) {
         (Place::Text(text), Refused::Network(network)) if fault.number == refusals::LINK_CYCLE => {
@@ -166,17 +167,17 @@ fn write_refused(out: &mut Explanation, refused: &Refused<'_>, fault: &Fault) {
     }
 }
 
-/// Explains in sentences why a network's document is refused, with 101 to 115 or 201 to 207: where a text is no JSON,
-/// the line, the column and what is wrong there, or which other file it is; of a part of a document in its place where
-/// it is found; how many entries a list has, or how many different keys there are, and how many there may be; which
-/// members are missing and which are there; the name for which a misspelled member stands, or the members that are
-/// allowed; a value that isn't allowed, at most 200 octets of its JSON text, with its kind and the kind that is due,
-/// what is wrong in it or with the elements that it names, and the values that are allowed; which counters a cache
-/// lacks; which name names nothing, and the names that there are; which link leads from the same destination; which
-/// collecting processes stand on a circle of links, and the links of one. The text has no control characters but line
-/// feeds.
+/// Explains in sentences why a network document is refused, with 101 to 115 or 201 to 207. For a text that is no JSON,
+/// writes the line, the column and the error, or which other file it is. For a part of a document given instead of the
+/// document, writes where that part belongs. Otherwise writes, as the number requires: how many entries a list has, or
+/// how many different keys there are, and the maximum; which members are missing and which are present; the name that a
+/// misspelled member probably means, or the allowed members; a value that isn't allowed, at most 200 octets of its JSON
+/// text, with its kind and the expected one, what is wrong with it or with the elements that it names, and the allowed
+/// values; which counters a cache lacks; which name refers to nothing, and the existing names; which link leads from
+/// the same destination; which collecting processes are on a cycle of links, and the links of one. The text has no
+/// control characters but line feeds.
 ///
-/// Fails with 900 where memory runs out, and then nothing is written; with 902 where a write fails.
+/// Fails with 900 if out of memory, and then nothing is written, and with 902 if a write fails.
 pub fn put_refused_network<S: Sink>(
     alloc: Global,
     octets: &[u8],
@@ -199,7 +200,7 @@ pub fn put_refused_network<S: Sink>(
 /// Explains in sentences why the traffic declaration of a network is refused, with 101 to 104 or 301 to 305, as
 /// [`put_refused_network`] does for a network.
 ///
-/// Fails with 900 where memory runs out, and then nothing is written; with 902 where a write fails.
+/// Fails with 900 if out of memory, and then nothing is written, and with 902 if a write fails.
 pub fn put_refused_traffic<S: Sink>(
     alloc: Global,
     octets: &[u8],

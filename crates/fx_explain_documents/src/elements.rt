@@ -5,10 +5,11 @@ use fx_elements::{Element, by_id, by_name};
 use fx_explanation::{Explanation, between, element_name};
 use serde_json::Value;
 
-/// How many octets of a value are written.
+/// The maximum number of octets of a value that are written.
 const SHOWN: usize = 200;
 
-/// The elements that are distinguished, by name: those that are axes, the prefixes of addresses, then the others.
+/// The names of elements by which packets are distinguished: those of axes, then those of address prefixes, then the
+/// others.
 const NAMES: [&str; 21] = [
     "sourceIPv4Address",
     "destinationIPv4Address",
@@ -33,13 +34,13 @@ const NAMES: [&str; 21] = [
     "destinationIPv6PrefixLength",
 ];
 
-/// How many of these are axes.
+/// The number of these names that are of axes.
 const ON_AXES: usize = 9;
 
-/// How many of these are axes, or prefixes of addresses on one.
+/// The number of these names that are of axes or of address prefixes on one.
 const OF_AXES: usize = 13;
 
-/// Returns whether the element that an object names is one of an enterprise.
+/// Returns whether the element that an object names is enterprise-specific.
 fn is_of_enterprise(object: &Value) -> bool {
     match object.get("ieEnterpriseNumber") {
         Some(number) => number.as_u64() != Some(0),
@@ -47,7 +48,7 @@ fn is_of_enterprise(object: &Value) -> bool {
     }
 }
 
-/// Returns the element that an object names, by its name or by its number.
+/// Returns the element that an object identifies by name or number.
 pub(crate) fn element_of(object: &Value) -> Element {
     if is_of_enterprise(object) {
         return Element::Other;
@@ -61,7 +62,7 @@ pub(crate) fn element_of(object: &Value) -> Element {
     }
 }
 
-/// Returns the number of the element that an object names.
+/// Returns the number of the element that an object identifies.
 fn number_of(object: &Value) -> Option<u64> {
     object.get("ieId")?.as_u64()
 }
@@ -71,14 +72,14 @@ fn is_of_axis(element: Element) -> bool {
     matches!(element, Element::OnAxis(_) | Element::Prefix(_))
 }
 
-/// Writes the name of the element that a misspelled one stands for.
+/// Writes the name of the element that a misspelled one probably means.
 fn write_near<'x>(out: &mut Explanation, name: &'x str, known: &'x str) {
     out.text_quoted("no element is named ", name);
     out.text("; the nearest name is ");
     out.sentence(known);
 }
 
-/// Writes that packets aren't distinguished by the element of this name.
+/// Writes that packets aren't distinguished by the element with this name.
 fn write_named(out: &mut Explanation, name: &str) {
     match by_name(name) {
         Element::Other => {
@@ -92,7 +93,7 @@ fn write_named(out: &mut Explanation, name: &str) {
     }
 }
 
-/// Writes that packets aren't distinguished by the element of this number.
+/// Writes that packets aren't distinguished by the element with this number.
 fn write_numbered(out: &mut Explanation, number: u64) {
     out.text_number("element ", number);
     out.sentence(" is no field by which packets are distinguished");
@@ -113,7 +114,7 @@ fn write_no_axis(out: &mut Explanation, object: &Value) {
     }
 }
 
-/// Writes the elements that may be named where packets are distinguished, those that are axes or their prefixes too.
+/// Writes the elements by which packets are distinguished, including those of prefixes if `prefixes` is true.
 fn write_choice(out: &mut Explanation, prefixes: bool) {
     let count = if prefixes { OF_AXES } else { ON_AXES };
     out.text("elements that are allowed there: ");
@@ -124,7 +125,7 @@ fn write_choice(out: &mut Explanation, prefixes: bool) {
     out.end_line();
 }
 
-/// Returns the nearest name to that which an object gives to its element, where no element has that name.
+/// Returns the most similar name to the one that an object gives its element, if no element has that name.
 fn near_name(out: &mut Explanation, object: &Value) -> Option<&'static str> {
     match text_member(object, "ieName") {
         Some(name) if by_name(name) == Element::Other => similar_name(out, name, &NAMES),
@@ -152,7 +153,7 @@ fn write_misspelled<'x>(
     out.sentence(known);
 }
 
-/// Returns whether an element that isn't distinguished has this name.
+/// Returns whether this is the name of an element by which packets aren't distinguished.
 fn is_registered(name: &str) -> bool {
     for number in 0..256 {
         if element_name(number) == name {
@@ -162,7 +163,7 @@ fn is_registered(name: &str) -> bool {
     false
 }
 
-/// Writes the fields of a layout whose elements are misspelled, of a cache of a device.
+/// Writes the fields of the layout of a device's cache whose elements are misspelled.
 pub(crate) fn write_misspelled_fields(
     out: &mut Explanation,
     device: &str,
@@ -178,8 +179,8 @@ pub(crate) fn write_misspelled_fields(
     }
 }
 
-/// Writes what is wrong with the element that an object names, where packets aren't distinguished by it: the nearest
-/// name, or the elements by which they are, those of prefixes only where these may stand there. Answers whether packets
+/// Writes what is wrong with the element that an object names if packets aren't distinguished by it: the most similar
+/// name, or the elements by which they are, including those of prefixes if `prefixes` is true. Returns whether packets
 /// are distinguished by it.
 pub(crate) fn write_element(out: &mut Explanation, object: &Value, prefixes: bool) -> bool {
     if is_of_axis(element_of(object)) {
@@ -195,7 +196,7 @@ pub(crate) fn write_element(out: &mut Explanation, object: &Value, prefixes: boo
     false
 }
 
-/// Writes a value that isn't allowed, as far as it is short.
+/// Writes a value that isn't allowed, if it is short enough.
 pub(crate) fn write_value(out: &mut Explanation, value: &Value) {
     let text = value.to_string(out.alloc);
     let Some(text) = out.unless_short(text) else {

@@ -1,4 +1,4 @@
-//! Names that name nothing.
+//! Names that refer to nothing.
 use crate::pointers::{
     configuration, entry_of, items_member, last_member, text_member, text_or_none, value_after,
 };
@@ -6,10 +6,10 @@ use fx_explanation::{Explanation, between};
 use fx_topology::NetworkDevice;
 use serde_json::Value;
 
-/// How many segments of a pointer lead to the configuration of a device.
+/// The number of segments of a pointer to the configuration of a device.
 const CONFIGURATION: usize = 4;
 
-/// Writes that nothing of a kind has this name, and the names that there are.
+/// Writes that nothing of a kind has this name, and the existing names.
 fn write_unknown<'x>(out: &mut Explanation, kind: &'x str, name: &'x str, entries: &[Value]) {
     out.text("no ");
     out.text(kind);
@@ -28,7 +28,7 @@ fn write_unknown<'x>(out: &mut Explanation, kind: &'x str, name: &'x str, entrie
     out.end_line();
 }
 
-/// Returns the entry of this name in a list of an object, or, where it isn't there, none, and that is written.
+/// Returns the entry with this name in a list of an object. If there is none, writes that and returns `None`.
 fn entry_or_report<'a, 'x>(
     out: &mut Explanation,
     value: &'a Value,
@@ -43,7 +43,7 @@ fn entry_or_report<'a, 'x>(
     found
 }
 
-/// Writes that a device isn't there, or has no collecting process of this name.
+/// Writes that a device doesn't exist, or has no collecting process with this name.
 fn write_process(out: &mut Explanation, network: &Value, device: &str, process: &str) {
     let Some(device) = entry_or_report(out, network, "devices", "device", device) else {
         return;
@@ -54,7 +54,7 @@ fn write_process(out: &mut Explanation, network: &Value, device: &str, process: 
     }
 }
 
-/// Returns whether two links lead from one destination.
+/// Returns whether two links lead from the same destination.
 fn have_one_start(one: &Value, other: &Value) -> bool {
     for member in ["device", "exportingProcess", "destination"] {
         if text_member(one, member) != text_member(other, member) {
@@ -92,7 +92,8 @@ pub(crate) fn write_linked(out: &mut Explanation, network: &Value, link: &Value)
     }
 }
 
-/// Writes that a device isn't there, or has no exporting process of this name, or that no destination.
+/// Writes that a device doesn't exist, that it has no exporting process with this name, or that the process has no such
+/// destination.
 fn write_start(
     out: &mut Explanation,
     network: &Value,
@@ -112,7 +113,7 @@ fn write_start(
     }
 }
 
-/// Writes which ends of a link aren't there.
+/// Writes which ends of a link don't exist.
 pub(crate) fn write_link_ends(out: &mut Explanation, network: &Value, link: &Value) {
     let device = text_or_none(link, "device");
     let process = text_or_none(link, "exportingProcess");
@@ -122,14 +123,14 @@ pub(crate) fn write_link_ends(out: &mut Explanation, network: &Value, link: &Val
     write_process(out, network, device, text_or_none(link, "toProcess"));
 }
 
-/// Writes what isn't there of the device and the collecting process of a report.
+/// Writes whether the device or the collecting process of a report doesn't exist.
 pub(crate) fn write_report_end(out: &mut Explanation, network: &Value, report: &Value) {
     let device = text_or_none(report, "device");
     let process = text_or_none(report, "collectingProcess");
     write_process(out, network, device, process);
 }
 
-/// Returns what the entries of a list of a device are.
+/// Returns the kind of the entries in a list of a device.
 fn kind_of(list: &str) -> &'static str {
     match list {
         "selectionProcess" => "selection process",
@@ -139,7 +140,7 @@ fn kind_of(list: &str) -> &'static str {
     }
 }
 
-/// Writes the name at a pointer into a network, which names nothing of its device, and the names that there are.
+/// Writes the name at a pointer into a network, which refers to nothing of its device, and the existing names.
 pub(crate) fn write_unknown_name(
     out: &mut Explanation,
     network: &Value,
@@ -152,7 +153,7 @@ pub(crate) fn write_unknown_name(
     }
 }
 
-/// Reports that no device of a network has this name, and the names that there are.
+/// Writes that no device of a network has this name, and the existing names.
 pub(crate) fn write_unknown_device(out: &mut Explanation, devices: &[NetworkDevice], name: &str) {
     out.text_quoted("no device is named ", name);
     out.text("; there are: ");
@@ -165,7 +166,7 @@ pub(crate) fn write_unknown_device(out: &mut Explanation, devices: &[NetworkDevi
     out.end_line();
 }
 
-/// Writes a collecting process by the numbers of its device and its own, as `3.1`.
+/// Writes a collecting process given by the numbers of its device and its own, such as `3.1`.
 fn write_numbers<'x>(out: &mut Explanation, network: &'x Value, numbers: &'x str) {
     let Some((device, process)) = numbers.split_once('.') else {
         return;
@@ -189,7 +190,7 @@ fn write_numbers<'x>(out: &mut Explanation, network: &'x Value, numbers: &'x str
     out.sentence(text_or_none(device, "name"));
 }
 
-/// Writes the collecting processes that stand on a circle of links, or after one, by their numbers.
+/// Writes the collecting processes that are on a cycle of links, or downstream of one, by their numbers.
 pub(crate) fn write_cycle(out: &mut Explanation, network: &Value, place: &str) {
     for numbers in place.split(' ') {
         write_numbers(out, network, numbers);

@@ -3,13 +3,13 @@ use crate::pointers::{Location, configuration, items_member, location_of};
 use fx_explanation::Explanation;
 use serde_json::Value;
 
-/// How many devices a network may have.
+/// The maximum number of devices of a network.
 const DEVICES: u64 = 64;
 
-/// How many collecting processes the devices of a network may have.
+/// The maximum number of collecting processes of a network's devices.
 const PROCESSES: u64 = 256;
 
-/// Returns how many entries a list may have, of a network's document or of a traffic declaration.
+/// Returns the maximum number of entries of a list in a network document or a traffic declaration.
 fn most_entries(location: &Location<'_>, is_network: bool) -> u64 {
     match (location.member, location.depth) {
         ("paths", 0) => 16,
@@ -22,7 +22,7 @@ fn most_entries(location: &Location<'_>, is_network: bool) -> u64 {
     }
 }
 
-/// Returns what the entries of a list are, of a network's document or of a traffic declaration.
+/// Returns the kind of a list's entries in a network document or a traffic declaration.
 fn entries_words(location: &Location<'_>) -> &'static str {
     match (location.member, location.depth) {
         ("paths", 1) => "crossings of the path: ",
@@ -30,7 +30,7 @@ fn entries_words(location: &Location<'_>) -> &'static str {
     }
 }
 
-/// Returns how many collecting processes the devices of a network have.
+/// Returns the number of collecting processes of a network's devices.
 fn count_processes(devices: &[Value]) -> u64 {
     let mut count: u64 = 0;
     for device in devices {
@@ -42,14 +42,14 @@ fn count_processes(devices: &[Value]) -> u64 {
     count
 }
 
-/// Writes how many there are of something, and how many are allowed.
+/// Writes a count and its maximum.
 fn write_count<'x>(out: &mut Explanation, words: &'x str, count: u64, most: u64) {
     out.text_number(words, count);
     out.text_number("; at most ", most);
     out.sentence(" are allowed");
 }
 
-/// Writes how many entries a list at a pointer has, and how many it may have.
+/// Writes the number of entries of the list at a pointer, and its maximum.
 pub(crate) fn write_entries(out: &mut Explanation, pointer: &str, list: &Value, is_network: bool) {
     let Some(items) = list.as_array() else {
         return;

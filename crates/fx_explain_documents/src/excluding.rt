@@ -1,4 +1,4 @@
-//! Selection processes that select nothing, since two of their filters exclude one another.
+//! Selection processes that select nothing because two of their filters exclude each other.
 use fx_config::{Method, PropertyMatch, SelectionProcess, Selector};
 use fx_explanation::{Explanation, axis_word, write_values};
 use fx_plan::Plan;
@@ -23,7 +23,7 @@ fn excluding<'a>(selectors: &'a [Selector], other: &Selector) -> Option<&'a Sele
     None
 }
 
-/// Writes the values that pass a filter.
+/// Writes the values that a filter selects.
 fn write_passing(out: &mut Explanation, filter: PropertyMatch) {
     out.text(" (");
     out.text(axis_word(filter.axis));
@@ -32,7 +32,7 @@ fn write_passing(out: &mut Explanation, filter: PropertyMatch) {
     out.text(")");
 }
 
-/// Writes a selector, and the values that pass it.
+/// Writes a selector, and the values that it selects.
 fn write_selector(out: &mut Explanation, selector: &Selector) {
     out.quoted(selector.name.as_str());
     match selector.method {
@@ -41,7 +41,7 @@ fn write_selector(out: &mut Explanation, selector: &Selector) {
     }
 }
 
-/// Writes that two selectors of a selection process exclude one another.
+/// Writes that two selectors of a selection process exclude each other.
 fn write_both<'x>(
     out: &mut Explanation,
     device: &'x NetworkDevice,
@@ -59,7 +59,7 @@ fn write_both<'x>(
     out.end_line();
 }
 
-/// Writes the first two selectors of a selection process that exclude one another.
+/// Writes the first two selectors of a selection process that exclude each other.
 fn write_process(out: &mut Explanation, device: &NetworkDevice, process: &SelectionProcess) {
     let selectors = process.selectors.as_slice();
     for place in 0..selectors.len() {
@@ -78,7 +78,7 @@ fn write_device(out: &mut Explanation, device: &NetworkDevice) {
     }
 }
 
-/// Writes the selection processes of a network that select nothing, since two of their filters exclude one another.
+/// Writes the selection processes of a network that select nothing because two of their filters exclude each other.
 pub(crate) fn write_excluding(out: &mut Explanation, plan: &Plan) {
     for device in plan.network().devices.as_slice() {
         write_device(out, device);

@@ -1,13 +1,13 @@
-//! The interfaces at which the observation points of a device are.
+//! The interfaces of a device's observation points.
 use crate::similar_names::similar_name;
 use fx_config::ObservationPoint;
 use fx_explanation::{Explanation, between};
 use std::alloc::{AllocError, Global};
 
-/// How many interfaces are written.
+/// The maximum number of interfaces that are written.
 const SHOWN: u64 = 8;
 
-/// How many interfaces are looked at.
+/// The maximum number of interfaces that are considered.
 const LOOKED_AT: usize = 64;
 
 /// Returns whether a name is among these.
@@ -20,7 +20,7 @@ fn has_name(names: &[&str], name: &str) -> bool {
     false
 }
 
-/// Adds the interfaces of an observation point that aren't there yet, as far as there is room for them.
+/// Adds the interfaces of an observation point that aren't in the list yet, up to its maximum.
 fn add_interfaces<'a>(
     names: &mut Vec<&'a str>,
     point: &'a ObservationPoint,
@@ -34,7 +34,7 @@ fn add_interfaces<'a>(
     Ok(())
 }
 
-/// Returns the first interfaces at which these observation points are, each of them once.
+/// Returns the first interfaces of these observation points, each once.
 fn interfaces_of<'a>(
     alloc: Global,
     points: &'a [ObservationPoint],
@@ -46,7 +46,7 @@ fn interfaces_of<'a>(
     Ok(names)
 }
 
-/// Writes names, at most eight of them, the nearest of them first.
+/// Writes names, at most eight of them, with the nearest one first.
 fn write_names(out: &mut Explanation, names: &[&str], nearest: Option<&str>) {
     let mut shown: u64 = 0;
     if let Some(name) = nearest {
@@ -67,7 +67,7 @@ fn write_names(out: &mut Explanation, names: &[&str], nearest: Option<&str>) {
     }
 }
 
-/// Returns a name without all that isn't a digit.
+/// Returns the digits of a name.
 fn digits_of(alloc: Global, name: &str) -> Result<String, AllocError> {
     let mut digits = String::new(alloc);
     for character in name.chars() {
@@ -78,7 +78,7 @@ fn digits_of(alloc: Global, name: &str) -> Result<String, AllocError> {
     Ok(digits)
 }
 
-/// Returns those of these names that have the same digits as a name, in their order: others are of another interface.
+/// Returns those of these names that have the same digits as a name, in order; the others are of other interfaces.
 fn with_digits_of<'a>(
     alloc: Global,
     name: &str,
@@ -94,8 +94,8 @@ fn with_digits_of<'a>(
     Ok(same)
 }
 
-/// Returns the interface of these observation points whose name an interface may have been meant to have: nearly the
-/// same one, with the same digits.
+/// Returns the interface of these observation points that was probably meant by a name: a similar one, with the same
+/// digits.
 pub(crate) fn nearest_watched<'a>(
     out: &mut Explanation,
     points: &'a [ObservationPoint],
@@ -108,7 +108,7 @@ pub(crate) fn nearest_watched<'a>(
     similar_name(out, interface, same.as_slice())
 }
 
-/// Writes at which interfaces the observation points of a device are, after one at which none is.
+/// Writes the interfaces of a device's observation points, after an interface that has none.
 pub(crate) fn write_watched_interfaces(
     out: &mut Explanation,
     points: &[ObservationPoint],

@@ -1,12 +1,12 @@
-//! Why octets are no JSON text.
+//! Explaining why octets are no JSON text.
 use crate::json_faults::write_fault;
 use fx_explanation::{Explanation, number16, number32, octet_at, write_other_file};
 use serde_json::{Error, Value};
 
-/// How many octets before a place are written.
+/// The maximum number of octets before an error that are written.
 const SHOWN: usize = 60;
 
-/// Returns what is wrong with a text from its first octets on, or where it has none.
+/// Returns what is wrong with the beginning of a text, or that the text is empty.
 fn beginning_words(octets: &[u8]) -> Option<&'static str> {
     if octets.is_empty() {
         return Some("the file is empty");
@@ -26,27 +26,27 @@ fn is_utf_32(octets: &[u8]) -> bool {
         )
 }
 
-/// Returns whether two octets are a character of ASCII in UTF-16, the higher octet first: one that a text may have.
+/// Returns whether two octets are an ASCII character in UTF-16, the higher octet first, that a JSON text may contain.
 fn is_ascii_pair(high: u8, low: u8) -> bool {
     high == 0 && (b'\t'..=b'~').contains(&low)
 }
 
-/// Returns whether a text begins with two characters of ASCII in UTF-16, the lower octet first.
+/// Returns whether a text begins with two ASCII characters in UTF-16, the lower octet first.
 fn begins_low_first(octets: &[u8]) -> bool {
     octets.len() >= 4
         && is_ascii_pair(octet_at(octets, 1), octet_at(octets, 0))
         && is_ascii_pair(octet_at(octets, 3), octet_at(octets, 2))
 }
 
-/// Returns whether a text begins with three characters of ASCII in UTF-16, the higher octet first, or has just two. A
-/// stream of IPFIX begins with 0 and 10, as a line feed does.
+/// Returns whether a text begins with three ASCII characters in UTF-16, the higher octet first, or consists of two. An
+/// IPFIX stream begins with 0 and 10, as a line feed does.
 fn begins_high_first(octets: &[u8]) -> bool {
     is_ascii_pair(octet_at(octets, 0), octet_at(octets, 1))
         && is_ascii_pair(octet_at(octets, 2), octet_at(octets, 3))
         && (octets.len() == 4 || is_ascii_pair(octet_at(octets, 4), octet_at(octets, 5)))
 }
 
-/// Returns in which encoding a text is whose characters take several octets each, in words, with what to do about it.
+/// Returns the encoding of a text whose characters take several octets each, with what to do about it.
 fn wide_words(octets: &[u8]) -> Option<&'static str> {
     if is_utf_32(octets) {
         Some("the text is in UTF-32: write it in UTF-8 (iconv -f UTF-32 -t UTF-8 OLD > NEW)")
@@ -61,7 +61,7 @@ fn wide_words(octets: &[u8]) -> Option<&'static str> {
     }
 }
 
-/// Returns where a line of a text begins, by its number, from 1.
+/// Returns the index at which a line of a text begins, by its 1-based number.
 fn start_of_line(octets: &[u8], line: usize) -> usize {
     let mut number: usize = 1;
     let mut start: usize = 0;
@@ -87,7 +87,7 @@ fn write_before(out: &mut Explanation, octets: &[u8], line: usize, column: usize
     }
 }
 
-/// Returns the place of the octet at which a text can't be read on, by its line and its column, and by the reason.
+/// Returns the index of the octet at which an error occurs, by its line, its column and the reason.
 fn place_of(octets: &[u8], line: usize, column: usize, reason: &str) -> usize {
     if reason.starts_with("EOF") {
         return octets.len();
@@ -95,7 +95,7 @@ fn place_of(octets: &[u8], line: usize, column: usize, reason: &str) -> usize {
     start_of_line(octets, line).saturating_add(column.saturating_sub(1))
 }
 
-/// How JSON that is too deep, or a number that is too large, is written.
+/// Returns a description of the limit on the nesting of JSON or on the size of numbers, if it was exceeded.
 fn limit_words(reason: &str) -> &'static str {
     match reason {
         "recursion limit exceeded" => " (values may be nested in at most 127 others)",
@@ -104,7 +104,7 @@ fn limit_words(reason: &str) -> &'static str {
     }
 }
 
-/// Returns the reason in an error's text, which its place follows.
+/// Returns the reason in an error's text, which precedes the position.
 fn reason_in(text: &str) -> &str {
     match text.split_once(" at line ") {
         Some((reason, _)) => reason,
@@ -112,7 +112,7 @@ fn reason_in(text: &str) -> &str {
     }
 }
 
-/// Writes a reason, and the line and the column where it stands.
+/// Writes a reason, and its line and column.
 fn write_reason(out: &mut Explanation, line: usize, column: usize, reason: &str) {
     out.text_number("line ", line as u64);
     out.text_number(", column ", column as u64);
@@ -121,8 +121,8 @@ fn write_reason(out: &mut Explanation, line: usize, column: usize, reason: &str)
     out.sentence(limit_words(reason));
 }
 
-/// Writes what is wrong with a text from its first octets on, where a network or a traffic declaration is due. Answers
-/// whether that is written.
+/// Writes what is wrong with the beginning of a text that should be a network document or a traffic declaration.
+/// Returns whether anything was written.
 fn write_beginning(out: &mut Explanation, octets: &[u8], is_network: bool) -> bool {
     match beginning_words(octets) {
         Some(words) => {
@@ -133,7 +133,7 @@ fn write_beginning(out: &mut Explanation, octets: &[u8], is_network: bool) -> bo
     }
 }
 
-/// Writes where an error stands, its reason, and what stands there.
+/// Writes the position of an error, its reason, and what is wrong there.
 fn write_error(out: &mut Explanation, octets: &[u8], error: &Error, is_network: bool) {
     let text = format!(in out.alloc; "{error}");
     let Some(text) = out.unless_short(text) else {
@@ -148,7 +148,7 @@ fn write_error(out: &mut Explanation, octets: &[u8], error: &Error, is_network: 
     }
 }
 
-/// Writes why octets are no JSON text, if they aren't, where a network or a traffic declaration is due.
+/// Writes why octets that should be a network document or a traffic declaration are no JSON text, if they aren't.
 pub(crate) fn write_json(out: &mut Explanation, octets: &[u8], is_network: bool) {
     match Value::from_slice(out.alloc, octets) {
         Ok(_) => {}

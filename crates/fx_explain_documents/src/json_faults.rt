@@ -1,9 +1,9 @@
-//! What is wrong with a JSON text at the place of its error.
+//! What is wrong with a JSON text at the position of its error.
 use fx_explanation::{Explanation, part};
 use serde_json::Value;
 use std::str;
 
-/// How many values may stand in one another.
+/// The maximum nesting depth of values.
 const DEEPEST: u64 = 127;
 
 /// Returns whether an octet ends a value.
@@ -11,12 +11,12 @@ fn ends_value(octet: u8) -> bool {
     octet.is_ascii_alphanumeric() || matches!(octet, b'}' | b']' | b'"')
 }
 
-/// What stands before a place of a JSON text.
+/// What precedes a position in a JSON text.
 #[derive(Clone, Copy, Drop)]
 struct Before {
-    /// The last octet that is no white space; 0 if there is none.
+    /// The last octet that isn't white space, or 0 if there is none.
     last: u8,
-    /// How many objects and lists are open.
+    /// The number of open objects and lists.
     depth: u64,
     /// Whether a string is open.
     in_string: bool,
@@ -43,7 +43,7 @@ fn before_end(octets: &[u8]) -> Before {
     before
 }
 
-/// Returns what is wrong with a string that ends, which is an error after the octet `last`.
+/// Returns what is wrong with a terminated string that is an error after the octet `last`.
 fn whole_string_words(string: &[u8], last: u8) -> &'static str {
     if ends_value(last) {
         "no comma precedes it, or no colon after a member's name"
@@ -56,7 +56,7 @@ fn whole_string_words(string: &[u8], last: u8) -> &'static str {
     }
 }
 
-/// Returns what is wrong with a string of these octets, its first quotation mark left out, after the octet `last`.
+/// Returns what is wrong with a string after the octet `last`. The octets exclude its opening quotation mark.
 fn string_words(octets: &[u8], last: u8) -> &'static str {
     for place in 0..octets.len() {
         let is_escaped = place > 0 && octets[place - 1] == b'\\';
@@ -74,7 +74,7 @@ fn string_words(octets: &[u8], last: u8) -> &'static str {
     "the string that begins there has no quotation mark at its end"
 }
 
-/// Returns what is wrong with a text at a bracket after the octet `last`.
+/// Returns what is wrong with a bracket after the octet `last`.
 fn bracket_words(octet: u8, last: u8) -> &'static str {
     match (octet, last) {
         (b'{' | b'[', b',' | b'{') => "a member's name is due there, which is a string",
@@ -85,7 +85,7 @@ fn bracket_words(octet: u8, last: u8) -> &'static str {
     }
 }
 
-/// Returns what is wrong with a text at an octet that begins no string and is no bracket, after the octet `last`.
+/// Returns what is wrong with an octet after the octet `last`, which begins no string and is no bracket.
 fn octet_words(octets: &[u8], last: u8) -> Option<&'static str> {
     Some(match octets {
         [b',', ..] => "a comma stands there where a value or a member's name is due",
@@ -115,7 +115,7 @@ fn octet_words(octets: &[u8], last: u8) -> Option<&'static str> {
     })
 }
 
-/// Adds that a text ends too early, where this is open.
+/// Adds that a text ends too early, with this still open.
 fn write_open(out: &mut Explanation, open: &Before) {
     if open.last == 0 {
         out.sentence("the file has nothing but white space");
@@ -128,7 +128,7 @@ fn write_open(out: &mut Explanation, open: &Before) {
     out.sentence(if open.in_string { ", and a string" } else { "" });
 }
 
-/// Adds what is wrong with a JSON text at a place, as far as what stands there and before it shows it.
+/// Adds what is wrong with a JSON text at an index, if that can be told from what is there and before.
 pub(crate) fn write_fault(out: &mut Explanation, octets: &[u8], place: usize) {
     let start = part(octets, 0, place);
     let before = before_end(start);

@@ -1,19 +1,19 @@
-//! Which kind of JSON value is due at a place, and which is there.
+//! The expected and the actual kind of a JSON value.
 use crate::allowed::is_one_of;
 use crate::pointers::{Location, location_of};
 use fx_explanation::Explanation;
 use serde_json::Value;
 
-/// The member in which the lists of a device stand.
+/// The member that contains the lists of a device.
 const MODULE: &str = "ietf-ipfix-psamp:ipfix";
 
-/// What has to stand at a place.
+/// The expected kind of a value.
 #[derive(Clone, Copy)]
 enum Due {
     Object,
     Text,
     Number,
-    /// An empty type, whose values are written as those that are allowed.
+    /// An empty type, whose values are written like allowed values.
     Empty,
     /// A list of objects.
     Objects,
@@ -23,7 +23,7 @@ enum Due {
     Paths,
 }
 
-/// Returns what a value is, in words.
+/// Returns the kind of a value.
 fn kind_words(value: &Value) -> &'static str {
     match value {
         Value::Null => "null",
@@ -49,7 +49,7 @@ const OBJECTS: [&str; 10] = [
     "permanentCache",
 ];
 
-/// Members of a network that are lists of objects wherever they stand.
+/// Members of a network that are lists of objects in every object.
 const LISTS: [&str; 7] = [
     "devices",
     "links",
@@ -60,8 +60,8 @@ const LISTS: [&str; 7] = [
     "once-audit:aggregation",
 ];
 
-/// Members of a network that are lists of objects where they stand in a device's module or, `destination`, in an
-/// exporting process of it.
+/// Members of a network that are lists of objects in a device's module or, for `destination`, in one of its exporting
+/// processes.
 const DEVICE_LISTS: [&str; 6] = [
     "observationPoint",
     "selectionProcess",
@@ -71,7 +71,7 @@ const DEVICE_LISTS: [&str; 6] = [
     "destination",
 ];
 
-/// Members of a network that are texts wherever they stand.
+/// Members of a network that are texts in every object.
 const TEXTS: [&str; 8] = [
     "name",
     "device",
@@ -96,10 +96,10 @@ const NUMBERS: [&str; 9] = [
     "prefixLength",
 ];
 
-/// Members of a traffic declaration that are texts wherever they stand.
+/// Members of a traffic declaration that are texts in every object.
 const TRAFFIC_TEXTS: [&str; 4] = ["name", "device", "interface", "direction"];
 
-/// Returns what stands under a member of a network that names something in one object and is a list of such in another.
+/// Returns the expected kind of a member of a network that is a name in one object and a list of names in another.
 fn due_of_names(location: &Location<'_>) -> Due {
     let is_list = location.above == MODULE || location.member == "destination";
     match location.above {
@@ -109,7 +109,7 @@ fn due_of_names(location: &Location<'_>) -> Due {
     }
 }
 
-/// Returns what stands under a member of a network.
+/// Returns the expected kind of a member of a network.
 fn due_in_network(location: &Location<'_>) -> Option<Due> {
     let member = location.member;
     if is_one_of(&DEVICE_LISTS, member) {
@@ -127,7 +127,7 @@ fn due_in_network(location: &Location<'_>) -> Option<Due> {
     }
 }
 
-/// Returns what stands under one of the other members of a network.
+/// Returns the expected kind of one of the other members of a network.
 fn other_due(member: &str) -> Option<Due> {
     match member {
         "ifName" => Some(Due::Names),
@@ -136,7 +136,7 @@ fn other_due(member: &str) -> Option<Due> {
     }
 }
 
-/// Returns what stands under a member of a traffic declaration.
+/// Returns the expected kind of a member of a traffic declaration.
 fn due_in_traffic(location: &Location<'_>) -> Option<Due> {
     if location.above == "region" || is_one_of(&TRAFFIC_TEXTS, location.member) {
         return Some(Due::Text);
@@ -149,7 +149,7 @@ fn due_in_traffic(location: &Location<'_>) -> Option<Due> {
     }
 }
 
-/// Returns what stands at a place, so many lists below its member.
+/// Returns a description of the kind that is expected the given number of lists below a member.
 fn due_below(due: Due, depth: usize) -> &'static str {
     match (due, depth) {
         (Due::Object, 0) | (Due::Objects, 1) | (Due::Paths, 2) => "an object, in { }",
@@ -163,8 +163,8 @@ fn due_below(due: Due, depth: usize) -> &'static str {
     }
 }
 
-/// Returns what has to stand at a place of a network, or of a traffic declaration, in words, or none where that isn't
-/// known.
+/// Returns a description of the kind that is expected at a location in a network or in a traffic declaration, or an
+/// empty text if it isn't known.
 fn due_words(location: &Location<'_>, is_network: bool) -> &'static str {
     let due = if is_network {
         due_in_network(location)
@@ -177,7 +177,7 @@ fn due_words(location: &Location<'_>, is_network: bool) -> &'static str {
     }
 }
 
-/// Writes which kind of value stands at a pointer, and which is due there.
+/// Writes the kind of the value at a pointer, and the expected kind.
 pub(crate) fn write_kinds(out: &mut Explanation, pointer: &str, value: &Value, is_network: bool) {
     let due = due_words(&location_of(pointer), is_network);
     out.text("it is ");

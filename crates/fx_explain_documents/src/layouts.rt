@@ -1,4 +1,4 @@
-//! How many different keys a network has.
+//! The number of different keys in a network.
 use fx_explanation::{Explanation, unless_refused};
 use fx_layout::Layout;
 use fx_topology::{NetworkDevice, NetworkDocument, read_network};
@@ -47,7 +47,7 @@ fn add_network(known: &mut Vec<Layout>, network: &NetworkDocument) -> Result<(),
     }
 }
 
-/// Writes how many different keys a network has.
+/// Writes the number of different keys in a network.
 fn write_keys(out: &mut Explanation, network: &NetworkDocument) {
     let mut known = Vec::new(out.alloc);
     let _added = out.unless_short(add_network(&mut known, network));
@@ -58,8 +58,7 @@ fn write_keys(out: &mut Explanation, network: &NetworkDocument) {
     out.sentence("; at most 64 are allowed");
 }
 
-/// Writes how many different keys the caches, the aggregations and the report of a network have, and how many they may
-/// have.
+/// Writes the number of different keys of the caches, the aggregations and the report of a network, and the maximum.
 pub(crate) fn write_layouts(out: &mut Explanation, network: &Value) {
     let read = read_network(out.alloc, network);
     if let Some(network) = unless_refused(out, read) {

@@ -1,4 +1,4 @@
-//! Explanations of documents: why one is refused, and what is doubtful in those that are accepted.
+//! Explanations of documents: why one is refused, and what is doubtful in accepted ones.
 #![tactic(auto)]
 
 mod allowed;

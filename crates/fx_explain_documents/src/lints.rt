@@ -1,4 +1,4 @@
-//! What is read in silence in documents that are accepted, in sentences.
+//! What is accepted without a message in documents, in sentences.
 ghost use Rattle.std.specs.Prelude.{◌≡◌, ◌⊎◌, IfErr, OnOk};
 ghost use Rattle.fx_base.specs.Device.{IsWriteFault, KeepsGoing};
 ghost use Rattle.fx_base.specs.Fault.{IsMemory};
@@ -31,7 +31,7 @@ fn write_exempt(out: &mut Explanation, documents: &Documents<'_>) {
     }
 }
 
-/// Writes how many crossings are at interfaces of no observation point, beside those that were written.
+/// Writes the number of crossings at interfaces without an observation point, besides those that were written.
 fn write_left_out(out: &mut Explanation, left_out: u64) {
     if left_out > 0 {
         out.text_number(
@@ -42,15 +42,15 @@ fn write_left_out(out: &mut Explanation, left_out: u64) {
     }
 }
 
-/// Writes which crossings of paths no observation point sees, or none in their direction. Returns how many aren't
-/// written.
+/// Writes which crossings of paths no observation point observes, or none in their direction. Returns the number of
+/// those that aren't written.
 fn write_targets(out: &mut Explanation, documents: &Documents<'_>, targets: &[Target<'_>]) -> u64 {
     let left_out = write_unseen(out, documents, targets);
     write_directions(out, documents, targets);
     left_out
 }
 
-/// Writes what a traffic declaration says in silence: what is doubtful, and then what is only worth knowing.
+/// Writes what is doubtful in a traffic declaration, and then what is merely worth knowing.
 fn write_declared(out: &mut Explanation, octets: &[u8], documents: &Documents<'_>) {
     write_twice(out, "traffic", octets);
     if documents.traffic.classes().as_slice().is_empty() {
@@ -69,14 +69,14 @@ fn write_declared(out: &mut Explanation, octets: &[u8], documents: &Documents<'_
     write_left_out(out, left_out);
 }
 
-/// Explains in sentences what is read in silence in the document of a network that is accepted: members that stand
-/// twice in an object, of which the last one counts; members that nothing reads; fields of caches whose elements are
-/// misspelled; prefixes whose address has bits after its length; observation points, selection processes, caches,
-/// destinations and aggregations that lead nowhere; caches without a flow key; caches and collecting processes that
-/// nothing feeds; selection processes whose filters exclude one another. Where there is nothing of the kind, nothing is
-/// written. The text has no control characters but line feeds.
+/// Explains in sentences what is accepted without a message in a network document: members that appear twice in an
+/// object, of which the last one counts; members that aren't read; fields of caches whose elements are misspelled;
+/// prefixes whose address has bits after its length; observation points, selection processes, caches, destinations and
+/// aggregations that lead nowhere; caches without a flow key; caches and collecting processes that nothing feeds;
+/// selection processes whose filters exclude each other. Writes nothing if there is nothing of the kind. The text has
+/// no control characters but line feeds.
 ///
-/// Fails with 900 where memory runs out, and then nothing is written; with 902 where a write fails.
+/// Fails with 900 if out of memory, and then nothing is written, and with 902 if a write fails.
 pub fn put_network_notes<S: Sink>(
     alloc: Global,
     octets: &[u8],
@@ -100,15 +100,15 @@ pub fn put_network_notes<S: Sink>(
     put_text(sink, out.octets()?)
 }
 
-/// Explains in sentences what is read in silence in a traffic declaration that is accepted. What is doubtful comes
-/// first: members that stand twice in an object; that it has no class; prefixes whose address has bits after its
-/// length; classes that overlap; paths that are to be counted and of which no observation point sees a crossing, with
-/// the interfaces that are at one; crossings at interfaces with nearly the name of one that is; observation points that
-/// observe the other direction alone. Then come the classes that are exempt, and how many other crossings are at
-/// interfaces of no observation point. Where there is nothing of the kind, nothing is written. The text has no control
-/// characters but line feeds.
+/// Explains in sentences what is accepted without a message in a traffic declaration. What is doubtful comes first:
+/// members that appear twice in an object; a declaration without classes; prefixes whose address has bits after its
+/// length; classes that overlap; paths that should be counted and of which no observation point observes a crossing,
+/// with the interfaces that have one; crossings at interfaces whose name is similar to that of one with an observation
+/// point; observation points that observe only the other direction. Then come the exempt classes, and the number of
+/// other crossings at interfaces without an observation point. Writes nothing if there is nothing of the kind. The text
+/// has no control characters but line feeds.
 ///
-/// Fails with 900 where memory runs out, and then nothing is written; with 902 where a write fails.
+/// Fails with 900 if out of memory, and then nothing is written, and with 902 if a write fails.
 pub fn put_traffic_notes<S: Sink>(
     alloc: Global,
     octets: &[u8],

@@ -1,18 +1,18 @@
-//! Which members an object lacks, and which it has.
+//! The members that an object lacks, and those that it has.
 use crate::allowed::{has_one, members_in};
 use crate::elements::element_of;
 use fx_elements::Element;
 use fx_explanation::Explanation;
 use serde_json::Value;
 
-/// The members that an object has to have: all of the first, and one of the second.
+/// The members that an object must have: all of the first, and one of the second.
 #[derive(Clone, Copy)]
 struct Required {
     all: &'static [&'static str],
     one: &'static [&'static str],
 }
 
-/// Of which members exactly one has to be there in the object at a pointer whose last member is this one.
+/// Returns the members of which an object must have exactly one, by the last member of the object's pointer.
 pub(crate) fn one_required(member: &str) -> &'static [&'static str] {
     match member {
         "selector" => &["selectAll", "filterMatch"],
@@ -28,7 +28,7 @@ pub(crate) fn one_required(member: &str) -> &'static [&'static str] {
     }
 }
 
-/// The members that objects have to have, by the member under which such an object stands.
+/// The members that objects must have, by the member that contains the object.
 const REQUIRED: [(&str, &[&str]); 22] = [
     ("devices", &["name", "config"]),
     ("config", &["ietf-ipfix-psamp:ipfix"]),
@@ -66,7 +66,7 @@ const REQUIRED: [(&str, &[&str]); 22] = [
     ("once-audit:aggregation", &["name"]),
 ];
 
-/// Returns the members that the whole of a network's or a traffic's document has to have.
+/// Returns the members that a network document or a traffic declaration as a whole must have.
 fn members_of_document(is_network: bool) -> &'static [&'static str] {
     if is_network {
         &["devices", "links", "report"]
@@ -75,8 +75,8 @@ fn members_of_document(is_network: bool) -> &'static [&'static str] {
     }
 }
 
-/// Returns what has to be there in the object at a pointer whose last member is this one, or in the whole of a
-/// network's or a traffic's document.
+/// Returns the members that an object must have, by the last member of its pointer, or those that a network document or
+/// a traffic declaration as a whole must have.
 fn members_required(member: &str, is_network: bool) -> Required {
     Required {
         all: if member.is_empty() {
@@ -98,7 +98,7 @@ fn write_missing(out: &mut Explanation, object: &Value, names: &'static [&'stati
     }
 }
 
-/// Writes names, with a separator between two.
+/// Writes names with a separator between them.
 fn write_choice(out: &mut Explanation, names: &'static [&'static str]) {
     let mut separator = "missing: one of ";
     for name in names {
@@ -123,7 +123,7 @@ fn write_members(out: &mut Explanation, object: &Value) {
     }
 }
 
-/// Writes what an object lacks, at a pointer whose last member is this one, and what it has.
+/// Writes which members an object lacks, by the last member of its pointer, and which it has.
 pub(crate) fn write_lacking(out: &mut Explanation, object: &Value, member: &str, is_network: bool) {
     if !object.is_object() {
         out.sentence("the list is empty; it has to have an entry at least");

@@ -1,14 +1,14 @@
-//! Classes that hold the same packets.
+//! Classes that contain the same packets.
 ghost use Rattle.std.specs.Prelude.{◌<◌, length};
 
 use fx_boxes::Region;
 use fx_explanation::{Documents, Explanation, class_name, write_region};
 use fx_tables::Class;
 
-/// How many pairs of classes are written.
+/// The maximum number of pairs of classes that are written.
 const SHOWN: u64 = 16;
 
-/// Writes which packets two classes hold, by their numbers.
+/// Writes which packets are in both of two classes, given by number.
 fn write_both(
     out: &mut Explanation,
     documents: &Documents<'_>,
@@ -25,8 +25,8 @@ fn write_both(
     out.sentence("; once run takes a packet to be of the first class that holds it");
 }
 
-/// Writes with which classes after it the class at a place overlaps, as long as few were written, and answers how many
-/// pairs there are with those before.
+/// Writes with which later classes the class at an index overlaps, up to the maximum of pairs. Returns the number of
+/// pairs so far, including the `before` earlier ones.
 fn write_later(
     out: &mut Explanation,
     documents: &Documents<'_>,
@@ -49,8 +49,8 @@ fn write_later(
     count
 }
 
-/// Writes which classes of a traffic declaration hold the same packets: the first 16 pairs, and how many there are
-/// more.
+/// Writes which classes of a traffic declaration contain the same packets: the first 16 pairs, and the number of
+/// others.
 pub(crate) fn write_overlapping(out: &mut Explanation, documents: &Documents<'_>) {
     let classes = documents.traffic.classes().as_slice();
     let mut count = 0;

@@ -1,8 +1,8 @@
-//! JSON values in a document's place that are a part of a document, or the other document.
+//! JSON values given instead of a document that are a part of a document, or the other document.
 use fx_explanation::Explanation;
 use serde_json::Value;
 
-/// Members that write what an object is that has one of them; of several the first.
+/// Members that identify the object that has one; of several, the first counts.
 const MARKS: &[&str] = &[
     "devices",
     "links",
@@ -21,7 +21,7 @@ const MARKS: &[&str] = &[
     "collectingProcess",
 ];
 
-/// Returns the member that writes what an object is, or an empty text.
+/// Returns the member that identifies an object, or an empty text.
 fn mark_of(object: &Value) -> &'static str {
     for mark in MARKS {
         if object.get(*mark).is_some() {
@@ -31,7 +31,7 @@ fn mark_of(object: &Value) -> &'static str {
     ""
 }
 
-/// What an object is that has a member, and what a list of such objects is.
+/// The kind of an object that has a member, and of a list of such objects.
 const NAMES: [(&str, &str, &str); 10] = [
     ("devices", "a network", "a list of networks"),
     ("links", "a network", "a list of networks"),
@@ -53,7 +53,7 @@ const NAMES: [(&str, &str, &str); 10] = [
     ("interface", "crossings", "crossings"),
 ];
 
-/// Where an object stands that has a member, and where a list of such objects stands.
+/// Where an object that has a member belongs, and where a list of such objects belongs.
 const PLACES: [(&str, &str, &str); 10] = [
     ("devices", ALONE, ALONE),
     ("links", ALONE, ALONE),
@@ -79,26 +79,27 @@ const PLACES: [(&str, &str, &str); 10] = [
     ("interface", CROSSINGS, CROSSINGS),
 ];
 
-/// Where a document stands.
+/// Where a document belongs.
 const ALONE: &str = "a document is a single object: remove what is around it";
 
-/// Where the configuration of a device stands.
+/// Where the configuration of a device belongs.
 const CONFIGURATION: &str =
     "its place in a network is: {\"devices\": [{\"name\": .., \"config\": HERE}, ..], \"links\": [..], \"report\": {..}}";
 
-/// Where the report stands.
+/// Where the report belongs.
 const REPORT: &str =
     "its place in a network is: {\"devices\": [..], \"links\": [..], \"report\": HERE}";
 
-/// Where crossings stand.
+/// Where crossings belong.
 const CROSSINGS: &str =
     "their place in a traffic declaration is: {\"classes\": [{\"name\": .., \"paths\": [[..], ..]}, ..]}";
 
-/// Where a part of a device's configuration stands.
+/// Where a part of a device's configuration belongs.
 const PART: &str =
     "the place of a device's configuration in a network is: {\"devices\": [{\"name\": .., \"config\": {\"ietf-ipfix-psamp:ipfix\": {\"observationPoint\": [..], ..}}}, ..], \"links\": [..], \"report\": {..}}";
 
-/// Returns what a table has for an object with this member, or for a list of such objects; else this text.
+/// Returns the text of a table for an object with this member, or for a list of such objects, or `other` if it has
+/// none.
 fn said_of(
     table: &[(&'static str, &'static str, &'static str)],
     mark: &str,
@@ -113,27 +114,27 @@ fn said_of(
     other
 }
 
-/// Returns what an object is that has this member, or a list of such objects.
+/// Returns the kind of an object with this member, or of a list of such objects.
 fn name_of(mark: &str, is_list: bool) -> &'static str {
     said_of(&NAMES, mark, is_list, "a part of a device's configuration")
 }
 
-/// Returns where an object stands that has this member, or a list of such objects.
+/// Returns where an object with this member, or a list of such objects, belongs.
 fn place_of(mark: &str, is_list: bool) -> &'static str {
     said_of(&PLACES, mark, is_list, PART)
 }
 
-/// Returns whether such objects stand in a network.
+/// Returns whether such objects belong in a network.
 fn is_of_network(mark: &str) -> bool {
     !matches!(mark, "classes" | "paths" | "interface")
 }
 
-/// Returns whether an object that has this member is a document.
+/// Returns whether an object with this member is a document.
 fn is_document(mark: &str) -> bool {
     matches!(mark, "devices" | "links" | "report" | "classes")
 }
 
-/// Writes what an object is, or a list of objects, in the place of a network or of a traffic declaration.
+/// Writes what an object or a list of objects is that is given instead of a network document or a traffic declaration.
 fn write_mark(out: &mut Explanation, mark: &str, is_list: bool, is_network: bool) {
     out.text("this looks like ");
     out.text(name_of(mark, is_list));
@@ -150,7 +151,7 @@ fn write_mark(out: &mut Explanation, mark: &str, is_list: bool, is_network: bool
     }
 }
 
-/// Writes what a list is, in the place of a network or of a traffic declaration.
+/// Writes what a list is that is given instead of a network document or a traffic declaration.
 pub(crate) fn write_list(out: &mut Explanation, items: &[Value], is_network: bool) {
     let first = match items.first() {
         Some(Value::Array(inner)) => inner.as_slice().first(),
@@ -165,8 +166,8 @@ pub(crate) fn write_list(out: &mut Explanation, items: &[Value], is_network: boo
     }
 }
 
-/// Writes what an object is in the place of a network or of a traffic declaration, which has a member that such a
-/// document hasn't.
+/// Writes what an object is that is given instead of a network document or a traffic declaration and has a member that
+/// such a document can't have.
 pub(crate) fn write_whole(out: &mut Explanation, object: &Value, member: &Value, is_network: bool) {
     let mark = mark_of(object);
     let inner = mark_of(member);

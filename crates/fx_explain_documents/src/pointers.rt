@@ -2,7 +2,7 @@
 use fx_explanation::are_digits;
 use serde_json::Value;
 
-/// Returns whether a segment of a pointer is the place of an item in a list.
+/// Returns whether a segment of a pointer is an index into a list.
 fn is_place(segment: &str) -> bool {
     !segment.is_empty() && are_digits(segment.as_bytes())
 }
@@ -10,11 +10,11 @@ fn is_place(segment: &str) -> bool {
 /// Where a pointer leads.
 #[derive(Clone, Copy, Drop)]
 pub(crate) struct Location<'a> {
-    /// The last member that it names, or an empty text.
+    /// The last member in the pointer, or an empty text.
     pub(crate) member: &'a str,
     /// The member before that, or an empty text.
     pub(crate) above: &'a str,
-    /// How many lists below the last member it leads.
+    /// The number of lists between the last member and the value.
     pub(crate) depth: usize,
 }
 
@@ -39,7 +39,7 @@ pub(crate) fn location_of(pointer: &str) -> Location<'_> {
     location
 }
 
-/// Returns the last member that a pointer names, or an empty text.
+/// Returns the last member in a pointer, or an empty text.
 pub(crate) fn last_member(pointer: &str) -> &str {
     let mut last = "";
     for segment in pointer.split('/') {
@@ -50,7 +50,7 @@ pub(crate) fn last_member(pointer: &str) -> &str {
     last
 }
 
-/// Returns the value below another that a segment of a pointer leads to.
+/// Returns the child of a value to which a segment of a pointer leads.
 fn child<'a>(value: &'a Value, segment: &str) -> Option<&'a Value> {
     match segment.parse::<usize>() {
         Ok(place) => value.as_array()?.get(place),
@@ -58,7 +58,7 @@ fn child<'a>(value: &'a Value, segment: &str) -> Option<&'a Value> {
     }
 }
 
-/// Returns the value to which the first segments of a pointer lead, so many of them.
+/// Returns the value to which the given number of first segments of a pointer lead.
 pub(crate) fn value_after<'a>(
     value: &'a Value,
     pointer: &str,
@@ -71,12 +71,12 @@ pub(crate) fn value_after<'a>(
     Some(value)
 }
 
-/// Returns the text of a member of an object.
+/// Returns the text in a member of an object.
 pub(crate) fn text_member<'a>(value: &'a Value, name: &str) -> Option<&'a str> {
     value.get(name)?.as_str()
 }
 
-/// Returns the text of a member, or an empty one.
+/// Returns the text in a member of an object, or an empty text.
 pub(crate) fn text_or_none<'a>(value: &'a Value, name: &str) -> &'a str {
     match text_member(value, name) {
         Some(text) => text,
@@ -84,7 +84,7 @@ pub(crate) fn text_or_none<'a>(value: &'a Value, name: &str) -> &'a str {
     }
 }
 
-/// Returns the items of a member that is a list; none where it isn't there.
+/// Returns the items of a member that is a list, or an empty slice if there is no such member.
 pub(crate) fn items_member<'a>(value: &'a Value, name: &str) -> &'a [Value] {
     match value.get(name) {
         Some(Value::Array(items)) => items.as_slice(),
@@ -92,7 +92,7 @@ pub(crate) fn items_member<'a>(value: &'a Value, name: &str) -> &'a [Value] {
     }
 }
 
-/// Returns the entry of a list of an object that has this name.
+/// Returns the entry with this name in a list of an object.
 pub(crate) fn entry_of<'a>(value: &'a Value, list: &str, name: &str) -> Option<&'a Value> {
     for entry in items_member(value, list) {
         if text_member(entry, "name") == Some(name) {
@@ -102,7 +102,7 @@ pub(crate) fn entry_of<'a>(value: &'a Value, list: &str, name: &str) -> Option<&
     None
 }
 
-/// Returns what a device of a network is configured to do.
+/// Returns the configuration of a device.
 pub(crate) fn configuration(device: &Value) -> Option<&Value> {
     device.get("config")?.get("ietf-ipfix-psamp:ipfix")
 }

@@ -5,7 +5,7 @@ use fx_elements::{Axis, Element, Range, by_name, read_on, read_value};
 use fx_explanation::Explanation;
 use serde_json::Value;
 
-/// Returns the addresses for which the text of a prefix on an axis stands, where its address has bits after its length.
+/// Returns the addresses that the text of a prefix on an axis denotes, if its address has bits after its length.
 fn addresses_meant(axis: Axis, text: &str) -> Option<Range> {
     let (address, _) = text.split_once('/')?;
     let address = read_on(axis, address.as_bytes())?;
@@ -16,7 +16,7 @@ fn addresses_meant(axis: Axis, text: &str) -> Option<Range> {
     Some(range)
 }
 
-/// Writes which addresses a prefix means.
+/// Writes which addresses a prefix denotes.
 fn write_meant(out: &mut Explanation, text: &str, axis: Axis, range: Range) {
     out.text(text);
     out.text(" has bits after its length; it means ");
@@ -26,16 +26,16 @@ fn write_meant(out: &mut Explanation, text: &str, axis: Axis, range: Range) {
     out.end_line();
 }
 
-/// What an entry of a device is called: its own kind and name, and those of the entry in which it stands.
+/// The title of an entry of a device: its own kind and name, and those of the entry that contains it.
 #[derive(Clone, Copy)]
 struct Title<'a> {
     device: &'a str,
-    /// As ` of selection process `.
+    /// For example ` of selection process `.
     above: &'static str,
     name: &'a str,
 }
 
-/// Writes which addresses the prefix means that an object names, where that isn't plain.
+/// Writes which addresses the prefix in an object denotes, if its address has bits after its length.
 fn write_match<'x>(
     out: &mut Explanation,
     title: Title<'x>,
@@ -112,7 +112,7 @@ fn write_collecting(out: &mut Explanation, device: &str, container: &Value) {
     }
 }
 
-/// Writes the prefixes of a network's document whose addresses have bits after their length, and what they mean.
+/// Writes the prefixes of a network document whose addresses have bits after their length, and what they denote.
 pub(crate) fn write_prefixes(out: &mut Explanation, network: &Value) {
     for device in items_member(network, "devices") {
         if let Some(container) = configuration(device) {
@@ -122,7 +122,7 @@ pub(crate) fn write_prefixes(out: &mut Explanation, network: &Value) {
     }
 }
 
-/// Writes which addresses a member of a region means, where that isn't plain.
+/// Writes which addresses a member of a region denotes, if its address has bits after its length.
 fn write_member<'x>(out: &mut Explanation, class: &'x str, name: &'x str, region: &'x Value) {
     let Element::OnAxis(axis) = by_name(name) else {
         return;
@@ -153,7 +153,7 @@ fn write_region(out: &mut Explanation, class: &Value) {
     }
 }
 
-/// Writes the prefixes of a traffic declaration whose addresses have bits after their length, and what they mean.
+/// Writes the prefixes of a traffic declaration whose addresses have bits after their length, and what they denote.
 pub(crate) fn write_prefixes_of_classes(out: &mut Explanation, traffic: &Value) {
     for class in items_member(traffic, "classes") {
         write_region(out, class);

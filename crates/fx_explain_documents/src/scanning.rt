@@ -1,34 +1,34 @@
-//! Members that stand twice in one object of a JSON text.
+//! Members that appear twice in one object of a JSON text.
 use fx_explanation::Explanation;
 use std::alloc::{AllocError, Global};
 
-/// How many members of an object are looked at.
+/// The maximum number of members of an object that are compared.
 const MEMBERS: usize = 64;
 
-/// An object or a list that is open.
+/// An open object or list.
 #[derive(Drop)]
 struct Open {
     is_object: bool,
     /// Whether the next string is a member's name.
     name_next: bool,
-    /// Where the names begin and end that an object's members have so far.
+    /// The start and end indices of the names of the object's members so far.
     names: Vec<(usize, usize)>,
 }
 
-/// How far a JSON text was looked through.
+/// The progress of a scan of a JSON text.
 #[derive(Drop)]
 struct Scan {
     open: Vec<Open>,
     in_string: bool,
     escaped: bool,
-    /// Where the string began that it is in, after its quotation mark.
+    /// The index at which the current string begins, after its quotation mark.
     start: usize,
     line: u64,
-    /// Which document it is, as `network`.
+    /// The document's kind, such as `network`.
     document: &'static str,
 }
 
-/// Octets of a text from one place to another.
+/// Returns the octets of a text from one index to another.
 fn part(text: &[u8], start: usize, end: usize) -> &[u8] {
     match text.get(start..end) {
         Some(part) => part,
@@ -36,7 +36,7 @@ fn part(text: &[u8], start: usize, end: usize) -> &[u8] {
     }
 }
 
-/// Returns whether one of these names is the same as another.
+/// Returns whether one of these names equals another.
 fn has_name(text: &[u8], names: &[(usize, usize)], name: &[u8]) -> bool {
     for (start, end) in names {
         if part(text, *start, *end) == name {
@@ -47,7 +47,7 @@ fn has_name(text: &[u8], names: &[(usize, usize)], name: &[u8]) -> bool {
 }
 
 impl Open {
-    /// Adds a member's name, and answers whether an earlier member has it.
+    /// Adds a member's name, and returns whether an earlier member has it.
     fn add(&mut self, text: &[u8], start: usize, end: usize) -> Result<bool, AllocError> {
         self.name_next = false;
         if has_name(text, self.names.as_slice(), part(text, start, end)) {
@@ -61,7 +61,7 @@ impl Open {
 }
 
 impl Scan {
-    /// Before the first octet.
+    /// Returns a scan before the first octet.
     fn new(alloc: Global, document: &'static str) -> Scan {
         Scan {
             open: Vec::new(alloc),
@@ -73,7 +73,7 @@ impl Scan {
         }
     }
 
-    /// An object or a list begins.
+    /// Begins an object or a list.
     fn begin(&mut self, out: &mut Explanation, is_object: bool) {
         let pushed = self.open.push(Open {
             is_object,
@@ -85,14 +85,14 @@ impl Scan {
         }
     }
 
-    /// Goes on to the next member of an object.
+    /// Proceeds to the next member of an object.
     fn next_member(&mut self) {
         if let Some(open) = self.open.last_mut() {
             open.name_next = open.is_object;
         }
     }
 
-    /// A string ends at a place: writes it where it is the name of a member that stands there already.
+    /// Ends a string, and writes it if it is a member's name that the object has already.
     fn end_string(&mut self, out: &mut Explanation, text: &[u8], end: usize) {
         self.in_string = false;
         let start = self.start;
@@ -109,12 +109,12 @@ impl Scan {
         out.sentence("\" occurs twice in one object; the last one counts");
     }
 
-    /// Goes past an octet of a string, but for the quotation mark that ends it.
+    /// Advances past an octet of a string other than the closing quotation mark.
     fn in_text(&mut self, octet: u8) {
         self.escaped = !self.escaped && octet == b'\\';
     }
 
-    /// Goes past an octet.
+    /// Advances past an octet.
     fn take(&mut self, out: &mut Explanation, text: &[u8], place: usize) {
         let octet = text.get(place).copied().unwrap_or(0);
         if self.in_string {
@@ -143,8 +143,8 @@ impl Scan {
     }
 }
 
-/// Writes the members that stand twice in an object of a JSON text, which is valid, by the lines of the second ones. Of
-/// each object its first 64 names are looked at, as they are spelled.
+/// Writes the members that appear twice in an object of a valid JSON text, by the lines of the second ones. Of each
+/// object, compares the first 64 names, as they are spelled.
 pub(crate) fn write_twice(out: &mut Explanation, document: &'static str, text: &[u8]) {
     let mut scan = Scan::new(out.alloc, document);
     for place in 0..text.len() {

@@ -1,12 +1,12 @@
-//! Names that a misspelled one may stand for.
+//! Names that a misspelled one may mean.
 use fx_explanation::Explanation;
 use std::alloc::{AllocError, Global};
 use strsim::osa_distance;
 
-/// How many octets a name has at most that is compared.
+/// The maximum length, in octets, of names that are compared.
 const COMPARED: usize = 64;
 
-/// Returns a character as it is compared: upper case letters as lower case ones.
+/// Returns a character as it is compared: upper case letters become lower case.
 fn lower(character: char) -> char {
     match character {
         'A'..='Z' => char::from(character as u8 + 32),
@@ -22,7 +22,7 @@ fn after_prefix(name: &str) -> &str {
     }
 }
 
-/// Returns a name as it is compared: without its module, hyphens and low lines, in lower case.
+/// Returns a name as it is compared: without its module prefix, hyphens and underscores, in lower case.
 fn plain(alloc: Global, name: &str) -> Result<String, AllocError> {
     let mut text = String::new(alloc);
     for character in after_prefix(name).chars() {
@@ -33,20 +33,20 @@ fn plain(alloc: Global, name: &str) -> Result<String, AllocError> {
     Ok(text)
 }
 
-/// Returns how many letters have to be changed, put in, taken out or swapped with the next, at least, to make one of
-/// two names of the other.
+/// Returns the least number of letters to replace, insert, delete or swap with the next one that turns one name into
+/// the other.
 fn distance(alloc: Global, one: &str, other: &str) -> Result<usize, AllocError> {
     let one = plain(alloc, one)?;
     let other = plain(alloc, other)?;
     osa_distance(alloc, one.as_str(), other.as_str())
 }
 
-/// How far from a name a misspelled one may be: a letter, and one more for each six.
+/// Returns the maximum distance of a misspelling from a name: one letter, and one more for every six.
 fn reach(name: &str) -> usize {
     1 + name.len() / 6
 }
 
-/// Returns the nearest of these names, if one is near: of several that are as near the first.
+/// Returns the most similar of these names, if one is similar enough; of several equally similar ones, the first.
 pub(crate) fn similar_name<'a>(
     out: &mut Explanation,
     name: &str,

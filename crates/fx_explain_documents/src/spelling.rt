@@ -1,11 +1,11 @@
-//! What is wrong with a text that should spell a value of an axis.
+//! What is wrong with a text that should be a value of an axis.
 use fx_elements::{Axis, Element, read_number, read_on, top, width};
 use fx_explanation::{Explanation, are_digits, element_name};
 
-/// How many octets a text has at most that is looked at.
+/// The maximum length, in octets, of a text that is examined.
 const LONGEST: usize = 200;
 
-/// Returns what is wrong with a number of an address of IPv4.
+/// Returns what is wrong with a number in an IPv4 address.
 fn number_words(text: &str) -> Option<&'static str> {
     if read_number(text.as_bytes(), 255).is_some() {
         return None;
@@ -22,7 +22,7 @@ fn number_words(text: &str) -> Option<&'static str> {
     Some(" is more than 255")
 }
 
-/// Writes what is wrong with an address of IPv4.
+/// Writes what is wrong with an IPv4 address.
 fn write_quad(out: &mut Explanation, text: &str) {
     let mut count: u64 = 0;
     for part in text.split('.') {
@@ -39,7 +39,7 @@ fn write_quad(out: &mut Explanation, text: &str) {
     out.sentence("; one of IPv4 has four");
 }
 
-/// Returns whether all these characters may stand in an address of IPv6.
+/// Returns whether all these characters are allowed in an IPv6 address.
 fn are_of_address6(octets: &[u8]) -> bool {
     for octet in octets {
         if !octet.is_ascii_hexdigit() && *octet != b':' && *octet != b'.' {
@@ -49,7 +49,7 @@ fn are_of_address6(octets: &[u8]) -> bool {
     true
 }
 
-/// Returns whether an address of IPv6 has a group of too many digits.
+/// Returns whether a group of an IPv6 address has too many digits.
 fn has_long_group(text: &str) -> bool {
     for group in text.split(':') {
         if group.len() > 4 && !group.contains('.') {
@@ -59,7 +59,7 @@ fn has_long_group(text: &str) -> bool {
     false
 }
 
-/// Returns what is wrong with an address of IPv6.
+/// Returns what is wrong with an IPv6 address.
 fn wide_words(text: &str) -> &'static str {
     if !are_of_address6(text.as_bytes()) {
         return " has characters that are none of 0 to 9, a to f, : and .";
@@ -77,13 +77,13 @@ fn wide_words(text: &str) -> &'static str {
     }
 }
 
-/// Writes what is wrong with an address of IPv6.
+/// Writes what is wrong with an IPv6 address.
 fn write_wide(out: &mut Explanation, text: &str) {
     out.text_quoted("the address ", text);
     out.sentence(wide_words(text));
 }
 
-/// Writes which numbers an axis has.
+/// Writes the numbers that are allowed on an axis.
 fn write_number(out: &mut Explanation, axis: Axis) {
     out.text("allowed there: a number from 0 to ");
     out.value(axis, top(axis));
@@ -94,7 +94,7 @@ fn write_number(out: &mut Explanation, axis: Axis) {
     out.end_line();
 }
 
-/// Writes what is wrong with a text that should spell one value of an axis, if something is.
+/// Writes what is wrong with a text that should be a single value of an axis, if anything is.
 fn write_single(out: &mut Explanation, axis: Axis, text: &str) {
     if read_on(axis, text.as_bytes()).is_some() {
         return;
@@ -111,7 +111,7 @@ fn write_single(out: &mut Explanation, axis: Axis, text: &str) {
     }
 }
 
-/// Writes what is wrong with the number of bits after an address, if something is.
+/// Writes what is wrong with the number of bits after an address, if anything is.
 fn write_bits(out: &mut Explanation, axis: Axis, text: &str) {
     let Some(bits) = read_number(text.as_bytes(), u128::from(width(axis))) else {
         out.text_quoted("the length of the prefix is ", text);
@@ -128,7 +128,7 @@ fn write_bits(out: &mut Explanation, axis: Axis, text: &str) {
     out.sentence("a prefix has 1 bit at least; for all addresses leave it out");
 }
 
-/// Writes what is wrong with a text that should spell a prefix, if something is.
+/// Writes what is wrong with a text that should be a prefix, if anything is.
 fn write_prefix(out: &mut Explanation, axis: Axis, text: &str) {
     let Some((address, bits)) = text.split_once('/') else {
         out.quoted(text);
@@ -139,7 +139,7 @@ fn write_prefix(out: &mut Explanation, axis: Axis, text: &str) {
     write_bits(out, axis, bits);
 }
 
-/// Writes what is wrong with a text that should spell two values of an axis.
+/// Writes what is wrong with a text that should be two values of an axis.
 fn write_ends<'x>(out: &mut Explanation, axis: Axis, low: &'x str, high: &'x str) {
     let Some(least) = read_on(axis, low.as_bytes()) else {
         write_single(out, axis, low);
@@ -158,7 +158,7 @@ fn write_ends<'x>(out: &mut Explanation, axis: Axis, low: &'x str, high: &'x str
     out.sentence("; the lower value comes first");
 }
 
-/// Writes what is wrong with a text that should spell a value of an element, or a prefix.
+/// Writes what is wrong with a text that should be a value of an element, or a prefix.
 pub(crate) fn write_spelling(out: &mut Explanation, element: Element, text: &str) {
     if text.len() > LONGEST {
         return;
@@ -188,7 +188,7 @@ fn is_range(axis: Axis, text: &str) -> bool {
     }
 }
 
-/// Writes how the values of a region are written on an axis.
+/// Writes the notation of a region's values on an axis.
 pub(crate) fn write_forms(out: &mut Explanation, axis: Axis) {
     out.sentence(if axis.is_address() {
         "on an axis a region has one value, LOW-HIGH without spaces, or ADDRESS/n; write a class for each of several values"
@@ -197,7 +197,7 @@ pub(crate) fn write_forms(out: &mut Explanation, axis: Axis) {
     });
 }
 
-/// Writes what is wrong with a text that should spell values of a region on an axis.
+/// Writes what is wrong with a text that should be values of a region on an axis.
 pub(crate) fn write_values(out: &mut Explanation, axis: Axis, text: &str) {
     if text.len() > LONGEST {
         return;

@@ -1,4 +1,4 @@
-//! Crossings that no observation point can see.
+//! Crossings that no observation point can observe.
 use crate::interfaces::{nearest_watched, write_watched_interfaces};
 use fx_base::Name;
 use fx_config::ObservationPoint;
@@ -7,7 +7,7 @@ use fx_plan::Plan;
 use fx_tables::Crossing;
 use fx_traffic::Target;
 
-/// Of how many unknown interfaces the nearest ones are looked for: comparing names takes long.
+/// The maximum number of unknown interfaces for which the nearest one is searched: comparing names is slow.
 const COMPARED: usize = 64;
 
 /// Returns whether a name is among these.
@@ -20,12 +20,12 @@ fn is_among(names: &[Name], name: &Name) -> bool {
     false
 }
 
-/// Returns whether an observation point is at the interface of this name.
+/// Returns whether an observation point is at the interface with this name.
 pub(crate) fn is_at(point: &ObservationPoint, interface: &Name) -> bool {
     is_among(point.interfaces.as_slice(), interface)
 }
 
-/// Returns whether one of these observation points is at the interface of this name.
+/// Returns whether one of these observation points is at the interface with this name.
 fn is_watched(points: &[ObservationPoint], interface: &Name) -> bool {
     for point in points {
         if is_at(point, interface) {
@@ -43,7 +43,7 @@ fn points_at<'a>(plan: &'a Plan, crossing: &Crossing) -> &'a [ObservationPoint] 
     }
 }
 
-/// Returns whether an observation point sees a crossing, in its direction.
+/// Returns whether an observation point observes a crossing, in its direction.
 fn is_seen(plan: &Plan, crossing: &Crossing) -> bool {
     for point in plan.net().points_of(crossing.device) {
         if point.watches(crossing) {
@@ -53,7 +53,7 @@ fn is_seen(plan: &Plan, crossing: &Crossing) -> bool {
     false
 }
 
-/// Returns whether an observation point sees one of these crossings.
+/// Returns whether an observation point observes one of these crossings.
 fn is_any_seen(plan: &Plan, crossings: &[Crossing]) -> bool {
     for crossing in crossings {
         if is_seen(plan, crossing) {
@@ -63,7 +63,7 @@ fn is_any_seen(plan: &Plan, crossings: &[Crossing]) -> bool {
     false
 }
 
-/// The interfaces that were compared with those of their devices, and how many crossings are left out.
+/// The interfaces that were compared with those of their devices, and the number of crossings that are left out.
 #[derive(Drop)]
 struct Unseen<'a> {
     compared: Vec<&'a Crossing>,
@@ -71,8 +71,8 @@ struct Unseen<'a> {
 }
 
 impl<'a> Unseen<'a> {
-    /// Returns whether the interface of a crossing is to be compared with those of its device: it wasn't yet, and few
-    /// were.
+    /// Returns whether the interface of a crossing should be compared with those of its device: it hasn't been yet, and
+    /// the maximum isn't reached.
     fn is_to_compare(&mut self, out: &mut Explanation, crossing: &'a Crossing) -> bool {
         if self.compared.len() >= COMPARED || is_compared(self.compared.as_slice(), crossing) {
             return false;
@@ -83,8 +83,8 @@ impl<'a> Unseen<'a> {
         true
     }
 
-    /// Writes the crossings of a path that nothing meters whose interfaces are at no observation point, and those that
-    /// are.
+    /// Writes the crossings of an unmetered path whose interfaces have no observation point, with the interfaces that
+    /// have one.
     fn write_unmetered_path(
         &mut self,
         out: &mut Explanation,
@@ -105,8 +105,8 @@ impl<'a> Unseen<'a> {
         }
     }
 
-    /// Writes the crossings of a path whose interfaces are at no observation point and have nearly the name of one that
-    /// is, and counts the others.
+    /// Writes the crossings of a path whose interfaces have no observation point but a name similar to that of one that
+    /// has. Counts the other crossings without an observation point.
     fn write_misspelled(
         &mut self,
         out: &mut Explanation,
@@ -121,7 +121,7 @@ impl<'a> Unseen<'a> {
         }
     }
 
-    /// Writes a crossing whose interface is at no observation point, if it has nearly the name of one that is, and
+    /// Writes a crossing whose interface has no observation point if its name is similar to that of one that has, and
     /// counts it otherwise.
     fn write_nearest(
         &mut self,
@@ -146,7 +146,7 @@ impl<'a> Unseen<'a> {
     }
 }
 
-/// Returns whether one of these crossings is at the device and the interface of another.
+/// Returns whether one of these crossings has the device and the interface of another.
 fn is_compared(compared: &[&Crossing], crossing: &Crossing) -> bool {
     for one in compared {
         if one.device == crossing.device && one.interface == crossing.interface {
@@ -156,7 +156,7 @@ fn is_compared(compared: &[&Crossing], crossing: &Crossing) -> bool {
     false
 }
 
-/// Writes that the interface of a crossing is at no observation point.
+/// Writes that the interface of a crossing has no observation point.
 fn write_unwatched(
     out: &mut Explanation,
     documents: &Documents<'_>,
@@ -169,7 +169,7 @@ fn write_unwatched(
     out.text(" the interface is at no observation point");
 }
 
-/// Writes that no observation point sees a crossing of a path, or that it has none.
+/// Writes that no observation point observes a crossing of a path, or that the path has no crossings.
 fn write_path(out: &mut Explanation, documents: &Documents<'_>, target: &Target<'_>) {
     write_class(out, documents, target.class, target.path);
     out.sentence(if target.crossings.is_empty() {
@@ -179,9 +179,9 @@ fn write_path(out: &mut Explanation, documents: &Documents<'_>, target: &Target<
     });
 }
 
-/// Writes what no observation point sees of the paths: those whose packets are to be counted and that nothing meters;
-/// crossings at interfaces that have nearly the name of one that is at an observation point. Returns how many other
-/// crossings are at interfaces of no observation point.
+/// Writes what no observation point observes of the paths: those whose packets should be counted and that nothing
+/// meters; crossings at interfaces whose name is similar to that of one with an observation point. Returns the number
+/// of other crossings at interfaces without an observation point.
 pub(crate) fn write_unseen(
     out: &mut Explanation,
     documents: &Documents<'_>,

@@ -1,4 +1,4 @@
-//! Members of a network's document that nothing reads.
+//! Members of a network document that aren't read.
 use crate::elements::write_misspelled_fields;
 use crate::pointers::{configuration, items_member, text_or_none};
 use fx_explanation::Explanation;
@@ -14,7 +14,7 @@ const TRANSPORTS: [&str; 6] = [
     "udpCollector",
 ];
 
-/// The members of which a cache has one, in which its layout stands.
+/// The members of which a cache has one, which contains its layout.
 const KINDS: [&str; 4] = [
     "immediateCache",
     "timeoutCache",
@@ -46,7 +46,7 @@ fn write_unread<'x>(
     out.sentence(" isn't read");
 }
 
-/// Writes the transports of an entry of a device in which something stands.
+/// Writes the transports of an entry of a device that aren't empty.
 fn write_transports<'x>(out: &mut Explanation, device: &'x str, kind: &'x str, entry: &'x Value) {
     for member in TRANSPORTS {
         if has_content(entry, member) {
@@ -55,7 +55,7 @@ fn write_transports<'x>(out: &mut Explanation, device: &'x str, kind: &'x str, e
     }
 }
 
-/// Writes what isn't read of the exporting processes of a device.
+/// Writes what isn't read of a device's exporting processes.
 fn write_exporting(out: &mut Explanation, device: &str, container: &Value) {
     for process in items_member(container, "exportingProcess") {
         if process.get("options").is_some() {
@@ -73,14 +73,14 @@ fn write_exporting(out: &mut Explanation, device: &str, container: &Value) {
     }
 }
 
-/// Writes what isn't read of the collecting processes of a device.
+/// Writes what isn't read of a device's collecting processes.
 fn write_collecting(out: &mut Explanation, device: &str, container: &Value) {
     for process in items_member(container, "collectingProcess") {
         write_transports(out, device, "collecting process ", process);
     }
 }
 
-/// Writes the members of a device's configuration that are other modules'.
+/// Writes the members of a device's configuration that belong to other modules.
 fn write_modules<'x>(out: &mut Explanation, device: &'x str, config: &'x Value) {
     let Some(members) = config.as_object() else {
         return;
@@ -108,7 +108,7 @@ fn write_device(out: &mut Explanation, device: &Value) {
     }
 }
 
-/// Writes the members of a network's document that nothing reads, but for those that say when records leave.
+/// Writes the members of a network document that aren't read, except for those that specify when records expire.
 pub(crate) fn write_unread_members(out: &mut Explanation, network: &Value) {
     for device in items_member(network, "devices") {
         write_device(out, device);
@@ -142,7 +142,7 @@ fn write_fields(out: &mut Explanation, device: &Value) {
     }
 }
 
-/// Writes the fields of caches of a network's document whose elements are misspelled, and so aren't read.
+/// Writes the fields of caches in a network document whose elements are misspelled and therefore aren't read.
 pub(crate) fn write_unread_fields(out: &mut Explanation, network: &Value) {
     for device in items_member(network, "devices") {
         write_fields(out, device);

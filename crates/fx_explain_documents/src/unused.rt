@@ -1,4 +1,4 @@
-//! What leads nowhere, and what nothing feeds.
+//! Parts of a network that lead nowhere, and parts that nothing feeds.
 use fx_base::Name;
 use fx_config::{Cache, CollectingProcess, ExportingProcess, SelectionProcess};
 use fx_explanation::{Explanation, link_from};
@@ -33,7 +33,7 @@ fn write_lost<'x>(out: &mut Explanation, device: &'x str, process: &'x str, dest
     out.sentence(" has no link: what it is sent is lost");
 }
 
-/// Returns whether a selection process hands packets to the cache of this name.
+/// Returns whether a selection process passes packets to the cache with this name.
 fn feeds(process: &SelectionProcess, name: &Name) -> bool {
     match &process.cache {
         Some(cache) => cache == name,
@@ -41,7 +41,7 @@ fn feeds(process: &SelectionProcess, name: &Name) -> bool {
     }
 }
 
-/// Returns whether one of these selection processes hands packets to the cache of this name.
+/// Returns whether one of these selection processes passes packets to the cache with this name.
 fn is_fed(processes: &[SelectionProcess], name: &Name) -> bool {
     for process in processes {
         if feeds(process, name) {
@@ -51,7 +51,7 @@ fn is_fed(processes: &[SelectionProcess], name: &Name) -> bool {
     false
 }
 
-/// Writes that a cache is fed by nothing.
+/// Writes that nothing feeds a cache.
 fn write_empty<'x>(out: &mut Explanation, device: &'x Name, cache: &'x Cache) {
     out.text_quoted("no selection process feeds cache ", cache.name.as_str());
     out.text(" of ");
@@ -68,7 +68,7 @@ fn write_caches(out: &mut Explanation, device: &NetworkDevice) {
     }
 }
 
-/// Writes something by its kind and name, and what of it leads nowhere.
+/// Writes an entry by its kind and name, and what of it leads nowhere.
 fn write_end<'x>(
     out: &mut Explanation,
     kind: &'static str,
@@ -83,7 +83,7 @@ fn write_end<'x>(
     out.sentence(words);
 }
 
-/// Writes the points and selection processes of a device by which no packet is metered.
+/// Writes the observation points and selection processes of a device by which no packet is metered.
 fn write_unmetered(out: &mut Explanation, device: &NetworkDevice) {
     for point in device.config.observation_points.as_slice() {
         if point.selection_processes.as_slice().is_empty() {
@@ -156,7 +156,7 @@ fn write_collecting(out: &mut Explanation, links: &[NamedLink], device: &Network
     }
 }
 
-/// Writes what of a device leads nowhere, and what nothing feeds.
+/// Writes which parts of a device lead nowhere, and which nothing feeds.
 fn write_device(out: &mut Explanation, links: &[NamedLink], device: &NetworkDevice) {
     write_unmetered(out, device);
     write_caches(out, device);

@@ -1,4 +1,4 @@
-//! What is wrong with a value that isn't allowed, and which values are.
+//! What is wrong with a value that isn't allowed, and the allowed values.
 use crate::elements::{element_of, write_element};
 use crate::members::one_required;
 use crate::pointers::{last_member, text_member};
@@ -7,7 +7,7 @@ use fx_elements::{Element, by_name, width};
 use fx_explanation::Explanation;
 use serde_json::Value;
 
-/// Members that are whole numbers of 32 bits.
+/// Members that are 32-bit integers.
 const WHOLE: [&str; 6] = [
     "observationDomainId",
     "maxFlows",
@@ -17,8 +17,7 @@ const WHOLE: [&str; 6] = [
     "ieEnterpriseNumber",
 ];
 
-/// Returns which values a member may have, of a network's document or of a traffic declaration, where that can be said
-/// in a few words.
+/// Returns the allowed values of a member of a network document or of a traffic declaration, if a few words suffice.
 fn words_allowed(member: &str, is_network: bool) -> &'static str {
     if WHOLE.contains(&member) {
         return "a whole number from 0 to 4294967295";
@@ -37,7 +36,7 @@ fn words_allowed(member: &str, is_network: bool) -> &'static str {
     }
 }
 
-/// Writes which values a member may have.
+/// Writes the allowed values of a member.
 pub(crate) fn write_allowed(out: &mut Explanation, member: &str, is_network: bool) {
     let words = words_allowed(member, is_network);
     if !words.is_empty() {
@@ -48,14 +47,14 @@ pub(crate) fn write_allowed(out: &mut Explanation, member: &str, is_network: boo
     }
 }
 
-/// Writes how the values of a member of a region are written.
+/// Writes the notation of a region's member.
 fn write_region_forms(out: &mut Explanation, member: &str) {
     if let Element::OnAxis(axis) = by_name(member) {
         write_forms(out, axis);
     }
 }
 
-/// Why a text is no name, if it is none.
+/// Returns why a text is no valid name, if it isn't one.
 fn name_words(text: &str) -> Option<&'static str> {
     if text.is_empty() {
         Some("the name is empty")
@@ -68,7 +67,7 @@ fn name_words(text: &str) -> Option<&'static str> {
     }
 }
 
-/// Writes why a text is no name, if it is none.
+/// Writes why a text is no valid name, if it isn't one.
 fn write_name(out: &mut Explanation, text: &str) {
     if let Some(words) = name_words(text) {
         out.sentence(words);
@@ -83,7 +82,7 @@ fn write_text(out: &mut Explanation, member: &str, text: &str, is_network: bool)
     }
 }
 
-/// Returns whether a value is a number of octets that a field may have.
+/// Returns whether a value is an allowed number of octets of a field.
 fn is_length(value: &Value) -> bool {
     match value.as_u64() {
         Some(octets) => 0 < octets && octets < 0x1_0000,
@@ -91,7 +90,7 @@ fn is_length(value: &Value) -> bool {
     }
 }
 
-/// Writes how many octets the element of a field has.
+/// Writes the number of octets of a field's element.
 fn write_octets(out: &mut Explanation, field: &Value) {
     let octets = match element_of(field) {
         Element::OnAxis(axis) => u64::from(width(axis) / 8),
@@ -102,7 +101,7 @@ fn write_octets(out: &mut Explanation, field: &Value) {
     out.end_line();
 }
 
-/// Writes those of several members, of which one may be there, that are.
+/// Writes which of several mutually exclusive members an object has.
 fn write_several(out: &mut Explanation, object: &Value, names: &'static [&'static str]) {
     let mut separator = "only one of these may be there: ";
     for name in names {
@@ -115,7 +114,7 @@ fn write_several(out: &mut Explanation, object: &Value, names: &'static [&'stati
     out.end_line();
 }
 
-/// Returns whether more than one of these members are there.
+/// Returns whether an object has more than one of these members.
 fn are_several(object: &Value, names: &'static [&'static str]) -> bool {
     let mut found = false;
     for name in names {
@@ -129,7 +128,7 @@ fn are_several(object: &Value, names: &'static [&'static str]) -> bool {
     false
 }
 
-/// Writes what is wrong with an object that names an element and a value of it.
+/// Writes what is wrong with an object that specifies an element and its value.
 fn write_match(out: &mut Explanation, object: &Value) {
     if !write_element(out, object, true) {
         return;
@@ -160,7 +159,7 @@ fn has_same_axis(fields: &[Value], other: &Value) -> bool {
     false
 }
 
-/// Writes what is wrong with a field of a key, after these fields.
+/// Writes what is wrong with a field of a key that follows the earlier fields.
 fn write_field(out: &mut Explanation, field: &Value, earlier: &[Value]) {
     if !write_element(out, field, true) {
         return;
@@ -185,7 +184,7 @@ fn write_key(out: &mut Explanation, fields: &[Value]) {
     }
 }
 
-/// Returns the value in which the one at a pointer stands.
+/// Returns the value that contains the one at a pointer.
 fn value_above<'a>(document: &'a Value, pointer: &str) -> Option<&'a Value> {
     let (above, _) = pointer.rsplit_once('/')?;
     document.pointer(above)
@@ -218,7 +217,7 @@ fn write_object(out: &mut Explanation, document: &Value, pointer: &str, object: 
     }
 }
 
-/// Writes what is wrong with a value at a pointer that isn't allowed, and which values are.
+/// Writes what is wrong with a value at a pointer that isn't allowed, and the allowed values.
 pub(crate) fn write_wrong(
     out: &mut Explanation,
     document: &Value,
