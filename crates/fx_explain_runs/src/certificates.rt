@@ -1,4 +1,4 @@
-//! Why a certificate is refused, in words.
+//! Explaining why a certificate is refused.
 ghost use Rattle.std.specs.Prelude.{◌≡◌, ◌⊎◌, IfErr, OnOk};
 ghost use Rattle.fx_base.specs.Device.{IsWriteFault, KeepsGoing};
 ghost use Rattle.fx_base.specs.Fault.{IsMemory};
@@ -23,18 +23,17 @@ use fx_tables::Crossing;
 use fx_traffic::Target;
 use std::alloc::Global;
 
-/// Writes the line of a split as a certificate has it.
+/// Writes the line of a split as in a certificate.
 fn write_split_line(out: &mut Explanation, axis: Axis, at: u128) {
     let mut octets = [0; 100];
     let mut room = Room::new(&mut octets);
-    // What has no room there is left out.
+    // What doesn't fit in the buffer is left out.
     let _written = put_item(&mut room, &Item::Split { axis, at });
     out.text("its line is: ");
     out.lines_of(room.octets());
 }
 
-/// Returns the axis and the value of a split that has the value as it is written there, and not as a number, as an
-/// address.
+/// Returns the axis and the value of a split whose value is written as an address instead of as a number.
 fn split_at_value(line: &[u8]) -> Option<(Axis, u128)> {
     let (kind, words) = Words::new(line).word()?;
     let (named, words) = words.word()?;
@@ -70,7 +69,7 @@ fn write_region_line(out: &mut Explanation, region: &Region) {
     out.end_line();
 }
 
-/// Writes what a line of a region's tree is about.
+/// Writes what a line of a region's tree refers to.
 fn write_item(out: &mut Explanation, plan: &Plan, target: &Target<'_>, item: &Item) {
     match item {
         Item::Leaf {
@@ -96,14 +95,14 @@ fn write_item(out: &mut Explanation, plan: &Plan, target: &Target<'_>, item: &It
     }
 }
 
-/// Returns whether a refusal of this number is about what becomes of a leaf's packets.
+/// Returns whether a refusal with this number is about the fate of a leaf's packets.
 fn is_of_packets(number: u16) -> bool {
     (refusals::CUT_REGION..=refusals::COUNTED_ELSEWHERE).contains(&number)
         || number == refusals::UNASSIGNED_RECORD
         || number == refusals::EXEMPT_COUNTED
 }
 
-/// Writes the place of a region in its tree, and why it is refused with this number.
+/// Writes the position of a region in its tree, and why it is refused with this number.
 fn write_tree(
     out: &mut Explanation,
     documents: &Documents<'_>,
@@ -121,7 +120,7 @@ fn write_tree(
     }
 }
 
-/// Writes what is due at a line after the first, and what is wrong there.
+/// Writes what is expected at a line after the first, and what is wrong there.
 fn write_stand(
     out: &mut Explanation,
     documents: &Documents<'_>,
@@ -147,7 +146,7 @@ fn write_stand(
     write_tree(out, documents, target, region, number);
 }
 
-/// Writes what is wrong with the form of a line, where it is refused with this number.
+/// Writes what is wrong with the form of a line that is refused with this number.
 fn write_form(out: &mut Explanation, due: &Due<'_>, line: &Line<'_>, fault: u16) {
     if let Due::Header = due {
         write_wrong_header(out, "once-certificate", " where no class is exempt", line);
@@ -161,7 +160,7 @@ fn write_form(out: &mut Explanation, due: &Due<'_>, line: &Line<'_>, fault: u16)
     }
 }
 
-/// Writes the refused line, if the text has it, and what is due there.
+/// Writes the refused line, if the text has it, and what is expected there.
 fn write_refused(
     out: &mut Explanation,
     documents: &Documents<'_>,
@@ -185,16 +184,16 @@ fn write_refused(
     }
 }
 
-/// Writes in sentences what a refusal of a certificate, 401 to 415 at a line, is about: the line, at most 200 octets of
-/// it; of one whose form is wrong the first word that is, and the form that it should have; the class and the path by
-/// name; the region of the line, with what the line names and what is due there; what follows the line `end`; and for a
-/// leaf what sees the region's packets along the path and where its records go, up to the report, with what their keys
-/// lack for it, the aggregations that don't take them in and the matches that don't hold for all of them, and where to
-/// split it, if something cuts it. The documents are those over which the certificate was refused; `due` is what the
-/// line had to be, and `line` is none where the text ends before it. What can't be known is left out. The text has no
-/// control characters but line feeds.
+/// Explains in sentences a refusal of a certificate, 401 to 415 at a line. Writes the line, at most 200 octets of it;
+/// for a malformed line, the first wrong word and the expected form; the class and the path by name; the region of the
+/// line, with what the line names and what is expected there; what follows the line `end`. For a leaf, writes what
+/// observes the region's packets along the path and where its records go, up to the report, with what their keys lack
+/// for it, the aggregations that don't accept them, the matches that don't hold for all of them, and where to split the
+/// region, if something cuts it. The documents are those over which the certificate was refused; `due` is what the line
+/// had to be; `line` is `None` if the text ends before it. What can't be known is left out. The text has no control
+/// characters but line feeds.
 ///
-/// Fails with 900 when out of memory, with 902 where a write fails. Nothing is written for a fault other than 902.
+/// Fails with 900 if out of memory, and with 902 if a write fails. For faults other than 902 nothing is written.
 pub fn put_refused_certificate<S: Sink>(
     alloc: Global,
     documents: &Documents<'_>,

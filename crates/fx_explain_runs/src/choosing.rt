@@ -1,4 +1,4 @@
-//! What takes the choices of a step.
+//! The entities to which the choices of a step apply.
 use crate::missing_fields::process_at_end;
 use fx_base::{entry_at, entry_numbered};
 use fx_config::{Aggregation, CollectingProcess, ExportingProcess};
@@ -9,8 +9,8 @@ use fx_run_text::Step;
 use fx_tables::{Exporter, HolderName, Holding};
 use fx_topology::NetworkDevice;
 
-/// What takes the choices of a step, one after another: exporting processes that aren't parallel, then the caches that
-/// meter a packet, or some of the aggregations of a collecting process.
+/// The entities to which the choices of a step apply, in order: exporting processes that aren't parallel, then the
+/// caches that meter a packet, or some of the aggregations of a collecting process.
 #[derive(Drop)]
 pub(crate) struct Choosers<'a> {
     pub(crate) documents: &'a Documents<'a>,
@@ -18,8 +18,8 @@ pub(crate) struct Choosers<'a> {
     pub(crate) step: &'a Step,
 }
 
-/// Returns the exporting process at a place of the network's table, from 0, which has those of all devices in document
-/// order.
+/// Returns the exporting process at a 0-based index of the network's table, which contains those of all devices in
+/// document order.
 fn exporting_process(plan: &Plan, place: usize) -> Option<&ExportingProcess> {
     let mut left = place;
     for device in plan.network().devices.as_slice() {
@@ -32,7 +32,7 @@ fn exporting_process(plan: &Plan, place: usize) -> Option<&ExportingProcess> {
     None
 }
 
-/// Returns the aggregation of this number, from 1, of a collecting process of a device.
+/// Returns the aggregation with this 1-based number of a collecting process of a device.
 pub(crate) fn aggregation_at(
     device: &NetworkDevice,
     process: u64,
@@ -42,7 +42,7 @@ pub(crate) fn aggregation_at(
     entry_numbered(process.aggregations.as_slice(), number)
 }
 
-/// Writes the cache of a device that is at a place of the network's table of holders, if there is one.
+/// Writes the cache of a device that is at an index of the network's table of holders, if there is one.
 fn write_cache_of(
     out: &mut Explanation,
     plan: &Plan,
@@ -62,7 +62,7 @@ fn write_cache_of(
     }
 }
 
-/// Writes the cache at a place of the network's table of holders.
+/// Writes the cache at an index of the network's table of holders.
 fn write_cache_at(out: &mut Explanation, plan: &Plan, place: usize) {
     let devices = plan.network().devices.as_slice();
     for at in 0..devices.len() {
@@ -70,7 +70,7 @@ fn write_cache_at(out: &mut Explanation, plan: &Plan, place: usize) {
     }
 }
 
-/// Writes the aggregations of a collecting process that may be due to take a record in.
+/// Writes the aggregations of a collecting process that may accept a record.
 fn write_aggregations(out: &mut Explanation, process: &CollectingProcess) {
     match process.aggregations.as_slice() {
         [only] => out.text_quoted("aggregation ", only.name.as_str()),
@@ -79,7 +79,7 @@ fn write_aggregations(out: &mut Explanation, process: &CollectingProcess) {
 }
 
 impl Choosers<'_> {
-    /// Returns the exporting process of the table that takes the choice at a place, from 0, if one does.
+    /// Returns the exporting process of the table to which the choice at a 0-based index applies, if there is one.
     fn exporter_at(&self, place: usize) -> Option<(usize, &Exporter)> {
         let mut left = place;
         for at in self.acts.exporters {
@@ -95,7 +95,7 @@ impl Choosers<'_> {
         None
     }
 
-    /// Returns how many exporting processes take a choice.
+    /// Returns the number of exporting processes that take a choice.
     fn exporters(&self) -> usize {
         let mut count: usize = 0;
         for at in self.acts.exporters {
@@ -106,12 +106,12 @@ impl Choosers<'_> {
         count
     }
 
-    /// Returns how many choices the step takes.
+    /// Returns the number of choices that the step takes.
     pub(crate) fn count(&self) -> usize {
         self.exporters().saturating_add(self.acts.holdings.len())
     }
 
-    /// Writes the exporting processes that take no choice, as they send to all their destinations.
+    /// Writes the exporting processes that take no choice because they send to all their destinations.
     pub(crate) fn write_parallel(&self, out: &mut Explanation) {
         let plan = self.documents.plan;
         for at in self.acts.exporters {
@@ -130,7 +130,7 @@ impl Choosers<'_> {
         }
     }
 
-    /// Writes what holds the record that the choice of a holding may name.
+    /// Writes the holder of the record that the choice of a holding may name.
     fn write_holder(&self, out: &mut Explanation, holding: &Holding) {
         let plan = self.documents.plan;
         match self.step {
@@ -142,7 +142,7 @@ impl Choosers<'_> {
         }
     }
 
-    /// Writes what is due as the choice at a place, from 0: a destination, or a record of a cache or of one of the
+    /// Writes what is expected as the choice at a 0-based index: a destination, or a record of a cache or of one of the
     /// aggregations.
     pub(crate) fn write_due(&self, out: &mut Explanation, place: usize) {
         if let Some((at, exporter)) = self.exporter_at(place) {

@@ -1,4 +1,4 @@
-//! Where the records of a packet end that never come to the report, and which of these places to mend.
+//! Where the records of a packet end that never reach the report, and which of these places to mend.
 use crate::choosing::aggregation_at;
 use crate::holders::{write_arrival, write_expiry};
 use crate::leading::Leading;
@@ -14,12 +14,12 @@ use fx_tables::{HolderName, Packet};
 use fx_topology::{NamedLink, NetworkDevice};
 use fx_walk::place_of;
 
-/// What to do about a cache or an aggregation without an exporting process, or a collecting process that sends nothing
-/// on.
+/// What to do about a cache or an aggregation without an exporting process, or a collecting process that forwards
+/// nothing.
 const UNSENT: &str =
     "The record goes no further: link its source to a collecting process whose records reach the report, or add an exporting process there that is linked to one, and audit again: ";
 
-/// What to do about an aggregation that doesn't take a record.
+/// What to do about an aggregation that doesn't accept a record.
 const NOT_TAKEN: &str =
     "Keep what the aggregation asks for among the flow keys (isFlowKey) of each cache and in the key of each aggregation on \
 the way, ask for less in its key or its match, or add an aggregation for such packets, and audit again: ";
@@ -27,28 +27,28 @@ the way, ask for less in its key or its match, or add an aggregation for such pa
 /// Why a record ends at a place.
 #[derive(Clone, Copy)]
 enum Reason {
-    /// The destination of this number, from 1, of the exporting process of this number among those that its device has,
-    /// has no link.
+    /// A destination without a link: the one with this 1-based number, of the exporting process with this number among
+    /// those of its device.
     Unlinked {
         device: usize,
         exporter: usize,
         destination: usize,
     },
-    /// It leaves a cache or an aggregation that has no exporting process.
+    /// The record leaves a cache or an aggregation that has no exporting process.
     Unsent,
-    /// It reaches a collecting process that sends nothing on, and another one of the same device leads to the report:
-    /// the one at this place among those of its device.
+    /// The record reaches a collecting process that forwards nothing, while another one of the same device leads to the
+    /// report: the one at this index among those of its device.
     WrongProcess {
         process: usize,
     },
-    /// It reaches a collecting process that sends nothing on.
+    /// The record reaches a collecting process that forwards nothing.
     Terminal,
-    /// It reaches a collecting process whose aggregations don't take it.
+    /// The record reaches a collecting process whose aggregations don't accept it.
     NotTaken,
 }
 
-/// A place where a record ends: the step at which it does, from 0, and how far the place is from one that leads to the
-/// report. The least distance is that of one missing link.
+/// A place where a record ends: the 0-based index of the step at which it does, and the distance of the place from one
+/// that leads to the report. The least distance is that of one missing link.
 #[derive(Clone, Copy)]
 struct DeadEnd {
     step: usize,
@@ -56,7 +56,7 @@ struct DeadEnd {
     reason: Reason,
 }
 
-/// The dead ends of a packet's run: the one to mend so far.
+/// The dead ends of a packet's run, of which the one to mend so far is kept.
 #[derive(Drop)]
 struct DeadEnds<'a> {
     plan: &'a Plan,
@@ -74,8 +74,8 @@ const ONE_KEY: u32 = 3;
 const FAR: u32 = 9;
 
 impl DeadEnds<'_> {
-    /// Takes a dead end in, if it is nearer to the report than the one so far; of two as near, the later one, which is
-    /// after more devices.
+    /// Considers a dead end, and keeps it if it is nearer to the report than the one so far; of two at the same
+    /// distance, keeps the later one, which is after more devices.
     fn add(&mut self, end: DeadEnd) {
         let is_nearer = match &self.nearest {
             Some(known) => {
@@ -89,8 +89,8 @@ impl DeadEnds<'_> {
         }
     }
 
-    /// Adds the destinations without a link to which an exporting process of a device sends a record at a step: to all,
-    /// or to the one of this number, from 1.
+    /// Adds the destinations without a link to which an exporting process of a device sends a record at a step: all, or
+    /// the one with this 1-based number.
     fn add_unlinked(
         &mut self,
         step: usize,
@@ -122,8 +122,8 @@ impl DeadEnds<'_> {
         }
     }
 
-    /// Adds the destinations without a link to which the exporting processes of these names send a record at a step, by
-    /// its choices.
+    /// Adds the destinations without a link to which the exporting processes with these names send a record at a step,
+    /// by its choices.
     fn add_sending(
         &mut self,
         step: usize,
@@ -144,7 +144,7 @@ impl DeadEnds<'_> {
         }
     }
 
-    /// Adds the destinations without a link to which a record is sent that leaves a cache or an aggregation.
+    /// Adds the destinations without a link to which a record is sent when it leaves a cache or an aggregation.
     fn add_leaving(&mut self, step: usize, holder: HolderName, choices: &[Option<u64>]) {
         let plan = self.plan;
         let Some(device) = device_of(plan, holder) else {
@@ -168,7 +168,8 @@ impl DeadEnds<'_> {
         }
     }
 
-    /// Adds the destinations without a link to which a record is sent that arrives by the link of this number, from 1.
+    /// Adds the destinations without a link to which a record is sent when it arrives by the link with this 1-based
+    /// number.
     fn add_arriving(&mut self, step: usize, link: u64, choices: &[Option<u64>]) {
         let plan = self.plan;
         let Some(process) = process_at_end(plan, link) else {
@@ -201,7 +202,7 @@ impl DeadEnds<'_> {
         }
     }
 
-    /// Adds what a record comes to that leaves a cache or an aggregation and goes nowhere.
+    /// Adds the dead end of a record that leaves a cache or an aggregation and goes nowhere.
     fn add_unsent(&mut self, step: usize, holder: HolderName) {
         let net = self.plan.net();
         let place = net.holder_place(holder).unwrap_or(usize::MAX);
@@ -219,7 +220,7 @@ impl DeadEnds<'_> {
         });
     }
 
-    /// Adds what a record comes to that arrives by the link of this number, from 1, and goes nowhere.
+    /// Adds the dead end of a record that arrives by the link with this 1-based number and goes nowhere.
     fn add_ended(&mut self, step: usize, link: u64) {
         let net = self.plan.net();
         let place = entry_numbered(net.links(), link)
@@ -244,9 +245,8 @@ impl DeadEnds<'_> {
         });
     }
 
-    /// Returns how far a collecting process is from the report that sends nothing on and to which the link of this
-    /// number, from
-    /// 1, leads.
+    /// Returns the distance from the report of a collecting process that forwards nothing, to which the link with this
+    /// 1-based number leads, and why records end there.
     fn terminal(&self, link: u64) -> (u32, Reason) {
         let Some(device) = device_at_end(self.plan, link) else {
             return (FAR, Reason::Terminal);
@@ -258,7 +258,7 @@ impl DeadEnds<'_> {
         (if is_linked { ONE_PROCESS } else { FAR }, Reason::Terminal)
     }
 
-    /// Adds what the records come to that go nowhere after these steps.
+    /// Adds the dead ends of the records that go nowhere after these steps.
     fn add_lost(&mut self, steps: &[Step], lost: &[Handled]) {
         for handled in lost {
             match steps.get(handled.step) {
@@ -279,14 +279,14 @@ fn device_of(plan: &Plan, holder: HolderName) -> Option<&NetworkDevice> {
     entry_numbered(plan.network().devices.as_slice(), number)
 }
 
-/// Returns the device to which the link of this number, from 1, leads.
+/// Returns the device to which the link with this 1-based number leads.
 fn device_at_end(plan: &Plan, link: u64) -> Option<&NetworkDevice> {
     let network = plan.network();
     let link = entry_numbered(network.links.as_slice(), link)?;
     entry_named(network.devices.as_slice(), &link.to_device)
 }
 
-/// Returns the place of a device in a network, and that of an exporting process in it, by their names.
+/// Returns the index of a device in a network, and that of an exporting process in the device, by their names.
 fn places_of(plan: &Plan, device: &NetworkDevice, process: &ExportingProcess) -> (usize, usize) {
     let devices = plan.network().devices.as_slice();
     let exporters = device.config.exporting_processes.as_slice();
@@ -345,8 +345,8 @@ fn write_start(out: &mut Explanation, link: &NamedLink) {
     out.text(link.device.as_str());
 }
 
-/// Writes what to do about the link of this number, from 1, which leads to a collecting process that sends nothing on:
-/// the one at this place of the same device leads to the report.
+/// Writes what to do about the link with this 1-based number, which leads to a collecting process that forwards
+/// nothing: the one at this index of the same device leads to the report.
 fn write_wrong_process(out: &mut Explanation, plan: &Plan, number: u64, process: usize) {
     let Some(link) = entry_numbered(plan.network().links.as_slice(), number) else {
         return;
@@ -429,8 +429,8 @@ fn holder_lost_at(lost: &[Handled], step: usize) -> Option<HolderName> {
     None
 }
 
-/// Writes what to do about a packet none of whose records comes to the report: about the dead end that is nearest to
-/// it. These of its records go nowhere after these steps.
+/// Writes what to do about a packet of which no record reaches the report: about the dead end nearest to the report.
+/// `lost` are the records that go nowhere after these steps.
 pub(crate) fn write_lost(
     out: &mut Explanation,
     documents: &Documents<'_>,

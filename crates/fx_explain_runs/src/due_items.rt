@@ -1,4 +1,4 @@
-//! What is due at a line of a certificate.
+//! What is expected at a line of a certificate.
 use fx_base::{Line, refusals};
 use fx_boxes::Region;
 use fx_cert::{Item, Version};
@@ -6,7 +6,7 @@ use fx_check::Due;
 use fx_explanation::{Documents, Explanation, axis_word, write_path, write_values};
 use fx_traffic::Target;
 
-/// Returns what may stand for a region of a class that is exempt, or isn't, in words.
+/// Returns what a certificate may have for a region of a class, by whether the class is exempt.
 fn leaf_words(version: Version, exempt: bool) -> &'static str {
     match (version, exempt) {
         (_, false) => {
@@ -21,7 +21,7 @@ fn leaf_words(version: Version, exempt: bool) -> &'static str {
     }
 }
 
-/// Writes what is due in the tree of a region, where a line of it is refused with this number.
+/// Writes what is expected in the tree of a region where a line is refused with this number.
 pub(crate) fn write_due(
     out: &mut Explanation,
     target: &Target<'_>,
@@ -56,7 +56,7 @@ pub(crate) fn write_due(
     }
 }
 
-/// Writes that the line of a path of a class is due.
+/// Writes that the line of a path of a class is expected.
 fn write_due_class(out: &mut Explanation, documents: &Documents<'_>, target: &Target<'_>) {
     out.text_number("expected on this line: class ", target.class);
     out.text_number(" path ", target.path);
@@ -65,7 +65,7 @@ fn write_due_class(out: &mut Explanation, documents: &Documents<'_>, target: &Ta
     write_path(out, documents, target.class, target.path, target.crossings);
 }
 
-/// Writes which line is due between trees.
+/// Writes which line is expected between trees.
 pub(crate) fn write_between(
     out: &mut Explanation,
     documents: &Documents<'_>,
@@ -87,7 +87,7 @@ pub(crate) fn write_between(
     }
 }
 
-/// Writes what kind of line follows the line `end`.
+/// Writes which kind of line follows the line `end`.
 pub(crate) fn write_after_end(out: &mut Explanation, line: &Line<'_>) {
     out.sentence(if line.bytes.is_empty() {
         "an empty line follows the line end: remove it"

@@ -1,14 +1,14 @@
-//! What is due at a line of texts of totals.
+//! What is expected at a line of texts of totals.
 use crate::wrong_lines::answer_words;
 use fx_base::Line;
 use fx_elements::Words;
 use fx_explanation::Explanation;
 use std::alloc::{AllocError, Global};
 
-/// How many octets of a line are kept.
+/// The maximum number of octets of a line that are kept.
 const KEPT: usize = 200;
 
-/// What is due at a line of texts of totals.
+/// What is expected at a line of texts of totals.
 #[derive(Clone, Copy)]
 pub(crate) enum Due {
     /// The first line of the first text.
@@ -39,7 +39,7 @@ impl Due {
         }
     }
 
-    /// Returns the forms of lines that may stand there, but that of a key's.
+    /// Returns the forms of lines that are allowed there, except for that of a key's line.
     pub(crate) fn forms(self) -> &'static [&'static str] {
         match self {
             Due::First => &["keys COUNT"],
@@ -63,7 +63,7 @@ impl Due {
         }
     }
 
-    /// Returns what may stand there, in words.
+    /// Returns a description of what is allowed there.
     fn words(self) -> &'static str {
         match self {
             Due::First => "keys and a number, as keys 2: the first line of a text",
@@ -87,25 +87,25 @@ end of the octets"
     }
 }
 
-/// Where texts of totals stand before a line, as far as they are in order.
+/// The position in texts of totals before a line, insofar as they are in order.
 #[derive(Drop)]
 pub(crate) struct Stand {
-    /// How many texts began.
+    /// The number of texts that began.
     texts: u64,
-    /// The line at which the last one began.
+    /// The number of the line at which the last one began.
     begun: u64,
-    /// How many keys that says.
+    /// The number of keys that this line announces.
     keys: u64,
-    /// How many lines follow its first.
+    /// The number of lines that follow it so far.
     passed: u64,
-    /// What may follow its last line, where all its keys have theirs.
+    /// What may follow its last line when it has the lines of all its keys.
     after: Due,
     /// The first octets of the last line.
     pub(crate) last: Vec<u8>,
 }
 
 impl Stand {
-    /// Before the first line.
+    /// Returns the position before the first line.
     pub(crate) fn new(alloc: Global) -> Stand {
         Stand {
             texts: 0,
@@ -117,7 +117,7 @@ impl Stand {
         }
     }
 
-    /// Returns what is due at the next line.
+    /// Returns what is expected at the next line.
     pub(crate) fn due(&self) -> Due {
         if self.texts == 0 {
             Due::First
@@ -130,7 +130,7 @@ impl Stand {
         }
     }
 
-    /// Goes past a line.
+    /// Advances past a line.
     pub(crate) fn take(&mut self, alloc: Global, line: &Line<'_>) -> Result<(), AllocError> {
         if line.bytes.starts_with(b"keys ") {
             self.texts = self.texts.saturating_add(1);
@@ -151,7 +151,7 @@ impl Stand {
         Ok(())
     }
 
-    /// Writes what is due at the next line, and why.
+    /// Writes what is expected at the next line, and why.
     pub(crate) fn write_due(&self, out: &mut Explanation) {
         let due = self.due();
         if self.texts > 1 {
@@ -176,7 +176,7 @@ impl Stand {
     }
 }
 
-/// Returns what a line is that may not stand there, where it can be written.
+/// Returns what a misplaced line is, if that can be told.
 pub(crate) fn misplaced_words(due: Due, octets: &[u8]) -> Option<&'static str> {
     let is_inside = due == Due::Key || due == Due::Unassigned;
     if octets.is_empty() {

@@ -1,4 +1,4 @@
-//! What becomes of records after the devices at which a path's packets are metered.
+//! The fate of records downstream of the devices at which a path's packets are metered.
 use crate::holders::leads_to_report;
 use crate::matches::{Taken, write_untaken};
 use crate::missing_fields::Arriving;
@@ -12,16 +12,17 @@ use fx_tables::{Crossing, HolderName, Point};
 use fx_topology::{NamedLink, NetworkDevice};
 use fx_walk::place_of;
 
-/// How many ways to collecting processes are written.
+/// The maximum number of ways to collecting processes that are written.
 const SHOWN: usize = 64;
 
-/// Ways by which records come to different collecting processes, or with different keys, as many as are written.
+/// The ways by which records reach different collecting processes, or reach them with different keys, up to the maximum
+/// that is written.
 #[derive(Drop)]
 struct Found<'a> {
     plan: &'a Plan,
-    /// The places of their links.
+    /// The indices of their links.
     places: [usize; SHOWN],
-    /// The cache or the aggregation that the records of each left last.
+    /// For each way, the cache or the aggregation that its records left last.
     holders: [HolderName; SHOWN],
     count: usize,
 }
@@ -41,7 +42,7 @@ fn is_same_key(plan: &Plan, one: HolderName, other: HolderName) -> bool {
 }
 
 impl Found<'_> {
-    /// Returns whether the way at a place leads to the collecting process of a link.
+    /// Returns whether the way at an index leads to the collecting process of a link.
     fn ends_at(&self, place: usize, link: &NamedLink) -> bool {
         let links = self.plan.network().links.as_slice();
         match entry_at(links, place) {
@@ -50,7 +51,7 @@ impl Found<'_> {
         }
     }
 
-    /// Returns whether one of the first so many ways leads to the collecting process of a link.
+    /// Returns whether one of the first `before` ways leads to the collecting process of a link.
     fn has_end(&self, link: &NamedLink, before: usize) -> bool {
         for place in self.places.iter().take(before) {
             if self.ends_at(*place, link) {
@@ -60,7 +61,7 @@ impl Found<'_> {
         false
     }
 
-    /// Returns whether records with the same key come to the collecting process of a link already.
+    /// Returns whether there is a way by which records with the same key reach the collecting process of a link.
     fn has(&self, link: &NamedLink, holder: HolderName) -> bool {
         for known in 0..SHOWN {
             if known < self.count
@@ -73,7 +74,7 @@ impl Found<'_> {
         false
     }
 
-    /// Adds the link at a place, by which records of a cache or an aggregation come.
+    /// Adds the link at an index, by which records of a cache or an aggregation arrive.
     fn add(&mut self, place: usize, link: &NamedLink, holder: HolderName) {
         if self.count < SHOWN && !self.has(link, holder) {
             self.places[self.count] = place;
@@ -99,7 +100,7 @@ fn add_links(
     }
 }
 
-/// Returns whether a point hands packets of a region to the cache at a place of the network's table.
+/// Returns whether a point passes packets of a region to the cache at an index of the network's table.
 fn is_selected(point: &Point, region: &Region, holder: Option<usize>) -> bool {
     for selection in point.selections() {
         if selection.holder == holder
@@ -114,7 +115,7 @@ fn is_selected(point: &Point, region: &Region, holder: Option<usize>) -> bool {
     false
 }
 
-/// Returns whether a cache meters packets of a region that make a crossing.
+/// Returns whether a cache meters packets of a region that cross an interface.
 fn is_metered(plan: &Plan, region: &Region, crossing: &Crossing, cache: HolderName) -> bool {
     let holder = plan.net().holder_place(cache);
     for point in plan.net().points_of(crossing.device) {
@@ -125,7 +126,7 @@ fn is_metered(plan: &Plan, region: &Region, crossing: &Crossing, cache: HolderNa
     false
 }
 
-/// Adds the links by which those caches of a crossing's device send that meter packets of a region there.
+/// Adds the links by which the caches of a crossing's device that meter packets of a region there send records.
 fn add_first(found: &mut Found<'_>, region: &Region, crossing: &Crossing) {
     let plan = found.plan;
     let devices = plan.network().devices.as_slice();
@@ -145,8 +146,8 @@ fn add_first(found: &mut Found<'_>, region: &Region, crossing: &Crossing) {
     }
 }
 
-/// Adds the links by which a collecting process sends records on, those of aggregations too. The places of its device
-/// and of itself count from 0.
+/// Adds the links by which a collecting process forwards records, including those of its aggregations. The indices of
+/// its device and of itself count from 0.
 fn add_onward(
     found: &mut Found<'_>,
     device: &NetworkDevice,
@@ -189,7 +190,7 @@ fn write_aggregation(
     let _choices = write_sending(out, plan, device, exporters, &[]);
 }
 
-/// Writes the collecting process to which a link leads, and where it sends records on.
+/// Writes the collecting process to which a link leads, and where it forwards records.
 fn write_process(
     out: &mut Explanation,
     plan: &Plan,
@@ -212,8 +213,8 @@ fn write_process(
     out.end_line();
 }
 
-/// Writes why the records of a cache or an aggregation stay unassigned that come by the link at a place, or aren't
-/// taken in by aggregations of a collecting process.
+/// Writes why records of a cache or an aggregation that arrive by the link at an index remain unassigned, or aren't
+/// accepted by aggregations of a collecting process.
 fn write_lacking<'x>(
     out: &mut Explanation,
     plan: &'x Plan,
@@ -248,8 +249,8 @@ fn write_lacking<'x>(
     }
 }
 
-/// Writes what becomes of records at the end of the way of this number from 0, which is written where no way before
-/// leads there, and adds those by which they are sent on.
+/// Writes what happens to records at the end of the way with this 0-based number, if no earlier way leads there, and
+/// adds the ways by which they are forwarded.
 fn write_way(
     out: &mut Explanation,
     found: &mut Found<'_>,
@@ -282,9 +283,9 @@ fn write_way(
     }
 }
 
-/// Writes the collecting processes to which the records of a region's packets may come that take a path, each once and
-/// 64 at most, where each sends them, what their key lacks for the report, and which aggregations don't take all of
-/// them in, and why.
+/// Writes the collecting processes that the records of a region's packets on a path may reach, each once and at most
+/// 64: where each forwards them, what their key lacks for the report, and which aggregations don't accept all of them,
+/// and why.
 pub(crate) fn write_following(
     out: &mut Explanation,
     plan: &Plan,

@@ -26,7 +26,7 @@ fn write_leaving(
     out.end_line();
 }
 
-/// Writes that a record leaves the cache of this number.
+/// Writes that a record leaves the cache with this number.
 fn write_cache(
     out: &mut Explanation,
     plan: &Plan,
@@ -49,7 +49,7 @@ fn write_cache(
     );
 }
 
-/// Writes that a record leaves the aggregation of this number of a collecting process.
+/// Writes that a record leaves the aggregation with this number of a collecting process.
 fn write_aggregation(
     out: &mut Explanation,
     plan: &Plan,
@@ -81,14 +81,14 @@ fn write_aggregation(
     );
 }
 
-/// Writes the cache of this number of a device.
+/// Writes the cache with this number of a device.
 fn write_cache_name(out: &mut Explanation, device: &NetworkDevice, number: u64) {
     if let Some(cache) = entry_numbered(device.config.caches.as_slice(), number) {
         out.text_quoted("cache ", cache.name.as_str());
     }
 }
 
-/// Writes the aggregation of this number of a collecting process of a device.
+/// Writes the aggregation with this number of a collecting process of a device.
 fn write_aggregation_name(
     out: &mut Explanation,
     device: &NetworkDevice,
@@ -100,7 +100,7 @@ fn write_aggregation_name(
     }
 }
 
-/// Writes a cache or an aggregation by its name and its device's.
+/// Writes a cache or an aggregation by its name and that of its device.
 pub(crate) fn write_holder(out: &mut Explanation, plan: &Plan, holder: HolderName) {
     let number = match holder {
         HolderName::Cache { device, .. } => device,
@@ -121,7 +121,7 @@ pub(crate) fn write_holder(out: &mut Explanation, plan: &Plan, holder: HolderNam
     out.text(device.name.as_str());
 }
 
-/// Writes that a record leaves what holds it, and where it goes by the choices of the step.
+/// Writes that a record leaves its holder, and where it goes by the choices of the step.
 pub(crate) fn write_expiry(
     out: &mut Explanation,
     plan: &Plan,
@@ -152,7 +152,7 @@ pub(crate) fn leads_to_report(report: &Report, link: &NamedLink) -> bool {
     report.device == link.to_device && report.collecting_process == link.to_process
 }
 
-/// Writes which of these aggregations take a record in, where so many of them do.
+/// Writes which of these aggregations accept a record, given how many of them do.
 fn write_taking(out: &mut Explanation, aggregations: &[Aggregation], taken: usize) {
     let words = if taken >= aggregations.len() {
         " takes it in"
@@ -209,7 +209,7 @@ fn write_reaching(out: &mut Explanation, plan: &Plan, link: &NamedLink, choices:
     out.end_line();
 }
 
-/// Writes that a record on the link of this number reaches its end.
+/// Writes that a record on the link with this number reaches its end.
 pub(crate) fn write_arrival(
     out: &mut Explanation,
     plan: &Plan,

@@ -6,14 +6,14 @@ use fx_topology::NetworkDevice;
 use fx_walk::place_of;
 use std::alloc::{AllocError, Global};
 
-/// For each collecting process of a network's table, whether it is the report's or sends records on to one that leads
-/// there, whatever their keys.
+/// For each collecting process of a network's table, whether it is the report's or forwards records to one that leads
+/// to the report, regardless of their keys.
 #[derive(Drop)]
 pub(crate) struct Leading {
     processes: Vec<bool>,
 }
 
-/// Returns whether one of these links, by place from 0, leads to a collecting process that leads to the report.
+/// Returns whether one of these links, by 0-based index, leads to a collecting process that leads to the report.
 fn has_leading(net: &Net, leads: &[bool], links: &[Option<usize>]) -> bool {
     for link in links {
         let process = entry_at(net.links(), link.unwrap_or(usize::MAX)).copied();
@@ -28,7 +28,7 @@ fn has_leading(net: &Net, leads: &[bool], links: &[Option<usize>]) -> bool {
     false
 }
 
-/// Returns whether one of these exporting processes, by place from 0, sends to a collecting process that leads to the
+/// Returns whether one of these exporting processes, by 0-based index, sends to a collecting process that leads to the
 /// report.
 fn sends_on(net: &Net, leads: &[bool], exporters: &[usize]) -> bool {
     for place in exporters {
@@ -41,8 +41,8 @@ fn sends_on(net: &Net, leads: &[bool], exporters: &[usize]) -> bool {
     false
 }
 
-/// Returns whether the collecting process at a place sends records on to one that leads to the report, its own or those
-/// of its aggregations.
+/// Returns whether the collecting process at an index forwards records, or those of its aggregations, to one that leads
+/// to the report.
 fn leads_on(net: &Net, leads: &[bool], place: usize) -> bool {
     let Some(process) = entry_at(net.processes(), place) else {
         return false;
@@ -58,8 +58,8 @@ fn leads_on(net: &Net, leads: &[bool], place: usize) -> bool {
     false
 }
 
-/// Notes the collecting processes that send records on to those that lead to the report. Returns whether there was
-/// another one.
+/// Marks the collecting processes that forward records to those that lead to the report. Returns whether another one
+/// was marked.
 fn note_more(net: &Net, leads: &mut Vec<bool>) -> bool {
     let mut has_more = false;
     for place in 0..leads.len() {
@@ -77,7 +77,7 @@ fn note_more(net: &Net, leads: &mut Vec<bool>) -> bool {
 impl Leading {
     /// Returns which collecting processes lead to the report.
     ///
-    /// Fails where memory runs out.
+    /// Fails if out of memory.
     pub(crate) fn of(alloc: Global, net: &Net) -> Result<Leading, AllocError> {
         let count = net.processes().len();
         let mut processes = vec![in alloc; false; count]?;
@@ -92,12 +92,12 @@ impl Leading {
         Ok(Leading { processes })
     }
 
-    /// Returns whether the collecting process at a place of the network's table, from 0, leads to the report.
+    /// Returns whether the collecting process at a 0-based index of the network's table leads to the report.
     pub(crate) fn has(&self, place: usize) -> bool {
         self.processes.get(place).copied().unwrap_or(false)
     }
 
-    /// Returns the place of the first collecting process of a device, from 0, that leads to the report.
+    /// Returns the 0-based index of the first collecting process of a device that leads to the report.
     pub(crate) fn process_of(&self, plan: &Plan, device: &NetworkDevice) -> Option<usize> {
         let at = place_of(plan.network().devices.as_slice(), &device.name)?;
         let entry = entry_at(plan.net().devices(), at)?;

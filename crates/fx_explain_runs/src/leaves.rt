@@ -23,7 +23,7 @@ fn write_process(out: &mut Explanation, device: &Device, point: &ObservationPoin
     }
 }
 
-/// Writes the observation point of a leaf, and what is after it.
+/// Writes the observation point of a leaf, and what follows it.
 fn write_point(out: &mut Explanation, device: &Device, leaf: &Counted) {
     let points = device.observation_points.as_slice();
     let Some(point) = entry_numbered(points, leaf.point) else {

@@ -1,4 +1,4 @@
-//! What is left at the end of a run that isn't complete.
+//! What remains at the end of a run that isn't complete.
 use fx_config::CollectingProcess;
 use fx_explanation::{Documents, Explanation, write_numbered};
 use fx_machine::State;
@@ -6,20 +6,19 @@ use fx_plan::Plan;
 use fx_tables::{Crossing, HolderName};
 use fx_topology::{NamedLink, NetworkDevice};
 
-/// How many crossings are written.
+/// The maximum number of crossings that are written.
 const SHOWN: u64 = 20;
 
 /// The end of a run.
 #[derive(Drop)]
 struct End<'a, 'b> {
     state: &'a State<'b>,
-    /// How many crossings are to come.
+    /// The number of crossings that remain.
     to_come: u64,
 }
 
 impl End<'_, '_> {
-    /// Writes which crossings of the packet of this number are to come, unless many were written, with a text before
-    /// each.
+    /// Writes which crossings of the packet with this number remain, up to the maximum, with a text before each.
     fn write_to_come(
         &mut self,
         out: &mut Explanation,
@@ -44,7 +43,7 @@ impl End<'_, '_> {
         }
     }
 
-    /// Writes which crossings of packets are to come.
+    /// Writes which crossings of packets remain.
     fn write_all_to_come(&mut self, out: &mut Explanation, documents: &Documents<'_>) {
         let packets = self.state.packets();
         let is_numbered = packets.len() > 1;
@@ -73,7 +72,7 @@ impl End<'_, '_> {
         self.state.records_held(place.unwrap_or(usize::MAX))
     }
 
-    /// Writes the records that are left in the caches of a device, which is of this number.
+    /// Writes the records that remain in the caches of the device with this number.
     fn write_caches(&self, out: &mut Explanation, device: &NetworkDevice, number: u64) {
         let caches = device.config.caches.as_slice();
         for place in 0..caches.len() {
@@ -94,8 +93,7 @@ impl End<'_, '_> {
         }
     }
 
-    /// Writes the records that are left in the aggregations of a collecting process, which is of this number on its
-    /// device.
+    /// Writes the records that remain in the aggregations of the collecting process with this number on its device.
     fn write_aggregations(
         &self,
         out: &mut Explanation,
@@ -123,7 +121,7 @@ impl End<'_, '_> {
         }
     }
 
-    /// Writes the records that are left in the aggregations of a device, which is of this number.
+    /// Writes the records that remain in the aggregations of the device with this number.
     fn write_processes(&self, out: &mut Explanation, device: &NetworkDevice, number: u64) {
         let processes = device.config.collecting_processes.as_slice();
         for place in 0..processes.len() {
@@ -131,7 +129,7 @@ impl End<'_, '_> {
         }
     }
 
-    /// Writes the records that are left on links.
+    /// Writes the records that remain on links.
     fn write_links(&self, out: &mut Explanation, links: &[NamedLink]) {
         for place in 0..links.len() {
             let count = self.state.records_on(place);
@@ -150,8 +148,8 @@ impl End<'_, '_> {
     }
 }
 
-/// Writes what a run leaves undone of which this is the last state: which crossings are to come, the first 20 of them,
-/// and which records are held or on links.
+/// Writes what a run with this last state leaves undone: which crossings remain, the first 20 of them, and which
+/// records are held or on links.
 pub(crate) fn write_undone(out: &mut Explanation, documents: &Documents<'_>, last: &State<'_>) {
     let mut end = End {
         state: last,

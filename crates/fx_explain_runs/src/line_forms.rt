@@ -1,9 +1,9 @@
-//! The forms of the lines of texts, and how far a line is as one of them wants it.
+//! The forms of lines, and how far a line has one of them.
 use fx_elements::{Axis, EVERY_AXIS, Words, is_word, read_number, read_u64, read_written, top};
 use fx_explanation::axis_word;
 use fx_run_text::TextVersion;
 
-/// What a text of lines is.
+/// The kind of a text of lines.
 #[derive(Clone, Copy)]
 pub(crate) enum Kind {
     Certificate,
@@ -12,10 +12,10 @@ pub(crate) enum Kind {
     Schedule,
 }
 
-/// A packet's line of the first version.
+/// The form of a packet's line of the first version.
 const PACKET_ONE: &str = "packet CLASS PATH SOURCE DESTINATION PROTOCOL SPORT DPORT TOS OCTETS";
 
-/// A packet's line of the second version.
+/// The form of a packet's line of the second version.
 const PACKET_TWO: &str =
     "packet CLASS PATH SOURCE DESTINATION PROTOCOL SPORT DPORT TOS VERSION SOURCE6 DESTINATION6 OCTETS";
 
@@ -52,7 +52,7 @@ pub(crate) fn forms_of(kind: Kind) -> [&'static str; 6] {
     }
 }
 
-/// Returns whether a line is a packet's of another version than its text's.
+/// Returns whether a line is a packet's line of another version than its text.
 pub(crate) fn is_of_other_version(kind: Kind, line: &[u8]) -> bool {
     match kind {
         Kind::Run(TextVersion::One) => fit_of(PACKET_TWO, line).is_whole(),
@@ -61,7 +61,7 @@ pub(crate) fn is_of_other_version(kind: Kind, line: &[u8]) -> bool {
     }
 }
 
-/// The words of forms for values on the axes, in their order.
+/// The placeholders for values of the axes in forms, in the order of the axes.
 const AXIS_WORDS: [&str; 9] = [
     "SOURCE",
     "DESTINATION",
@@ -74,7 +74,7 @@ const AXIS_WORDS: [&str; 9] = [
     "DESTINATION6",
 ];
 
-/// Returns the axis whose values stand in a packet's line for a word of its form.
+/// Returns the axis whose values a placeholder of a packet's form denotes.
 pub(crate) fn axis_of(form: &str, word: &str) -> Option<Axis> {
     if !form.starts_with("packet ") {
         return None;
@@ -87,7 +87,7 @@ pub(crate) fn axis_of(form: &str, word: &str) -> Option<Axis> {
     None
 }
 
-/// Returns whether a word of a form stands for itself.
+/// Returns whether a word of a form is literal, and not a placeholder.
 pub(crate) fn is_literal(word: &str) -> bool {
     for octet in word.as_bytes() {
         if octet.is_ascii_lowercase() {
@@ -97,7 +97,7 @@ pub(crate) fn is_literal(word: &str) -> bool {
     word.len() == 1
 }
 
-/// Returns the axis of this word.
+/// Returns the axis with this name.
 pub(crate) fn axis_named(word: &[u8]) -> Option<Axis> {
     for axis in EVERY_AXIS {
         if is_word(word, axis_word(axis).as_bytes()) {
@@ -107,7 +107,7 @@ pub(crate) fn axis_named(word: &[u8]) -> Option<Axis> {
     None
 }
 
-/// Returns the greatest number that may stand for a word of a form, after another word of a line.
+/// Returns the greatest number that a placeholder of a form allows after the given word of a line.
 fn greatest(form: &str, due: &str, before: &[u8]) -> u128 {
     match due {
         "AT" => match axis_named(before) {
@@ -119,7 +119,7 @@ fn greatest(form: &str, due: &str, before: &[u8]) -> u128 {
     }
 }
 
-/// Returns whether a word of a line is as a word of its form wants it, after another one.
+/// Returns whether a word of a line fits a word of its form, after the given word.
 fn is_fitting(form: &str, due: &str, word: &[u8], before: &[u8]) -> bool {
     if is_literal(due) {
         return is_word(word, due.as_bytes());
@@ -133,7 +133,7 @@ fn is_fitting(form: &str, due: &str, word: &[u8], before: &[u8]) -> bool {
     }
 }
 
-/// Returns whether a word of a line is a number as its form wants it, after another one.
+/// Returns whether a word of a line is a number that fits its form, after the given word.
 fn is_number(form: &str, due: &str, word: &[u8], before: &[u8]) -> bool {
     let is_counted = form.starts_with("carry ") && due == "OCTETS";
     match read_number(word, greatest(form, due, before)) {
@@ -142,25 +142,25 @@ fn is_number(form: &str, due: &str, word: &[u8], before: &[u8]) -> bool {
     }
 }
 
-/// How far a line is as a form wants it.
+/// How far a line fits a form.
 #[derive(Clone, Copy, Drop)]
 pub(crate) struct Fit<'a> {
-    /// The number of words that are as they should be.
+    /// The number of words that fit.
     pub(crate) words: u64,
-    /// The word of the form after these, or none where it ends.
+    /// The next word of the form, or `None` at its end.
     pub(crate) due: Option<&'a str>,
-    /// The word of the line there, or none where it ends.
+    /// The next word of the line, or `None` at its end.
     pub(crate) word: Option<&'a [u8]>,
 }
 
 impl Fit<'_> {
-    /// Returns whether the line is as the form wants it.
+    /// Returns whether the whole line fits the form.
     pub(crate) fn is_whole(&self) -> bool {
         self.due.is_none() && self.word.is_none()
     }
 }
 
-/// How far the words that are left of a line are choices, after so many words.
+/// Returns how far the remaining words of a line are choices, given the number of words before them.
 fn fit_choices<'a>(words: Words<'a>, before: u64) -> Fit<'a> {
     let mut left = words;
     let mut passed = before;
@@ -184,7 +184,7 @@ fn fit_choices<'a>(words: Words<'a>, before: u64) -> Fit<'a> {
     }
 }
 
-/// How far a line is as a form wants it.
+/// Returns how far a line fits a form.
 pub(crate) fn fit_of<'a>(form: &'static str, line: &'a [u8]) -> Fit<'a> {
     let (named, has_choices) = match form.strip_suffix(" CHOICES") {
         Some(named) => (named, true),

@@ -1,4 +1,4 @@
-//! What becomes of the records of a packet that is alone in a run, step by step.
+//! The fate of the records of a packet that is the only one of a run, step by step.
 use crate::ways::{Event, Ways, is_some_at};
 use fx_base::entry_numbered;
 use fx_explanation::{Documents, Explanation, unless_refused};
@@ -7,36 +7,37 @@ use fx_run_text::Step;
 use fx_tables::{Crossing, HolderName, Net, Occurrence, Packet};
 use std::alloc::{AllocError, Global};
 
-/// A packet is metered at a crossing, and goes into a record.
+/// A packet is metered at a crossing and counted in a record.
 #[derive(Clone, Copy)]
 pub(crate) struct Sighting {
-    /// The number of the crossing on the packet's path, from 1.
+    /// The 1-based number of the crossing on the packet's path.
     pub(crate) crossing: u64,
     /// Where it is metered there.
     pub(crate) occurrence: Occurrence,
-    /// The number of the record, from 0.
+    /// The 0-based number of the record.
     pub(crate) record: usize,
 }
 
-/// A record that a step handled: the step's place, from 0, and the cache or the aggregation that the record left last.
+/// A record that a step handled: the 0-based index of the step, and the cache or the aggregation that the record left
+/// last.
 #[derive(Clone, Copy)]
 pub(crate) struct Handled {
     pub(crate) step: usize,
     pub(crate) holder: HolderName,
 }
 
-/// The records that are held and on links, by the effects of the steps so far.
+/// The records that are held and on links, given the effects of the steps so far.
 struct Places {
-    /// The numbers of the records of each holder, from 0, by position.
+    /// The 0-based numbers of the records of each holder, by position.
     held: Vec<Vec<usize>>,
-    /// The records on each link, by position: the steps that sent them.
+    /// For each link, the steps that sent its records, by position.
     carried: Vec<Vec<Handled>>,
-    /// How many records were held so far.
+    /// The number of records that were held so far.
     count: usize,
 }
 
 impl Drop for Places {
-    /// Takes it apart in one place.
+    /// Drops its parts in one place.
     fn drop(self) {
         let Self {
             held: _,
@@ -46,7 +47,7 @@ impl Drop for Places {
     }
 }
 
-/// Returns so many empty lists.
+/// Returns the given number of empty lists.
 fn empty_lists<T: Drop>(alloc: Global, count: usize) -> Result<Vec<Vec<T>>, AllocError> {
     let mut lists = Vec::new(alloc);
     for _place in 0..count {
@@ -55,7 +56,7 @@ fn empty_lists<T: Drop>(alloc: Global, count: usize) -> Result<Vec<Vec<T>>, Allo
     Ok(lists)
 }
 
-/// Takes the entry at a position, from 1, out of the list at a place, from 0, if it is there.
+/// Removes the entry at a 1-based position from the list at a 0-based index, and returns it, if it is there.
 fn take_out<T: Copy + Drop>(lists: &mut [Vec<T>], place: usize, position: u64) -> Option<T> {
     let list = lists.get_mut(place)?;
     let entry = entry_numbered(list.as_slice(), position).copied()?;
@@ -64,7 +65,7 @@ fn take_out<T: Copy + Drop>(lists: &mut [Vec<T>], place: usize, position: u64) -
 }
 
 impl Places {
-    /// Returns the number of the record that takes something in, which is a new one or joined.
+    /// Returns the number of the record that takes something in, which is a new or an existing one.
     fn take_in(&mut self, taken: &TakenIn) -> Result<usize, AllocError> {
         let record = self.count;
         let Some(records) = self.held.get_mut(taken.holder) else {
@@ -89,7 +90,7 @@ impl Places {
     }
 }
 
-/// The run of a packet that is alone in it, and what became of its records so far.
+/// The run of a packet that is the only one in it, and the fate of its records so far.
 pub(crate) struct Lineage<'a> {
     alloc: Global,
     net: &'a Net,
@@ -100,16 +101,16 @@ pub(crate) struct Lineage<'a> {
     events: Vec<Event>,
     /// Where the packet was metered.
     pub(crate) sightings: Vec<Sighting>,
-    /// What the records left last that came to the report.
+    /// The holders that the records that reached the report left last.
     pub(crate) reported: Vec<HolderName>,
-    /// The steps after which its records were nowhere.
+    /// The steps after which a record of it was lost.
     pub(crate) lost: Vec<Handled>,
-    /// How many steps were made.
+    /// The number of steps that were made.
     made: usize,
 }
 
 impl Drop for Lineage<'_> {
-    /// Takes it apart in one place.
+    /// Drops its parts in one place.
     fn drop(self) {
         let Self {
             alloc: _,
@@ -127,7 +128,7 @@ impl Drop for Lineage<'_> {
     }
 }
 
-/// Returns the places of a network that holds and carries nothing.
+/// Returns the records of a network that holds and carries nothing.
 fn no_records(alloc: Global, net: &Net) -> Result<Places, AllocError> {
     Ok(Places {
         held: empty_lists(alloc, net.holders().len())?,
@@ -137,8 +138,8 @@ fn no_records(alloc: Global, net: &Net) -> Result<Places, AllocError> {
 }
 
 impl<'a> Lineage<'a> {
-    /// Returns the lineage before the first step of a run of this packet, or none if it isn't of its class or out of
-    /// memory, which the explanation notes.
+    /// Returns the lineage before the first step of a run of this packet. Returns `None` if the packet isn't of its
+    /// class, or if out of memory, which the explanation notes.
     pub(crate) fn new(
         out: &mut Explanation,
         documents: &Documents<'a>,
@@ -166,13 +167,13 @@ impl<'a> Lineage<'a> {
         })
     }
 
-    /// Returns the record at a position, from 1, of the link of this number, from 1.
+    /// Returns the record at a 1-based position of the link with this 1-based number.
     pub(crate) fn sent(&self, link: u64, position: u64) -> Option<Handled> {
         let records = entry_numbered(self.places.carried.as_slice(), link)?;
         entry_numbered(records.as_slice(), position).copied()
     }
 
-    /// Notes where the packet is metered at the crossing of this number, from 1.
+    /// Notes where the packet is metered at the crossing with this 1-based number.
     fn cross(&mut self, number: u64, effects: &Effects) -> Result<(), AllocError> {
         let Some(crossing) = entry_numbered(self.path, number) else {
             return Ok(());
@@ -192,7 +193,7 @@ impl<'a> Lineage<'a> {
         Ok(())
     }
 
-    /// Notes a step after which a record is nowhere.
+    /// Notes a step after which a record is lost.
     fn note_lost(&mut self, effects: &Effects, handled: Handled) -> Result<(), AllocError> {
         if effects.links().is_empty()
             && effects.taken().is_empty()
@@ -203,7 +204,7 @@ impl<'a> Lineage<'a> {
         Ok(())
     }
 
-    /// Notes what becomes of a record that leaves a holder.
+    /// Notes the fate of a record that leaves a holder.
     fn expire(
         &mut self,
         holder: HolderName,
@@ -221,7 +222,7 @@ impl<'a> Lineage<'a> {
         Ok(())
     }
 
-    /// Notes what becomes of a record that arrives by the link of this number, from 1.
+    /// Notes the fate of a record that arrives by the link with this 1-based number.
     fn arrive(&mut self, link: u64, position: u64, effects: &Effects) -> Result<(), AllocError> {
         let step = self.made;
         let place = link.saturating_sub(1) as usize;
@@ -262,7 +263,7 @@ impl<'a> Lineage<'a> {
         }
     }
 
-    /// Makes a step, if it isn't refused.
+    /// Makes a step, unless it is refused.
     pub(crate) fn take(&mut self, out: &mut Explanation, step: &Step) {
         let read = self.state.effects(step);
         if let Some(effects) = unless_refused(out, read) {
@@ -274,7 +275,7 @@ impl<'a> Lineage<'a> {
         self.made = self.made.saturating_add(1);
     }
 
-    /// Returns in which ways records came to the report.
+    /// Returns the ways by which records reached the report.
     pub(crate) fn ways(&self) -> Result<Ways, AllocError> {
         Ways::of(
             self.alloc,
@@ -284,7 +285,7 @@ impl<'a> Lineage<'a> {
         )
     }
 
-    /// Returns where the packet was metered, of records that came to the report.
+    /// Returns where the packet was metered in records that reached the report.
     pub(crate) fn reported_sightings(&self, ways: &Ways) -> Result<Vec<Sighting>, AllocError> {
         let mut found = Vec::new(self.alloc);
         for sighting in self.sightings.as_slice() {

@@ -1,4 +1,4 @@
-//! Lines of a text that was kept.
+//! The lines of a text that was kept.
 ghost use Rattle.std.specs.Prelude.{◌≡◌, ◌<◌, true, Ok, IfErr};
 ghost use Rattle.fx_base.specs.Lines.{line_budget};
 ghost use Rattle.fx_explanation.specs.Explanations.{IsLineFault, IsUnexplained};
@@ -6,10 +6,10 @@ ghost use Rattle.fx_explanation.specs.Explanations.{IsLineFault, IsUnexplained};
 use fx_base::{Fault, Line, LineReader, Place, Source, refusals};
 use fx_explanation::{Explanation, foreign_words};
 
-/// How many octets of a line are written.
+/// The maximum number of octets of a line that are written.
 const SHOWN: usize = 200;
 
-/// Returns the fault of lines that can't be read: 903 at a line that is too long, else 901.
+/// Returns the fault of lines that can't be read: 903 at a line that is too long, and otherwise 901.
 fn line_fault(fault: Fault) -> Fault
     ensures { IsLineFault result }
 {
@@ -19,7 +19,7 @@ fn line_fault(fault: Fault) -> Fault
     }
 }
 
-/// Goes on to the next line, and answers whether there is one.
+/// Advances to the next line, and returns whether there is one.
 pub(crate) fn next_line<C: Source>(lines: &mut LineReader<C>) -> Result<bool, Fault>
     ensures smaller { result ≡ Ok true → line_budget lines.new < line_budget lines.old }
     ensures err { IfErr result IsLineFault }

@@ -1,4 +1,4 @@
-//! Aggregations that don't take in all records of a region's packets.
+//! Aggregations that don't accept all records of a region's packets.
 use crate::holders::write_holder;
 use crate::missing_fields::Arriving;
 use fx_boxes::Region;
@@ -7,7 +7,7 @@ use fx_explanation::{Explanation, axis_word, write_values};
 use fx_tables::{AggregationEntry, HolderName};
 use fx_topology::NetworkDevice;
 
-/// Records of a region's packets that come to a collecting process.
+/// Records of a region's packets that reach a collecting process.
 #[derive(Drop)]
 pub(crate) struct Taken<'a> {
     pub(crate) region: &'a Region,
@@ -18,7 +18,7 @@ pub(crate) struct Taken<'a> {
     pub(crate) process: &'a CollectingProcess,
 }
 
-/// For how many of a region's packets a match holds, in words, where it doesn't hold for all.
+/// Returns for how many of a region's packets a match holds, if it doesn't hold for all.
 fn hold_words(region: &Region, property: &PropertyMatch) -> Option<&'static str> {
     let low = region.corner().get(property.axis);
     let high = region.far_corner().get(property.axis);
@@ -56,7 +56,7 @@ impl Taken<'_> {
         out.sentence(words);
     }
 
-    /// Writes why an aggregation takes in no records with this key, or which of its matches don't hold for all packets.
+    /// Writes why an aggregation accepts no records with this key, or which of its matches don't hold for all packets.
     fn write_aggregation(
         &self,
         out: &mut Explanation,
@@ -80,7 +80,7 @@ impl Taken<'_> {
     }
 }
 
-/// Writes which aggregations of a collecting process don't take in all records that come there, and why.
+/// Writes which aggregations of a collecting process don't accept all records that arrive there, and why.
 pub(crate) fn write_untaken(
     out: &mut Explanation,
     taken: &Taken<'_>,

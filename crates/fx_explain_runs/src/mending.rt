@@ -18,7 +18,7 @@ use fx_refute::Refutation;
 use fx_run_text::Step;
 use fx_tables::Packet;
 
-/// How many places are written at which a packet is metered.
+/// The maximum number of places at which a packet is metered that are written.
 const SHOWN: usize = 8;
 
 /// The values of ipVersion.
@@ -26,14 +26,14 @@ const IPV4: u128 = 4;
 
 const IPV6: u128 = 6;
 
-/// A packet whose totals are wrong, its run, and what became of its records there.
+/// A packet whose totals are wrong, its run, and the fate of its records there.
 #[derive(Drop)]
 struct Wrong<'a> {
     documents: &'a Documents<'a>,
     packet: &'a Packet,
     steps: &'a [Step],
     lineage: &'a Lineage<'a>,
-    /// The place of the first step at which records go on to the report in more than one way.
+    /// The index of the first step at which records go on to the report in more than one way.
     parting: Option<usize>,
 }
 
@@ -72,8 +72,8 @@ impl Wrong<'_> {
         entry_numbered(points, sighting.occurrence.point as u64)
     }
 
-    /// Writes that the first of these observation points that observes both directions may want one. Returns whether
-    /// there is such a point.
+    /// Writes that the first of these observation points that observes both directions perhaps should observe only one.
+    /// Returns whether there is such a point.
     fn write_both_directions(&self, out: &mut Explanation, sightings: &[Sighting]) -> bool {
         for sighting in sightings {
             if let Some(point) = self.point_of(sighting) {
@@ -89,7 +89,7 @@ impl Wrong<'_> {
         false
     }
 
-    /// Writes the first places where the packet was metered, in a line.
+    /// Writes the first places where the packet was metered, in one line.
     fn write_sightings(&self, out: &mut Explanation, sightings: &[Sighting]) {
         let shown = sightings.len().min(SHOWN);
         for place in 0..shown {
@@ -102,8 +102,8 @@ impl Wrong<'_> {
         out.end_line();
     }
 
-    /// Writes what to do about a packet that is metered once, and whose record comes to the report more than once: the
-    /// step at which this goes on in more than one way.
+    /// Writes what to do about a packet that is metered once and whose record reaches the report more than once: the
+    /// step at which it goes on in more than one way.
     fn write_parted(&self, out: &mut Explanation) {
         let Some(place) = self.parting else {
             return;
@@ -127,7 +127,7 @@ impl Wrong<'_> {
         }
     }
 
-    /// Returns whether the packet was metered at both places by the same observation point.
+    /// Returns whether the same observation point metered the packet at both places.
     fn is_of_one_point(&self, first: &Sighting, second: &Sighting) -> bool {
         let crossings = self.documents.traffic.classes().path_of(self.packet);
         match (
@@ -161,7 +161,7 @@ impl Wrong<'_> {
         self.write_sightings(out, sightings);
     }
 
-    /// Writes that packets of one version of IP need a report of their own.
+    /// Writes that packets of each IP version need their own report.
     fn write_version(&self, out: &mut Explanation, part: Part) {
         let is_ipv6 = self.packet.fields.get(Axis::Version) == IPV6;
         out.text(
@@ -180,7 +180,7 @@ classes of the other version exempt",
         out.sentence(", which the report's key has");
     }
 
-    /// Returns whether the packet's class has packets of both versions of IP.
+    /// Returns whether the packet's class has packets of both IP versions.
     fn is_of_both(&self) -> bool {
         let classes = self.documents.traffic.classes().as_slice();
         match entry_numbered(classes, self.packet.class) {
@@ -193,7 +193,7 @@ classes of the other version exempt",
         }
     }
 
-    /// Writes what to do about a record that comes to the report without the report's key.
+    /// Writes what to do about a record that reaches the report without the report's key.
     fn write_unassigned(&self, out: &mut Explanation) {
         for holder in self.lineage.reported.as_slice() {
             let arrived = arriving(self.documents, self.packet, *holder);
@@ -210,7 +210,8 @@ classes of the other version exempt",
         }
     }
 
-    /// Writes what to do about the packet, which is counted so often, and these of whose sightings come to the report.
+    /// Writes what to do about the packet, given how often it is counted, and those of its sightings that reach the
+    /// report.
     fn write(&self, out: &mut Explanation, sightings: &[Sighting], counted: u64) {
         if self.documents.traffic.classes().exempts(self.packet) {
             out.text(
@@ -230,7 +231,7 @@ classes of the other version exempt",
     }
 }
 
-/// Returns the place of the first step that several ways take, if there is one.
+/// Returns the index of the first step at which there are several ways, if there is one.
 fn first_parting(ways: &[usize]) -> Option<usize> {
     for place in 0..ways.len() {
         if ways[place] > 1 {
@@ -240,7 +241,7 @@ fn first_parting(ways: &[usize]) -> Option<usize> {
     None
 }
 
-/// Returns how many packets totals have for the report's key of a packet.
+/// Returns the number of packets that totals have for the report's key of a packet.
 fn counted(documents: &Documents<'_>, packet: &Packet, totals: &Totals) -> u64 {
     let key = documents.plan.net().report_layout().key_of(&packet.fields);
     match totals.get(&key) {
@@ -249,7 +250,7 @@ fn counted(documents: &Documents<'_>, packet: &Packet, totals: &Totals) -> u64 {
     }
 }
 
-/// Writes in a line how a packet is counted whose totals are wrong.
+/// Writes in one line how a packet is counted whose totals are wrong.
 fn write_verdict(out: &mut Explanation, wrong: &Wrong<'_>, counted: u64) {
     let packet = wrong.packet;
     out.text_number("verdict: a packet of class ", packet.class);
@@ -271,8 +272,8 @@ fn write_verdict(out: &mut Explanation, wrong: &Wrong<'_>, counted: u64) {
     }
 }
 
-/// Writes how a packet is counted whose totals are wrong, and what to do about it, with these of its records' ways to
-/// the report.
+/// Writes how a packet is counted whose totals are wrong, and what to do about it, given the ways of its records to the
+/// report.
 fn write_along(out: &mut Explanation, wrong: &Wrong<'_>, ways: &Ways, counted: u64) {
     let sightings = wrong.lineage.reported_sightings(ways);
     let Some(sightings) = out.unless_short(sightings) else {
@@ -283,8 +284,8 @@ fn write_along(out: &mut Explanation, wrong: &Wrong<'_>, ways: &Ways, counted: u
     wrong.write(out, sightings.as_slice(), counted);
 }
 
-/// Writes how the packet of a refutation is counted whose run has these totals, and what to do about it. The packet's
-/// records became this.
+/// Writes how the packet of a refutation is counted, given the totals of its run and the fate of its records, and what
+/// to do about it.
 pub(crate) fn write_mending(
     out: &mut Explanation,
     documents: &Documents<'_>,

@@ -1,5 +1,5 @@
-//! What the key of a record lacks: for the report, where it stays unassigned, and for aggregations that don't take it
-//! in.
+//! What the key of a record lacks: for the report, where it remains unassigned, and for aggregations that don't accept
+//! it.
 use crate::holders::write_holder;
 use fx_base::{entry_at, entry_numbered};
 use fx_boxes::Fields;
@@ -10,7 +10,7 @@ use fx_layout::Part;
 use fx_plan::Plan;
 use fx_tables::{AggregationEntry, HolderName, Process};
 
-/// A record that arrives: the place in the network's table of the cache or the aggregation that it comes from, and the
+/// A record that arrives: the index in the network's table of the cache or the aggregation that it comes from, and the
 /// fields of its packet.
 #[derive(Drop)]
 pub(crate) struct Arriving<'a> {
@@ -19,8 +19,7 @@ pub(crate) struct Arriving<'a> {
     pub(crate) fields: &'a Fields,
 }
 
-/// Writes a field of a key by its information element, with the number of its leading bits where not all of them are
-/// meant.
+/// Writes a field of a key by its information element, with the number of its leading bits if not all are meant.
 pub(crate) fn write_part(out: &mut Explanation, axis: Axis, bits: u32) {
     if bits < width(axis) {
         out.text(element_name(axis.prefix_number()));
@@ -31,12 +30,12 @@ pub(crate) fn write_part(out: &mut Explanation, axis: Axis, bits: u32) {
 }
 
 impl Arriving<'_> {
-    /// Returns whether so many leading bits of an axis can be read from the record.
+    /// Returns whether the given number of leading bits of an axis can be read from the record.
     fn reads(&self, axis: Axis, bits: u32) -> bool {
         self.plan.net().layout_at(self.origin).reads(axis, bits)
     }
 
-    /// Returns the first of these parts of a key that the record's key lacks, if it lacks one.
+    /// Returns the first of these parts of a key that the record's key lacks, if any.
     fn missing(&self, parts: &[Part]) -> Option<Part> {
         for part in parts {
             if !self.reads(part.axis, part.bits) {
@@ -46,8 +45,7 @@ impl Arriving<'_> {
         None
     }
 
-    /// Returns the first field of the report's key that packets of the packet's version of IP don't have, if there is
-    /// one.
+    /// Returns the first field of the report's key that packets of the packet's IP version don't have, if any.
     pub(crate) fn part_of_other_version(&self) -> Option<Part> {
         let version = self.fields.get(Axis::Version);
         for part in self.plan.net().report_layout().parts() {
@@ -63,7 +61,7 @@ impl Arriving<'_> {
         None
     }
 
-    /// Writes a field that the record's key lacks, with the shorter prefix that it has in its place.
+    /// Writes a field that the record's key lacks, with the shorter prefix that it has instead.
     fn write_lacked(&self, out: &mut Explanation, missing: Part) {
         write_part(out, missing.axis, missing.bits);
         for part in self.plan.net().layout_at(self.origin).parts() {
@@ -74,7 +72,7 @@ impl Arriving<'_> {
         }
     }
 
-    /// Writes the first field of the report's key that the record's key lacks, between two texts. Answers whether it
+    /// Writes the first field of the report's key that the record's key lacks, between two texts. Returns whether it
     /// lacks one.
     pub(crate) fn write_unassigned(
         &self,
@@ -93,7 +91,7 @@ impl Arriving<'_> {
         }
     }
 
-    /// Writes that records of a cache or an aggregation stay unassigned at the report, if they do, and why.
+    /// Writes that records of a cache or an aggregation remain unassigned at the report, if they do, and why.
     pub(crate) fn write_unassigned_of(&self, out: &mut Explanation, holder: HolderName) {
         if let Some(part) = self.missing(self.plan.net().report_layout().parts()) {
             out.text("the records of ");
@@ -104,12 +102,12 @@ impl Arriving<'_> {
         }
     }
 
-    /// Returns the first part of an aggregation's key that the record's key lacks, if it lacks one.
+    /// Returns the first part of an aggregation's key that the record's key lacks, if any.
     fn missing_part(&self, entry: &AggregationEntry) -> Option<Part> {
         self.missing(self.plan.net().layout_at(entry.holder()).parts())
     }
 
-    /// Returns the first match of an aggregation that can't be read from the record's key, if there is one.
+    /// Returns the first match of an aggregation that can't be read from the record's key, if any.
     fn unread_match<'b>(&self, aggregation: &'b Aggregation) -> Option<&'b PropertyMatch> {
         for property in aggregation.matches.as_slice() {
             if !self.reads(property.axis, property.range.bits) {
@@ -124,7 +122,7 @@ impl Arriving<'_> {
         self.missing_part(entry).is_none() && self.unread_match(aggregation).is_none()
     }
 
-    /// Writes what of the key or the matches of an aggregation can't be read from the record's key.
+    /// Writes which parts of the key or the matches of an aggregation can't be read from the record's key.
     pub(crate) fn write_unread(
         &self,
         out: &mut Explanation,
@@ -140,7 +138,7 @@ impl Arriving<'_> {
         }
     }
 
-    /// Returns the first match of an aggregation that doesn't hold for the packet, if there is one.
+    /// Returns the first match of an aggregation that doesn't hold for the packet, if any.
     fn failing_match<'b>(&self, aggregation: &'b Aggregation) -> Option<&'b PropertyMatch> {
         for property in aggregation.matches.as_slice() {
             let value = self.fields.get(property.axis);
@@ -151,7 +149,7 @@ impl Arriving<'_> {
         None
     }
 
-    /// Writes why an aggregation doesn't take the record in, if it doesn't, with a text after it.
+    /// Writes why an aggregation doesn't accept the record, if it doesn't, with a text after it.
     fn write_passed_over(
         &self,
         out: &mut Explanation,
@@ -184,7 +182,7 @@ impl Arriving<'_> {
         out.value(property.axis, self.fields.get(property.axis));
     }
 
-    /// Writes which aggregations of a collecting process don't take the record in, and why, with a text after each.
+    /// Writes which aggregations of a collecting process don't accept the record, and why, with a text after each.
     fn write_aggregations(
         &self,
         out: &mut Explanation,
@@ -200,7 +198,7 @@ impl Arriving<'_> {
         }
     }
 
-    /// Writes which aggregations at the end of the link of this number don't take the record in, and why, with a text
+    /// Writes which aggregations at the end of the link with this number don't accept the record, and why, with a text
     /// after each.
     pub(crate) fn write_untaken(&self, out: &mut Explanation, link: u64, after: &'static str) {
         let net = self.plan.net();
@@ -213,8 +211,8 @@ impl Arriving<'_> {
         }
     }
 
-    /// Writes what becomes of the record at the end of the link of this number, where it is neither tallied nor taken
-    /// in.
+    /// Writes what happens to the record at the end of the link with this number if it is neither tallied nor
+    /// aggregated.
     pub(crate) fn write(&self, out: &mut Explanation, link: u64) {
         let net = self.plan.net();
         let before = "the record stays unassigned: its key lacks ";
@@ -228,7 +226,7 @@ impl Arriving<'_> {
     }
 }
 
-/// Returns the collecting process to which the link of this number, from 1, leads.
+/// Returns the collecting process to which the link with this 1-based number leads.
 pub(crate) fn process_at_end(plan: &Plan, link: u64) -> Option<&CollectingProcess> {
     let network = plan.network();
     let link = entry_numbered(network.links.as_slice(), link)?;
@@ -239,7 +237,7 @@ pub(crate) fn process_at_end(plan: &Plan, link: u64) -> Option<&CollectingProces
     )
 }
 
-/// Writes that an aggregation doesn't take a record in.
+/// Writes that an aggregation doesn't accept a record.
 fn write_aggregation(out: &mut Explanation, aggregation: &Aggregation) {
     out.text_quoted("aggregation ", aggregation.name.as_str());
     out.text(" doesn't take it in: ");

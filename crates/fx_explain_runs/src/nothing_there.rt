@@ -1,4 +1,4 @@
-//! Why what a line of a schedule asks for isn't there, in sentences.
+//! Explaining why something that a line of a schedule refers to doesn't exist.
 
 use fx_base::entry_numbered;
 use fx_config::{CacheKind, CollectingProcess};
@@ -8,10 +8,10 @@ use fx_plan::Plan;
 use fx_topology::{NamedLink, NetworkDevice};
 use fx_walk::Named;
 
-/// How many names or links are written.
+/// The maximum number of names or links that are written.
 const SHOWN: usize = 20;
 
-/// Returns the first three numbers of these words, 0 for each that isn't there.
+/// Returns the first three numbers of these words, with 0 for each missing one.
 fn first_numbers(words: Words<'_>) -> [u64; 3] {
     let mut numbers = [0; 3];
     let mut left = words;
@@ -25,7 +25,7 @@ fn first_numbers(words: Words<'_>) -> [u64; 3] {
     numbers
 }
 
-/// Writes that a number names nothing, and from where to where they count that are there.
+/// Writes that a number refers to nothing, and the range of the existing numbers.
 fn write_count(out: &mut Explanation, words: &'static str, number: u64, there: usize) {
     out.text_number(words, number);
     if there == 0 {
@@ -36,7 +36,7 @@ fn write_count(out: &mut Explanation, words: &'static str, number: u64, there: u
     }
 }
 
-/// Writes that a number names none of these, and the numbers and the names of those that are there.
+/// Writes that a number refers to none of these entries, and the numbers and names of the existing ones.
 fn write_absent<T: Named>(out: &mut Explanation, words: &'static str, number: u64, entries: &[T]) {
     write_count(out, words, number, entries.len());
     for place in 0..entries.len().min(SHOWN) {
@@ -47,7 +47,7 @@ fn write_absent<T: Named>(out: &mut Explanation, words: &'static str, number: u6
     out.sentence(if entries.len() > SHOWN { ", .." } else { "" });
 }
 
-/// Writes between which processes a link leads.
+/// Writes which processes a link connects.
 fn write_link(out: &mut Explanation, link: &NamedLink) {
     out.text_quoted("from exporting process ", link.exporting_process.as_str());
     out.text(" of ");
@@ -56,7 +56,7 @@ fn write_link(out: &mut Explanation, link: &NamedLink) {
     write_end(out, link);
 }
 
-/// Writes that there is no link of this number, and which there are.
+/// Writes that there is no link with this number, and the existing links.
 fn write_no_link(out: &mut Explanation, number: u64, links: &[NamedLink]) {
     write_count(out, "there is no link ", number, links.len());
     for place in 0..links.len().min(SHOWN) {
@@ -68,7 +68,7 @@ fn write_no_link(out: &mut Explanation, number: u64, links: &[NamedLink]) {
     out.sentence(if links.len() > SHOWN { "; .." } else { "" });
 }
 
-/// Writes that fewer octets wait on a link, or that there is none of this number.
+/// Writes that fewer octets wait on a link, or that there is none with this number.
 fn write_few_octets(out: &mut Explanation, plan: &Plan, number: u64, octets: u64) {
     let links = plan.network().links.as_slice();
     let Some(link) = entry_numbered(links, number) else {
@@ -94,7 +94,7 @@ fn write_few_octets(out: &mut Explanation, plan: &Plan, number: u64, octets: u64
     out.sentence(" all octets that were put on it");
 }
 
-/// Writes why no record leaves the cache of this number of a device.
+/// Writes why no record leaves the cache with this number of a device.
 fn write_no_cached(out: &mut Explanation, device: &NetworkDevice, number: u64) {
     let caches = device.config.caches.as_slice();
     let Some(cache) = entry_numbered(caches, number) else {
@@ -112,7 +112,7 @@ fn write_no_cached(out: &mut Explanation, device: &NetworkDevice, number: u64) {
     });
 }
 
-/// Writes why no record leaves the aggregation of this number of a collecting process.
+/// Writes why no record leaves the aggregation with this number of a collecting process.
 fn write_no_aggregated(out: &mut Explanation, process: &CollectingProcess, number: u64) {
     out.text_quoted(": collecting process ", process.name.as_str());
     let aggregations = process.aggregations.as_slice();
@@ -126,7 +126,7 @@ fn write_no_aggregated(out: &mut Explanation, process: &CollectingProcess, numbe
     );
 }
 
-/// Writes what names nothing of an exporting process and a destination of a device.
+/// Writes which of an exporting process and a destination of a device don't exist.
 fn write_no_destination(
     out: &mut Explanation,
     device: &NetworkDevice,
@@ -143,7 +143,7 @@ fn write_no_destination(
     write_absent(out, " has no destination ", destination, destinations);
 }
 
-/// Writes what isn't there at a device, for a line of this kind with these numbers.
+/// Writes what doesn't exist at a device, for a line of this kind with these numbers.
 fn write_at_device(out: &mut Explanation, plan: &Plan, kind: &[u8], numbers: [u64; 3]) {
     let devices = plan.network().devices.as_slice();
     let [number, second, third] = numbers;
@@ -166,8 +166,8 @@ fn write_at_device(out: &mut Explanation, plan: &Plan, kind: &[u8], numbers: [u6
     }
 }
 
-/// Explains why what a line of a schedule asks for isn't there: which of its numbers names nothing, or else what is
-/// lacking at that line, before which so many packets were read.
+/// Explains why something that a line of a schedule refers to doesn't exist: which of its numbers refers to nothing, or
+/// else what is missing at that line, given the number of packets that were read before.
 pub(crate) fn write_nothing_there(out: &mut Explanation, plan: &Plan, line: &[u8], read: u64) {
     let Some((kind, words)) = Words::new(line).word() else {
         return;

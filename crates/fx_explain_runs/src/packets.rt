@@ -5,10 +5,10 @@ use fx_elements::{Axis, EVERY_AXIS};
 use fx_explanation::{Documents, Explanation, axis_word, between, class_name, write_values};
 use fx_tables::Class;
 
-/// How many classes are written.
+/// The maximum number of classes that are written.
 const CLASSES: usize = 20;
 
-/// Writes fields that aren't 0 after what was written, each with a separator before it, and then the octets.
+/// Writes the fields that aren't 0, each after a separator, and then the octets.
 pub(crate) fn write_fields(
     out: &mut Explanation,
     separator: &'static str,
@@ -40,7 +40,7 @@ pub(crate) fn write_fields(
     out.end_line();
 }
 
-/// Returns what is to be said of the value of a field that packets of the other version have.
+/// Returns what to write about the value of a field that only packets of the other IP version have.
 fn absence(axis: Axis, fields: &Fields) -> &'static str {
     match (axis, fields.get(Axis::Version)) {
         (Axis::Source | Axis::Destination, 6) => " (a packet of IPv6 has none)",
@@ -49,7 +49,7 @@ fn absence(axis: Axis, fields: &Fields) -> &'static str {
     }
 }
 
-/// Writes the fields that lie outside a region, each with the region's values there.
+/// Writes the fields that are outside a region, each with the region's values there.
 pub(crate) fn write_outside(out: &mut Explanation, region: &Region, fields: &Fields) {
     let least = region.corner();
     let greatest = region.far_corner();
@@ -74,7 +74,7 @@ pub(crate) fn write_outside(out: &mut Explanation, region: &Region, fields: &Fie
     }
 }
 
-/// Writes which fields keep a packet out of a class, in a line.
+/// Writes in one line which fields keep a packet out of a class.
 fn write_class_outside(
     out: &mut Explanation,
     documents: &Documents<'_>,
@@ -105,7 +105,7 @@ pub(crate) fn write_no_class(out: &mut Explanation, documents: &Documents<'_>, f
     }
 }
 
-/// Writes that a number counts too far: how many there are of what is counted.
+/// Writes that a number is too large, and how many of the counted items there are.
 pub(crate) fn write_missing(out: &mut Explanation, words: &'static str, number: u64, there: usize) {
     out.text_number(words, number);
     out.text_number(
@@ -119,7 +119,7 @@ pub(crate) fn write_missing(out: &mut Explanation, words: &'static str, number: 
     out.sentence(", counted from 1");
 }
 
-/// Writes why a packet isn't in the class of this number with the path of that one.
+/// Writes why a packet isn't in the class with this number, with the path with that number.
 pub(crate) fn write_named_class(
     out: &mut Explanation,
     documents: &Documents<'_>,

@@ -1,4 +1,4 @@
-//! Why a packet isn't metered at a crossing: what each observation point there does with it.
+//! Explaining why a packet isn't metered at a crossing: what each observation point there does with it.
 use crate::packets::write_outside;
 use fx_base::{Name, entry_at, entry_numbered};
 use fx_boxes::Fields;
@@ -8,7 +8,7 @@ use fx_plan::Plan;
 use fx_tables::{Crossing, Point, Selection};
 use fx_topology::NetworkDevice;
 
-/// A packet that makes a crossing at a device.
+/// A packet at a crossing of a device.
 #[derive(Drop)]
 struct Passing<'a> {
     device: &'a NetworkDevice,
@@ -21,7 +21,7 @@ fn is_among(names: &[Name], name: &Name) -> bool {
     names.contains(name)
 }
 
-/// Writes why a selection process of a point doesn't meter a packet that the point sees.
+/// Writes why a selection process of a point doesn't meter a packet that the point observes.
 fn write_selection(
     out: &mut Explanation,
     passing: &Passing<'_>,
@@ -41,7 +41,7 @@ fn write_selection(
     }
 }
 
-/// Writes why no selection process of a point meters a packet that the point sees.
+/// Writes why no selection process of a point meters a packet that the point observes.
 fn write_selections(
     out: &mut Explanation,
     passing: &Passing<'_>,

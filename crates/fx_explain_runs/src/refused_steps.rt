@@ -1,4 +1,4 @@
-//! Why a step of a run can't be made.
+//! Explaining why a step of a run can't be made.
 use crate::choosing::Choosers;
 use crate::lines::write_line;
 use crate::steps::write_step;
@@ -8,20 +8,20 @@ use fx_machine::{State, StepActs};
 use fx_run_text::{Step, put_step_line};
 use fx_tables::{HolderName, Net};
 
-/// How many choices are written.
+/// The maximum number of choices that are written.
 const FEW: usize = 20;
 
-/// What records wait in.
+/// Where records wait.
 #[derive(Clone, Copy, PartialEq, Eq)]
 enum Waiting {
     /// A cache or an aggregation.
     Holder(HolderName),
-    /// The link of this number, from 1.
+    /// The link with this 1-based number.
     Link(u64),
 }
 
 impl Waiting {
-    /// Returns what a step takes a record from, and its position there.
+    /// Returns where a step takes a record from, and its position there.
     fn of(step: &Step) -> Option<(Waiting, u64)> {
         match step {
             Step::Cross { .. } => None,
@@ -51,9 +51,9 @@ impl Waiting {
 pub(crate) struct Unmade<'a, 'b> {
     pub(crate) documents: &'a Documents<'a>,
     pub(crate) state: &'a State<'b>,
-    /// The last steps before it, as far as they are known.
+    /// The last steps before it, insofar as they are known.
     pub(crate) before: &'a [Step],
-    /// The number of its line, from 1.
+    /// The 1-based number of its line.
     pub(crate) line: u64,
     pub(crate) step: &'a Step,
     /// Why it is refused.
@@ -88,7 +88,7 @@ fn choices_of(step: &Step) -> &[Option<u64>] {
     }
 }
 
-/// Returns which choices a step has, in words.
+/// Returns a description of the choices that a step has.
 fn rule_words(step: &Step) -> &'static str {
     match step {
         Step::Cross { .. } => {
@@ -102,7 +102,7 @@ aggregations that takes the record in"
     }
 }
 
-/// Choices that holders take for records, one for each holding.
+/// The choices that holders take for records, one for each holding.
 #[derive(Drop)]
 struct Taking<'a, 'b> {
     state: &'a State<'b>,
@@ -111,8 +111,8 @@ struct Taking<'a, 'b> {
 }
 
 impl Taking<'_, '_> {
-    /// Returns whether the holding at a place, from 0, has the key of the record at a position of its holder, from 1:
-    /// one that was held before the step, or else one that is new by a choice before.
+    /// Returns whether the holding at a 0-based index has the key of the record at a 1-based position of its holder,
+    /// which was held before the step or is new by an earlier choice.
     fn has_key_at(&self, place: usize, position: u64) -> bool {
         let holdings = self.acts.holdings.as_slice();
         let Some(holding) = entry_at(holdings, place) else {
@@ -134,7 +134,7 @@ impl Taking<'_, '_> {
         false
     }
 
-    /// Returns the first position of a record with the key of the holding at a place, from 0, if there is one.
+    /// Returns the first position of a record with the key of the holding at a 0-based index, if there is one.
     fn same_key(&self, place: usize) -> Option<u64> {
         let holding = entry_at(self.acts.holdings.as_slice(), place)?;
         let most = self
@@ -149,7 +149,7 @@ impl Taking<'_, '_> {
         None
     }
 
-    /// Returns the place of the first choice, from 0, that its holder can't take, if there is one.
+    /// Returns the 0-based index of the first choice that its holder can't take, if there is one.
     fn wrong(&self) -> Option<usize> {
         for place in 0..self.choices.len() {
             if let Some(position) = self.choices[place] {
@@ -162,8 +162,8 @@ impl Taking<'_, '_> {
     }
 }
 
-/// Returns the place of the first choice that names no destination of the exporting process that takes it, and how many
-/// choices exporting processes take.
+/// Returns the index of the first choice that names no destination of the exporting process to which it applies, if
+/// any, and the number of choices that exporting processes take.
 fn wrong_destination(
     net: &Net,
     acts: &StepActs<'_>,
@@ -186,14 +186,14 @@ fn wrong_destination(
 }
 
 impl Unmade<'_, '_> {
-    /// Returns the number of the line of the step at a place among those before.
+    /// Returns the number of the line of the step at an index among the earlier ones.
     fn line_of(&self, place: usize) -> u64 {
         self.line
             .saturating_sub(self.before.len() as u64)
             .saturating_add(place as u64)
     }
 
-    /// Returns whether the packet of this number has a crossing of this number on its path, both from 1.
+    /// Returns whether the packet with this number has a crossing with this number on its path, both 1-based.
     fn has_crossing(&self, packet: u64, crossing: u64) -> bool {
         match entry_numbered(self.state.packets(), packet) {
             Some(packet) => {
@@ -204,7 +204,7 @@ impl Unmade<'_, '_> {
         }
     }
 
-    /// Writes that a step before makes this crossing, and its line, if it is known.
+    /// Writes that an earlier step makes this crossing, and its line, if known.
     fn write_made(&self, out: &mut Explanation, packet: u64, crossing: u64) {
         for place in 0..self.before.len() {
             if makes(&self.before[place], packet, crossing) {
@@ -220,7 +220,7 @@ impl Unmade<'_, '_> {
         }
     }
 
-    /// Writes the line of the last step before that takes a record from there, if it is known.
+    /// Writes the line of the last earlier step that takes a record from there, if known.
     fn write_taken(&self, out: &mut Explanation, waiting: Waiting) {
         for after in 0..self.before.len() {
             let place = self.before.len() - 1 - after;
@@ -245,7 +245,7 @@ impl Unmade<'_, '_> {
         out.end_line();
     }
 
-    /// Writes how many choices a step has, and how many it should have.
+    /// Writes the number of choices that a step has, and the expected number.
     fn write_count(&self, out: &mut Explanation, choosers: &Choosers<'_>, written: usize) {
         let wanted = choosers.count();
         out.text_number("choices of the step: ", written as u64);
@@ -311,7 +311,7 @@ impl Unmade<'_, '_> {
         }
     }
 
-    /// Writes the step's line, what it is to do, and why it can't be made.
+    /// Writes the step's line, what the step does, and why it can't be made.
     pub(crate) fn write(&self, out: &mut Explanation) {
         write_step_line(out, self.line, self.step);
         out.text("this step is impossible; it asks for: ");
@@ -320,11 +320,11 @@ impl Unmade<'_, '_> {
     }
 }
 
-/// Writes a step as its line has it, which is of this number.
+/// Writes a step with this number as it is in its line.
 fn write_step_line(out: &mut Explanation, number: u64, step: &Step) {
     let mut octets = [0; 200];
     let mut room = Room::new(&mut octets);
-    // What has no room there is left out.
+    // What doesn't fit in the buffer is left out.
     let _written = put_step_line(&mut room, step);
     let shown = room.octets();
     let end = shown.len().saturating_sub(1);
@@ -336,7 +336,7 @@ fn write_step_line(out: &mut Explanation, number: u64, step: &Step) {
     write_line(out, &line);
 }
 
-/// Writes what is wrong with the choice at a place, from 0.
+/// Writes what is wrong with the choice at a 0-based index.
 fn write_wrong_choice(
     out: &mut Explanation,
     choosers: &Choosers<'_>,
@@ -363,7 +363,7 @@ fn write_same_key(out: &mut Explanation, position: Option<u64>) {
     }
 }
 
-/// Writes what is due as each of so many choices, and which exporting processes take none.
+/// Writes what is expected as each of the choices, and which exporting processes take none.
 fn write_choices_due(
     out: &mut Explanation,
     choosers: &Choosers<'_>,

@@ -1,4 +1,4 @@
-//! What a refutation writes, in words.
+//! Explaining the run of a refutation.
 ghost use Rattle.std.specs.Prelude.{◌≡◌, ◌⊎◌, IfErr, OnOk};
 ghost use Rattle.fx_base.specs.Device.{IsWriteFault, KeepsGoing};
 ghost use Rattle.fx_base.specs.Fault.{IsMemory};
@@ -20,7 +20,7 @@ use fx_run_text::Step;
 use fx_tables::{HolderName, Packet};
 use std::alloc::Global;
 
-/// Returns a record of a packet that comes from this cache or aggregation, where it arrives.
+/// Returns a record of a packet that comes from this cache or aggregation, as it arrives.
 pub(crate) fn arriving<'a>(
     documents: &'a Documents<'a>,
     packet: &'a Packet,
@@ -34,7 +34,7 @@ pub(crate) fn arriving<'a>(
     }
 }
 
-/// Writes why the record that arrives at a step isn't tallied or taken in, where it isn't.
+/// Writes why the record that arrives at a step isn't tallied or aggregated, if it isn't.
 fn write_lacking(
     out: &mut Explanation,
     documents: &Documents<'_>,
@@ -49,7 +49,7 @@ fn write_lacking(
     }
 }
 
-/// Writes the steps of a packet's run, each in a sentence with its number, and makes them.
+/// Makes the steps of a packet's run, and writes each in a sentence with its number.
 fn write_steps(
     out: &mut Explanation,
     documents: &Documents<'_>,
@@ -67,7 +67,7 @@ fn write_steps(
     }
 }
 
-/// Returns whether at a step a record reaches the collecting process of the report.
+/// Returns whether a record reaches the collecting process of the report at a step.
 fn is_reported(documents: &Documents<'_>, step: &Step) -> bool {
     let Step::Arrive { link, .. } = step else {
         return false;
@@ -99,19 +99,19 @@ fn write_reported(out: &mut Explanation, documents: &Documents<'_>, steps: &[Ste
     out.end_line();
 }
 
-/// Writes totals as reports have them.
+/// Writes totals in the form of reports.
 fn write_totals(out: &mut Explanation, totals: &Totals)
     requires { KeysAscend totals.now.entries }
 {
     let mut octets = [0; 4096];
     let mut room = Room::new(&mut octets);
-    // What has no room there is left out.
+    // What doesn't fit in the buffer is left out.
     let _written = totals.put_report(&mut room);
     out.lines_of(room.octets());
 }
 
-/// Writes how the packet of a refutation is counted and what to do about it, then its run, which is written already,
-/// the totals of that, and the plain sums.
+/// Writes how the packet of a refutation is counted and what to do about it, then the given text of its run, the run's
+/// totals, and the plain sums.
 fn write_compared(
     out: &mut Explanation,
     documents: &Documents<'_>,
@@ -157,8 +157,8 @@ fn write_run_alone(out: &mut Explanation, documents: &Documents<'_>, refutation:
     }
 }
 
-/// Writes the run of a refutation that isn't confirmed though each of its steps can be made, and what it leaves undone
-/// where it isn't complete (504).
+/// Writes the run of a refutation that isn't confirmed although each of its steps can be made, and what it leaves
+/// undone if it isn't complete (504).
 pub(crate) fn write_unconfirmed(
     out: &mut Explanation,
     documents: &Documents<'_>,
@@ -193,13 +193,13 @@ pub(crate) fn write_refutation(
     }
 }
 
-/// Explains a refutation in sentences. Where it is confirmed, how its packet is counted and what to do about that come
-/// first. Then its packet, with its class by name and its fields that aren't 0; each step with the names of what it is
-/// about, and what the key of a record lacks that stays unassigned or that an aggregation doesn't take in; at which
-/// steps a record reaches the report; and, where it is confirmed, the totals of its run and those that it should have.
-/// The text has no control characters but line feeds.
+/// Explains a refutation in sentences. If it is confirmed, writes first how its packet is counted and what to do about
+/// that. Then writes its packet, with its class by name and its fields that aren't 0; each step with the names of what
+/// it refers to, and what the key of a record lacks that remains unassigned or that an aggregation doesn't accept; at
+/// which steps a record reaches the report; and, if it is confirmed, the totals of its run and the expected ones. The
+/// text has no control characters but line feeds.
 ///
-/// Fails with 900 if out of memory, and then nothing is written; with 902 where a write fails.
+/// Fails with 900 if out of memory, and then nothing is written, and with 902 if a write fails.
 pub fn put_refutation_story<S: Sink>(
     alloc: Global,
     documents: &Documents<'_>,
@@ -216,11 +216,11 @@ pub fn put_refutation_story<S: Sink>(
     put_text(sink, out.octets()?)
 }
 
-/// Writes in sentences what a refutation says that is refused with 504 or 505: its packet and its steps, as
-/// [`put_refutation_story`] does, and for 504 what is left after the last step. The text has no control characters but
+/// Explains in sentences a refutation that is refused with 504 or 505: its packet and its steps, as
+/// [`put_refutation_story`] does, and for 504 what remains after the last step. The text has no control characters but
 /// line feeds.
 ///
-/// Fails with 900 if out of memory, and then nothing is written; with 902 where a write fails.
+/// Fails with 900 if out of memory, and then nothing is written, and with 902 if a write fails.
 pub fn put_unconfirmed_refutation<S: Sink>(
     alloc: Global,
     documents: &Documents<'_>,

@@ -1,4 +1,4 @@
-//! What a replayed run leaves undone, in words.
+//! What a replayed run leaves undone.
 ghost use Rattle.std.specs.Prelude.{◌≡◌, ◌⊎◌, IfErr, OnOk};
 ghost use Rattle.fx_base.specs.Device.{IsWriteFault, KeepsGoing};
 ghost use Rattle.fx_base.specs.Fault.{IsMemory};
@@ -10,12 +10,12 @@ use fx_explanation::{Documents, Explanation};
 use fx_machine::State;
 use std::alloc::Global;
 
-/// Writes in sentences what a run leaves undone of which this is the last state: which crossings are to come, the first
-/// 20 of them and how many others, and how many records each cache, each aggregation and each link still has, with the
-/// line by which the first of them goes on. Of a complete run nothing is written. The text has no control characters
-/// but line feeds.
+/// Writes in sentences what a run with this last state leaves undone: which crossings remain, the first 20 of them and
+/// the number of others; and how many records each cache, each aggregation and each link still has, with the line by
+/// which the first of them goes on. Writes nothing for a complete run. The text has no control characters but line
+/// feeds.
 ///
-/// Fails with 900 if out of memory, and then nothing is written; with 902 where a write fails.
+/// Fails with 900 if out of memory, and then nothing is written, and with 902 if a write fails.
 pub fn put_refused_replay<S: Sink>(
     alloc: Global,
     documents: &Documents<'_>,

@@ -9,7 +9,7 @@ use fx_base::{Line, refusals};
 use fx_explanation::Explanation;
 use fx_run_text::TextVersion;
 
-/// What the line before the one that is refused is.
+/// The kind of the line before the refused one.
 #[derive(Clone, Copy, Debug, PartialEq, Eq)]
 pub enum LineBefore {
     /// There is none.
@@ -21,7 +21,7 @@ pub enum LineBefore {
 }
 
 impl LineBefore {
-    /// Returns what a line of a run or a refutation is, by its number or its first word.
+    /// Returns the kind of a line of a run or a refutation, by its number or its first word.
     pub fn of(line: &Line<'_>) -> LineBefore
         ensures header { line.now.number ≡ 1 → result ≡ Header }
     {
@@ -46,7 +46,7 @@ pub(crate) fn version_of(line: &[u8]) -> TextVersion {
     }
 }
 
-/// Returns what is due after such a line of a run, or of a refutation, in words.
+/// Returns a description of what is expected after a line of this kind in a run, or in a refutation.
 fn due_words(before: LineBefore, is_refutation: bool) -> &'static str {
     match before {
         LineBefore::Nothing => "",
@@ -65,7 +65,7 @@ fn due_words(before: LineBefore, is_refutation: bool) -> &'static str {
     }
 }
 
-/// Writes what is wrong with the form of a line after such a one.
+/// Writes what is wrong with the form of a line after a line of this kind.
 pub(crate) fn write_form(
     out: &mut Explanation,
     version: TextVersion,
@@ -91,7 +91,7 @@ pub(crate) fn write_form(
     }
 }
 
-/// Writes that a text ends after such a line, before its line `end`.
+/// Writes that a text ends after a line of this kind, before its line `end`.
 pub(crate) fn write_end(out: &mut Explanation, number: u16, before: LineBefore) {
     if before == LineBefore::Nothing {
         out.sentence("the text is empty");

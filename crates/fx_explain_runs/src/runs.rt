@@ -1,4 +1,4 @@
-//! Why a run or a refutation is refused, in words.
+//! Explaining why a run or a refutation is refused.
 ghost use Rattle.std.specs.Prelude.{◌≡◌, ◌⊎◌, IfErr, OnOk};
 ghost use Rattle.fx_base.specs.Device.{IsWriteFault, KeepsGoing};
 ghost use Rattle.fx_base.specs.Fault.{IsMemory};
@@ -15,7 +15,7 @@ use fx_run_text::{RunLine, Step, TextVersion, read_run_line};
 use fx_tables::Packet;
 use std::alloc::Global;
 
-/// Returns whether a refusal is for the form of a line.
+/// Returns whether a refusal is about the form of a line.
 fn is_form(number: u16) -> bool {
     matches!(
         number,
@@ -26,7 +26,7 @@ fn is_form(number: u16) -> bool {
     )
 }
 
-/// A line of a text, as far as it is there.
+/// A line of a text that was searched by its number.
 #[derive(Drop)]
 struct Found {
     version: TextVersion,
@@ -34,7 +34,7 @@ struct Found {
     is_there: bool,
 }
 
-/// Goes to the line of this number, or to the end of the text.
+/// Advances to the line with this number, or to the end of the text.
 fn find_line(lines: &mut LineReader<Octets<'_>>, number: u64) -> Result<Found, Fault>
     ensures { IfErr result IsUnexplained }
 {
@@ -57,7 +57,7 @@ fn find_line(lines: &mut LineReader<Octets<'_>>, number: u64) -> Result<Found, F
     Ok(found)
 }
 
-/// Explains a refusal with this number at a line that was looked for.
+/// Explains a refusal with this number at a line that was searched.
 fn write_found(out: &mut Explanation, found: &Found, line: &Line<'_>, number: u16) {
     match (is_form(number), found.is_there) {
         (true, true) => write_form(out, found.version, line, number, found.before),
@@ -67,7 +67,7 @@ fn write_found(out: &mut Explanation, found: &Found, line: &Line<'_>, number: u1
     }
 }
 
-/// Returns what is to be said of the line of this number of a text.
+/// Returns the explanation of a refusal at the line with this number of a text.
 fn explanation_of(alloc: Global, text: &[u8], line: u64, number: u16) -> Result<Explanation, Fault>
     ensures { IfErr result IsUnexplained }
 {
@@ -78,12 +78,12 @@ fn explanation_of(alloc: Global, text: &[u8], line: u64, number: u16) -> Result<
     Ok(out)
 }
 
-/// Explains in sentences a refusal at a line of a run, of a refutation or of a schedule, whose octets are given as far
-/// as they were read: that line, at most 200 octets of it; of one whose form is wrong (501, 801, 854 and 855) the first
-/// word that is wrong and the form that the line should have. The text has no control characters but line feeds.
+/// Explains in sentences a refusal at a line of a run, of a refutation or of a schedule, whose octets are given up to
+/// where they were read. Writes that line, at most 200 octets of it; for a malformed line (501, 801, 854 and 855), the
+/// first wrong word and the expected form. The text has no control characters but line feeds.
 ///
-/// Fails with 900 where memory runs out; with 903 at a line of more than 4,096 octets; with 902 where a write fails.
-/// Nothing is written for a fault other than 902.
+/// Fails with 900 if out of memory, with 903 at a line of more than 4,096 octets, and with 902 if a write fails. For
+/// faults other than 902 nothing is written.
 pub fn put_text_line<S: Sink>(
     alloc: Global,
     text: &[u8],
@@ -100,11 +100,11 @@ pub fn put_text_line<S: Sink>(
     put_text(sink, out.octets()?)
 }
 
-/// Explains in sentences why the packet in this line of a run or of a refutation, from 1, isn't in its class (502,
-/// 856): its number in the run, its fields, and which of them lie outside of the class's region. The text has no
-/// control characters but line feeds.
+/// Explains in sentences why the packet in the line with this 1-based number of a run or of a refutation isn't in its
+/// class (502, 856): its number in the run, its fields, and which of them are outside the class's region. The text has
+/// no control characters but line feeds.
 ///
-/// Fails with 900 where memory runs out, and then nothing is written; with 902 where a write fails.
+/// Fails with 900 if out of memory, and then nothing is written, and with 902 if a write fails.
 pub fn put_refused_packet<S: Sink>(
     alloc: Global,
     documents: &Documents<'_>,
@@ -118,7 +118,7 @@ pub fn put_refused_packet<S: Sink>(
         ⊎ IsWriteFault (S.failed sink.new) e) }
 {
     let mut out = Explanation::new(alloc);
-    // The first line is the form's.
+    // The first line is the header.
     out.text_number("packet ", line.saturating_sub(1));
     write_fields(&mut out, ": ", &packet.fields, packet.octets);
     write_named_class(
@@ -131,7 +131,7 @@ pub fn put_refused_packet<S: Sink>(
     put_text(sink, out.octets()?)
 }
 
-/// Returns the packet that a line was read as.
+/// Returns the packet in a line that was read.
 fn packet_of(read: &Option<RunLine>) -> Option<Packet> {
     match read {
         Some(RunLine::Packet(packet)) => Some(*packet),
@@ -139,7 +139,7 @@ fn packet_of(read: &Option<RunLine>) -> Option<Packet> {
     }
 }
 
-/// Returns the packet that a line of a run's text has, of either version.
+/// Returns the packet in a line of a run's text, of either version.
 pub fn packet_in_line(alloc: Global, line: &[u8]) -> Option<Packet> {
     let Ok(read) = read_run_line(alloc, TextVersion::Two, line) else {
         return None;
@@ -175,12 +175,12 @@ fn write_unmade(
     unmade.write(out);
 }
 
-/// Writes in sentences why a step is refused (503, or 851 to 853) in the state before it: its line, which is of this
-/// number, what it names, and why it can't be made, with the position that a choice may be. `before` has the last steps
-/// before it, as far as they are known: the line of the one that made the crossing, or that took the last record. The
-/// text has no control characters but line feeds.
+/// Explains in sentences why a step is refused (503, or 851 to 853) in the state before it. Writes its line, which has
+/// this number, what it refers to, and why it can't be made, with the position that a choice may have. From `before`,
+/// which has the last steps before it insofar as they are known, writes the line of the step that made the crossing or
+/// took the last record. The text has no control characters but line feeds.
 ///
-/// Fails with 900 if out of memory, and then nothing is written; with 902 where a write fails.
+/// Fails with 900 if out of memory, and then nothing is written, and with 902 if a write fails.
 pub fn put_refused_step<S: Sink>(
     alloc: Global,
     documents: &Documents<'_>,

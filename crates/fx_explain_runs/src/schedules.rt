@@ -1,4 +1,4 @@
-//! Why a run over a capture is refused at a line of its schedule, or after the last, in sentences.
+//! Explaining why a run over a capture is refused at a line of its schedule, or after the last.
 ghost use Rattle.std.specs.Prelude.{◌≡◌, ◌⊎◌, IfErr, OnOk};
 ghost use Rattle.fx_base.specs.Device.{IsWriteFault, KeepsGoing};
 ghost use Rattle.fx_base.specs.Fault.{IsMemory};
@@ -15,14 +15,14 @@ use fx_pcap::{Frame, Skipped};
 use fx_tables::Class;
 use std::alloc::Global;
 
-/// Returns the class and the path that a line names after its first word.
+/// Returns the class and the path in a line after its first word.
 fn named_in(words: Words<'_>) -> Option<(u64, u64)> {
     let (class, words) = words.number()?;
     let (path, _words) = words.number()?;
     Some((class, path))
 }
 
-/// Returns the class and the path that a line `next` names, where it names them.
+/// Returns the class and the path in a line `next`, if it has them.
 fn named_by(line: &Line<'_>) -> Option<(u64, u64)> {
     let (kind, words) = Words::new(line.bytes).word()?;
     if !is_word(kind, b"next") {
@@ -31,7 +31,7 @@ fn named_by(line: &Line<'_>) -> Option<(u64, u64)> {
     named_in(words)
 }
 
-/// Returns the place of the first class that holds a packet, if one does.
+/// Returns the index of the first class that contains a packet, if there is one.
 fn first_class(classes: &[Class], fields: &Fields) -> Option<usize> {
     for place in 0..classes.len() {
         if classes[place].holds(fields) {
@@ -41,7 +41,7 @@ fn first_class(classes: &[Class], fields: &Fields) -> Option<usize> {
     None
 }
 
-/// Writes which class a line `next` alone would take for a packet.
+/// Writes which class a line `next` without arguments would choose for a packet.
 fn write_first_class(out: &mut Explanation, documents: &Documents<'_>, fields: &Fields) {
     let classes = documents.traffic.classes().as_slice();
     match first_class(classes, fields) {
@@ -58,7 +58,7 @@ the paths that they take, or filter the capture",
     }
 }
 
-/// Explains why the last packet is in no class, or not in the one that is named.
+/// Explains why the last packet is in no class, or not in the named one.
 fn write_packet(
     out: &mut Explanation,
     documents: &Documents<'_>,
@@ -102,14 +102,14 @@ fn write_metering(
     }
 }
 
-/// Explains in sentences why a run over a capture is refused with 802 to 804: the line of the schedule, at most 200
-/// octets of it; of one for which nothing is there (802) which number names nothing, or what is lacking; of a packet
-/// that isn't in its class (803, 804) its numbers among the packets and the frames of the capture, its fields, which of
-/// them lie outside of the class's region, and the first class that has it. The line is the one that was refused, the
-/// frame the last of so many packets that were read, besides the frames that were skipped. The text has no control
-/// characters but line feeds.
+/// Explains in sentences why a run over a capture is refused with 802 to 804. Writes the line of the schedule, at most
+/// 200 octets of it; for one that refers to something missing (802), which number refers to nothing, or what is
+/// missing; for a packet that isn't in its class (803, 804), its numbers among the packets and the frames of the
+/// capture, its fields, which of them are outside the class's region, and the first class that contains it. The line is
+/// the refused one; the frame is the last of the `packets` that were read, not counting the skipped frames. The text
+/// has no control characters but line feeds.
 ///
-/// Fails with 900 where memory runs out, and then nothing is written; with 902 where a write fails.
+/// Fails with 900 if out of memory, and then nothing is written, and with 902 if a write fails.
 pub fn put_refused_metering<S: Sink>(
     alloc: Global,
     documents: &Documents<'_>,

@@ -49,7 +49,7 @@ fn write_occurrences(out: &mut Explanation, plan: &Plan, device: u64, occurrence
     }
 }
 
-/// Writes that a packet of this number makes a crossing, and where it is metered.
+/// Writes that the packet with this number makes a crossing, and where it is metered.
 fn write_metering(
     out: &mut Explanation,
     plan: &Plan,

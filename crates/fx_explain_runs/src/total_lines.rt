@@ -1,4 +1,4 @@
-//! What is wrong with a line of totals, by what is due there.
+//! What is wrong with a line of totals, by what is expected there.
 use crate::line_forms::{Fit, fit_of};
 use crate::wrong_lines::{value_words, write_due, write_word};
 use fx_elements::{Axis, Element, is_word, read_value, read_written, split_at_byte, width};
@@ -8,7 +8,7 @@ use fx_layout::Layout;
 /// The form of a key's line.
 const KEY_LINE: &str = "KEY packets PACKETS octets OCTETS";
 
-/// Returns whether a word is the value of a field of a key: so many leading bits on an axis.
+/// Returns whether a word is the value of a field of a key: the given number of leading bits on an axis.
 fn is_value(axis: Axis, bits: u32, word: &[u8]) -> bool {
     if bits == width(axis) {
         return read_written(axis, word).is_some();
@@ -25,7 +25,7 @@ fn is_value(axis: Axis, bits: u32, word: &[u8]) -> bool {
     }
 }
 
-/// Returns the first word of what is left of a line, and what is left after it.
+/// Returns the first word of the rest of a line, and the rest after it.
 fn next_word(left: &[u8]) -> (&[u8], &[u8]) {
     match split_at_byte(left, b' ') {
         Some((word, rest)) => (word, rest),
@@ -33,17 +33,17 @@ fn next_word(left: &[u8]) -> (&[u8], &[u8]) {
     }
 }
 
-/// How far a line is a key of a report.
+/// How far a line is a key's line of a report.
 #[derive(Clone, Copy, Drop)]
 struct KeyFit<'a> {
-    /// How many of its words are values of the report's fields.
+    /// The number of its words that are values of the report's fields.
     fields: usize,
-    /// What is left of the line.
+    /// The rest of the line.
     left: &'a [u8],
 }
 
 impl KeyFit<'_> {
-    /// How far a line is a key of the network's report.
+    /// Returns how far a line is a key's line of the network's report.
     fn of<'a>(key: &Layout, line: &'a [u8]) -> KeyFit<'a> {
         let mut fields: usize = 0;
         let mut left = line;
@@ -59,7 +59,7 @@ impl KeyFit<'_> {
     }
 }
 
-/// Writes an axis, with the number of its leading bits where not all of them are meant.
+/// Writes an axis, with the number of its leading bits if not all are meant.
 fn write_part(out: &mut Explanation, axis: Axis, bits: u32) {
     out.text(axis_word(axis));
     if bits < width(axis) {
@@ -82,7 +82,7 @@ fn write_fields(out: &mut Explanation, key: &Layout) {
     out.sentence("; totals of another report have other fields, and aren't summed with these");
 }
 
-/// Writes the field of a key that is due after so many, and what may stand for it.
+/// Writes the field of a key that is expected after the given number of fields, and its allowed values.
 fn write_field_due(out: &mut Explanation, key: &Layout, fields: usize) {
     let Some(part) = key.parts().get(fields) else {
         return;
@@ -101,7 +101,7 @@ fn write_field_due(out: &mut Explanation, key: &Layout, fields: usize) {
     out.sentence(value_words(part.axis));
 }
 
-/// Returns whether two lines have the same key of so many fields.
+/// Returns whether two lines have the same key, which has the given number of fields.
 fn have_same_key(fields: usize, line: &[u8], other: &[u8]) -> bool {
     let mut left = line;
     let mut others = other;
@@ -117,7 +117,7 @@ fn have_same_key(fields: usize, line: &[u8], other: &[u8]) -> bool {
     true
 }
 
-/// Writes what is wrong with the place of a key's line that has a right form, after this one.
+/// Writes what is wrong with the position of a well-formed key's line, after the given line.
 fn write_order(out: &mut Explanation, fields: usize, line: &[u8], before: &[u8]) {
     out.text("the line before it: ");
     out.octets_of(before);
@@ -129,7 +129,7 @@ fn write_order(out: &mut Explanation, fields: usize, line: &[u8], before: &[u8])
     });
 }
 
-/// Writes what is wrong with the line of a key of the network's report, after this line.
+/// Writes what is wrong with a line for a key of the network's report, after the given line.
 pub(crate) fn write_key_line(out: &mut Explanation, key: &Layout, line: &[u8], before: &[u8]) {
     let read = KeyFit::of(key, line);
     let parts = key.parts().len();

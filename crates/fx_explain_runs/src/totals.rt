@@ -1,4 +1,4 @@
-//! Why a text of totals is refused, in words.
+//! Explaining why a text of totals is refused.
 ghost use Rattle.std.specs.Prelude.{◌≡◌, ◌⊎◌, IfErr, OnOk};
 ghost use Rattle.fx_base.specs.Device.{IsWriteFault, KeepsGoing};
 ghost use Rattle.fx_explanation.specs.Explanations.{IsUnexplained, WritesExplanation};
@@ -58,7 +58,7 @@ fn write_line_of(
     Ok(())
 }
 
-/// Returns what is to be said of totals that are refused.
+/// Returns the explanation of a refusal of totals.
 fn explanation_of(
     alloc: Global,
     key: Option<&Layout>,
@@ -77,13 +77,13 @@ fn explanation_of(
     Ok(out)
 }
 
-/// Explains in sentences why totals aren't summed, with 861 at a line: the line, at most 200 octets of it; which text
-/// of several it is in; what is due at it; and the first word of it that is wrong, or what it is, where that can be
-/// said; of a key's line also the fields of the report's key, where that is given, and whether its key stands twice or
-/// is out of order. The octets are those that were read. The text has no control characters but line feeds.
+/// Explains in sentences why totals aren't summed, with 861 at a line. Writes the line, at most 200 octets of it; which
+/// of several texts it is in; what is expected at it; and its first wrong word, or what the line is, if that can be
+/// told; for a key's line also the fields of the report's key, if given, and whether its key occurs twice or is out of
+/// order. The octets are those that were read. The text has no control characters but line feeds.
 ///
-/// Fails with 900 where memory runs out; with 903 at a line of more than 4,096 octets; with 902 where a write fails.
-/// Nothing is written for a fault other than 902.
+/// Fails with 900 if out of memory, with 903 at a line of more than 4,096 octets, and with 902 if a write fails. For
+/// faults other than 902 nothing is written.
 pub fn put_refused_totals<S: Sink>(
     alloc: Global,
     key: Option<&Layout>,

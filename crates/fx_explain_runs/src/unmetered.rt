@@ -4,10 +4,10 @@ use fx_elements::Axis;
 use fx_explanation::{Documents, Explanation, between, write_class, write_numbered};
 use fx_tables::{Crossing, Packet, Point, Selection};
 
-/// How many crossings are written.
+/// The maximum number of crossings that are written.
 const SHOWN: usize = 8;
 
-/// Writes the observation points that see a crossing.
+/// Writes the observation points that observe a crossing.
 fn write_watchers(out: &mut Explanation, documents: &Documents<'_>, crossing: &Crossing) {
     let mut shown = false;
     let points = documents.plan.net().points_of(crossing.device);
@@ -29,7 +29,7 @@ fn write_watchers(out: &mut Explanation, documents: &Documents<'_>, crossing: &C
     });
 }
 
-/// Writes what sees the first crossings of a path.
+/// Writes what observes the first crossings of a path.
 fn write_crossings_of(out: &mut Explanation, documents: &Documents<'_>, crossings: &[Crossing]) {
     let shown = crossings.len().min(SHOWN);
     for place in 0..shown {
@@ -46,7 +46,7 @@ fn write_crossings_of(out: &mut Explanation, documents: &Documents<'_>, crossing
     }
 }
 
-/// Returns whether a selection selects packets of other versions than this one alone.
+/// Returns whether a selection selects only packets of other IP versions than this one.
 fn is_of_others(selection: &Selection, version: u128) -> bool {
     match &selection.region {
         Some(region) => {
@@ -57,7 +57,7 @@ fn is_of_others(selection: &Selection, version: u128) -> bool {
     }
 }
 
-/// Returns whether a selection process of a point selects packets of other versions than this one alone.
+/// Returns whether a selection process of a point selects only packets of other IP versions than this one.
 fn has_others(point: &Point, version: u128) -> bool {
     for selection in point.selections() {
         if is_of_others(selection, version) {
@@ -67,8 +67,8 @@ fn has_others(point: &Point, version: u128) -> bool {
     false
 }
 
-/// Returns whether a selection process of a point that sees a crossing selects packets of other versions than this one
-/// alone.
+/// Returns whether a selection process of a point that observes a crossing selects only packets of other IP versions
+/// than this one.
 fn passes_over(documents: &Documents<'_>, crossing: &Crossing, version: u128) -> bool {
     for point in documents.plan.net().points_of(crossing.device) {
         if has_others(point, version) && point.watches(crossing) {
@@ -78,8 +78,7 @@ fn passes_over(documents: &Documents<'_>, crossing: &Crossing, version: u128) ->
     false
 }
 
-/// Writes that a packet is neither of IPv4 nor of IPv6, where that is why a point at one of these crossings passes it
-/// over.
+/// Writes that a packet is neither IPv4 nor IPv6, if that is why a point at one of these crossings doesn't meter it.
 fn write_version(
     out: &mut Explanation,
     documents: &Documents<'_>,

@@ -1,4 +1,4 @@
-//! What sees a region's packets along a path.
+//! What observes a region's packets along a path.
 use fx_base::{entry_at, entry_numbered};
 use fx_boxes::Region;
 use fx_config::{ObservationPoint, SelectionProcess};
@@ -8,7 +8,7 @@ use fx_plan::Plan;
 use fx_tables::{Crossing, Point, Selection};
 use fx_topology::NetworkDevice;
 
-/// How much of a region a selection process selects, in words.
+/// Returns a description of how much of a region a selection process selects.
 fn overlap_words(region: &Region, selection: &Selection) -> &'static str {
     match selection_overlap(region, &selection.region) {
         Overlap::Whole => " selects all of these packets",
@@ -45,7 +45,7 @@ struct Crossed<'a> {
     plan: &'a Plan,
     region: &'a Region,
     crossing: &'a Crossing,
-    /// Its number on the path, from 1.
+    /// Its 1-based number on the path.
     number: u64,
 }
 
@@ -80,7 +80,7 @@ fn write_selections(
     }
 }
 
-/// Writes what the points of a device do with the packets, and answers whether one sees them and selects.
+/// Writes what the points of a device do with the packets. Returns whether one observes and selects them.
 fn write_points(
     out: &mut Explanation,
     crossed: &Crossed<'_>,
@@ -100,7 +100,7 @@ fn write_points(
     seen
 }
 
-/// Writes what sees the packets at a crossing.
+/// Writes what observes the packets at a crossing.
 fn write_at(out: &mut Explanation, crossed: &Crossed<'_>) {
     let number = crossed.crossing.device;
     let Some(device) = entry_numbered(crossed.plan.network().devices.as_slice(), number) else {
@@ -114,7 +114,7 @@ fn write_at(out: &mut Explanation, crossed: &Crossed<'_>) {
     out.sentence(": no observation point with a selection process sees it");
 }
 
-/// Writes, for each crossing of a path, what sees the packets of a region there and where their records go.
+/// Writes, for each crossing of a path, what observes the packets of a region there and where their records go.
 pub(crate) fn write_watching(
     out: &mut Explanation,
     plan: &Plan,

@@ -1,20 +1,20 @@
-//! In which ways records come to the report, by what happened to them step by step.
+//! Counting the ways by which records reach the report, from what happened to them step by step.
 use std::alloc::{AllocError, Global};
 
-/// What happens to a record at a step, which is written by its place from 0.
+/// What happens to a record at a step, which is given by its 0-based index.
 #[derive(Clone, Copy)]
 pub(crate) enum Event {
-    /// It goes into the held record of this number.
+    /// The record is taken into the held record with this number.
     Taken {
         step: usize,
         into: usize,
     },
-    /// The held record of this number leaves.
+    /// The held record with this number leaves.
     Left {
         step: usize,
         record: usize,
     },
-    /// It arrives, at the report or elsewhere, and was sent at another step.
+    /// The record arrives, at the report or elsewhere, and was sent at another step.
     Arrived {
         step: usize,
         sent: usize,
@@ -22,28 +22,28 @@ pub(crate) enum Event {
     },
 }
 
-/// In how many ways records go on to the report at each step, and each held record.
+/// The number of ways to the report from each step, and from each held record.
 #[derive(Drop)]
 pub(crate) struct Ways {
     pub(crate) steps: Vec<usize>,
     pub(crate) records: Vec<usize>,
 }
 
-/// Adds to the number at a place.
+/// Adds to the number at an index.
 fn add(numbers: &mut [usize], place: usize, more: usize) {
     if let Some(number) = numbers.get_mut(place) {
         *number = number.saturating_add(more);
     }
 }
 
-/// Returns whether the number at a place isn't 0.
+/// Returns whether the number at an index isn't 0.
 pub(crate) fn is_some_at(numbers: &[usize], place: usize) -> bool {
     numbers.get(place).copied().unwrap_or(0) > 0
 }
 
 impl Ways {
-    /// Returns what these events come to, of so many steps and so many held records. What is after an event is known
-    /// before it.
+    /// Returns the ways that result from these events, for the given numbers of steps and of held records. The events
+    /// are considered from the last to the first.
     pub(crate) fn of(
         alloc: Global,
         events: &[Event],

@@ -4,7 +4,7 @@ use fx_base::Line;
 use fx_elements::{Axis, is_word, read_u64};
 use fx_explanation::{Explanation, are_digits, foreign_words};
 
-/// Returns what may stand for a value of an axis, in words.
+/// Returns a description of the allowed values of an axis.
 pub(crate) fn value_words(axis: Axis) -> &'static str {
     match axis {
         Axis::Source | Axis::Destination => ", an address of IPv4, as 192.0.2.1",
@@ -16,7 +16,7 @@ pub(crate) fn value_words(axis: Axis) -> &'static str {
     }
 }
 
-/// Returns what may stand for a word of a form, in words.
+/// Returns a description of what is allowed for a word of a form.
 fn due_words(form: &str, due: &str) -> &'static str {
     match axis_of(form, due) {
         Some(axis) => value_words(axis),
@@ -24,7 +24,7 @@ fn due_words(form: &str, due: &str) -> &'static str {
     }
 }
 
-/// Returns the same for a word that stands for no value of an axis.
+/// Returns a description of what is allowed for a word of a form that denotes no value of an axis.
 fn number_words(form: &str, due: &str) -> &'static str {
     match due {
         "CHOICES" => ", each of which is n or a number",
@@ -42,7 +42,7 @@ fn number_words(form: &str, due: &str) -> &'static str {
     }
 }
 
-/// Returns what is strange about a word, wherever it stands.
+/// Returns what is strange about a word, wherever it is.
 fn strange_word(word: &[u8]) -> Option<&'static str> {
     if word.is_empty() {
         Some("the line is empty")
@@ -67,9 +67,9 @@ fn strange_word(word: &[u8]) -> Option<&'static str> {
     }
 }
 
-/// How far a line is as the nearest of these forms wants it.
+/// Returns how far a line fits the nearest of these forms.
 pub(crate) fn nearest<'a>(forms: &[&'static str], line: &'a [u8]) -> Fit<'a> {
-    // No line has a line feed in it.
+    // This form fits no line, since no line contains a line feed.
     let mut best = fit_of("\n", line);
     for form in forms {
         let fit = fit_of(form, line);
@@ -80,7 +80,7 @@ pub(crate) fn nearest<'a>(forms: &[&'static str], line: &'a [u8]) -> Fit<'a> {
     best
 }
 
-/// Returns what is strange about a line that has an empty word, in words.
+/// Returns what is strange about a line that has an empty word.
 fn blank_words(line: &[u8]) -> &'static str {
     if line.is_empty() {
         "the line is empty"
@@ -93,7 +93,7 @@ fn blank_words(line: &[u8]) -> &'static str {
     }
 }
 
-/// Writes the first word of a line that is wrong, but for a line that begins a file of another kind.
+/// Writes the first wrong word of a line, unless the line begins a file of another kind.
 pub(crate) fn write_word(out: &mut Explanation, fit: &Fit<'_>, line: &[u8]) {
     if foreign_words(line).is_some() {
         return;
@@ -120,7 +120,7 @@ pub(crate) fn write_word(out: &mut Explanation, fit: &Fit<'_>, line: &[u8]) {
     out.end_line();
 }
 
-/// Writes what may follow so many words of a line that are as a form wants them.
+/// Writes what may follow the words of a line that fit a form.
 pub(crate) fn write_due(out: &mut Explanation, form: &'static str, fit: &Fit<'_>) {
     out.text("expected there: ");
     match fit.due {
@@ -134,7 +134,7 @@ pub(crate) fn write_due(out: &mut Explanation, form: &'static str, fit: &Fit<'_>
     out.sentence(form);
 }
 
-/// Writes the forms that a line may have that is as they want it up to so many words.
+/// Writes the forms that a line may have that fit it up to the given number of words.
 pub(crate) fn write_forms(out: &mut Explanation, forms: &[&'static str], line: &[u8], words: u64) {
     for form in forms {
         let fit = fit_of(form, line);
@@ -157,7 +157,7 @@ fn write_all_forms(out: &mut Explanation, forms: &[&'static str]) {
     out.end_line();
 }
 
-/// Returns what is wrong with a line that has a right form, in words.
+/// Returns what is wrong with a well-formed line.
 fn misplaced_words(kind: Kind, line: &Line<'_>) -> &'static str {
     match kind {
         _ if !line.ended => "no line feed ends the line",
@@ -168,8 +168,8 @@ fn misplaced_words(kind: Kind, line: &Line<'_>) -> &'static str {
     }
 }
 
-/// Writes the first word of a line that is wrong, and which form the line should have. Answers whether it may be
-/// another kind of line that is due: where no word after the first is wrong.
+/// Writes the first wrong word of a line, and which form the line should have. Returns whether it may be another kind
+/// of line that is expected, which is so if no word after the first is wrong.
 pub(crate) fn write_wrong_line(out: &mut Explanation, kind: Kind, line: &Line<'_>) -> bool {
     let forms = forms_of(kind);
     let fit = nearest(&forms, line.bytes);
@@ -190,7 +190,7 @@ pub(crate) fn write_wrong_line(out: &mut Explanation, kind: Kind, line: &Line<'_
     false
 }
 
-/// Returns what a text is that begins with this line, in words.
+/// Returns the kind of a text that begins with this line.
 fn text_words(line: &[u8]) -> Option<&'static str> {
     if line.starts_with(b"once-certificate ") {
         Some("this is a certificate, for once check")
@@ -209,7 +209,7 @@ fn text_words(line: &[u8]) -> Option<&'static str> {
     }
 }
 
-/// Returns what an answer of the program is that begins with this line, in words.
+/// Returns which answer of the program begins with this line.
 pub(crate) fn answer_words(line: &[u8]) -> Option<&'static str> {
     if line.starts_with(b"unknown ") {
         Some(
@@ -231,14 +231,15 @@ pub(crate) fn answer_words(line: &[u8]) -> Option<&'static str> {
     }
 }
 
-/// Writes what a text is that begins with this line, where that can be written.
+/// Writes the kind of a text that begins with this line, if known.
 fn write_text(out: &mut Explanation, line: &[u8]) {
     if let Some(words) = text_words(line) {
         out.sentence(words);
     }
 }
 
-/// Writes what the first line of a text should be, which begins with this name, and what it begins.
+/// Writes what the first line of a text should be, which begins with this name, and the kind of text that the given
+/// line begins.
 pub(crate) fn write_wrong_header(
     out: &mut Explanation,
     name: &'static str,
