@@ -1,4 +1,4 @@
-//! Why a capture can't be read, in words.
+//! Explaining why a capture can't be read.
 ghost use Rattle.std.specs.Prelude.{◌≡◌, ◌⊎◌, IfErr, OnOk};
 ghost use Rattle.fx_base.specs.Device.{IsWriteFault, KeepsGoing};
 ghost use Rattle.fx_base.specs.Fault.{IsMemory};
@@ -10,10 +10,11 @@ use fx_explanation::{
 };
 use std::alloc::Global;
 
-/// How many octets a capture's file header has.
+/// The size of a capture's file header in octets.
 const HEADER: usize = 24;
 
-/// Returns whether octets begin a capture whose numbers have the lower octet first, or the higher one, or none.
+/// Returns whether the numbers of the capture that octets begin have the lower octet first, or `None` if the octets
+/// begin no capture.
 fn is_reversed(octets: &[u8]) -> Option<bool> {
     match number32(octets, 0) {
         0xd4c3_b2a1 | 0x4d3c_b2a1 => Some(true),
@@ -22,7 +23,7 @@ fn is_reversed(octets: &[u8]) -> Option<bool> {
     }
 }
 
-/// Returns what octets are that begin no capture of the form that is read, with what to do about it.
+/// Returns a description of octets that begin no capture of a supported form, with what to do about it.
 fn other_format(octets: &[u8]) -> &'static str {
     if octets.is_empty() {
         "The file is empty."
@@ -39,7 +40,7 @@ fn other_format(octets: &[u8]) -> &'static str {
     }
 }
 
-/// Returns what octets are that begin no capture at all, with what to do about it.
+/// Returns a description of octets that begin no capture at all, with what to do about it.
 fn foreign_format(octets: &[u8]) -> &'static str {
     match packed_format(octets).or(flow_format(octets)) {
         Some(words) => words,
@@ -52,7 +53,7 @@ fn foreign_format(octets: &[u8]) -> &'static str {
     }
 }
 
-/// Returns a number of two octets of a capture's header, by their order.
+/// Returns a 16-bit number of a capture's header, in the given octet order.
 fn number_at(octets: &[u8], place: usize, reversed: bool) -> u16 {
     let number = number16(octets, place);
     if reversed {
@@ -80,7 +81,7 @@ fn write_header(out: &mut Explanation, octets: &[u8], reversed: bool) {
     out.sentence("; version 2.4 is read. Convert it: tshark -r OLD -F pcap -w NEW.");
 }
 
-/// Writes what the octets are that begin a file in the place of a capture.
+/// Writes what the octets are that a file begins with which was given as a capture.
 fn write_format(out: &mut Explanation, octets: &[u8]) {
     out.text("the first octets of the capture:");
     write_digits(out, octets);
@@ -91,7 +92,7 @@ fn write_format(out: &mut Explanation, octets: &[u8]) {
     }
 }
 
-/// What link types that aren't read are called, in the registry of tcpdump, with what their frames are.
+/// The names of link types that aren't supported, from tcpdump's registry, with what their frames are.
 const LINKS: [(u32, &str); 16] = [
     (0, " (NULL: the loopback of BSD)"),
     (9, " (PPP)"),
@@ -117,7 +118,7 @@ const LINKS: [(u32, &str); 16] = [
     (276, " (LINUX_SLL2: all interfaces of Linux at once)"),
 ];
 
-/// Returns what a link type is called, with what its frames are.
+/// Returns the name of a link type, with what its frames are.
 fn link_words(number: u32) -> &'static str {
     for (known, words) in &LINKS {
         if *known == number {
@@ -143,11 +144,11 @@ fn write_link(out: &mut Explanation, octets: &[u8]) {
     out.sentence("; 1 (ETHERNET) and 101 (RAW) are read");
 }
 
-/// Explains in sentences why a capture isn't read: of one whose form isn't read (701) its first octets and what they
-/// begin; of one with another link type (702) that type, by its number and its name. The octets are the first 24 of the
-/// file, or all where it has fewer. The text has no control characters but line feeds.
+/// Explains in sentences why a capture isn't read. For an unsupported form (701), writes its first octets and what they
+/// begin; for an unsupported link type (702), that type's number and name. The octets are the first 24 of the file, or
+/// all if it has fewer. The text has no control characters but line feeds.
 ///
-/// Fails with 900 where memory runs out, and then nothing is written; with 902 where a write fails.
+/// Fails with 900 if out of memory, and then nothing is written, and with 902 if a write fails.
 pub fn put_refused_capture<S: Sink>(
     alloc: Global,
     octets: &[u8],

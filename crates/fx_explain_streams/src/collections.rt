@@ -1,4 +1,4 @@
-//! What an answer of totals over a stream leaves out, in words.
+//! Explaining what an answer of totals over a stream leaves out.
 ghost use Rattle.std.specs.Prelude.{◌≡◌, ◌⊎◌, IfErr, OnOk};
 ghost use Rattle.fx_base.specs.Device.{IsWriteFault, KeepsGoing};
 ghost use Rattle.fx_base.specs.Fault.{IsMemory};
@@ -14,10 +14,10 @@ use fx_explanation::{Explanation, write_element};
 use fx_layout::Part;
 use fx_wire::{FieldSpecifier, TemplateKind};
 
-/// How many templates are listed.
+/// The maximum number of templates that are listed.
 const LISTED: usize = 20;
 
-/// Adds a message whose sequence number isn't the one that was due.
+/// Adds a message whose sequence number isn't the expected one.
 fn put_gap(out: &mut Explanation, gap: &Gap) {
     let found = gap.message.sequence;
     out.text_number("gap: message ", gap.message.number);
@@ -39,7 +39,7 @@ fn put_gap(out: &mut Explanation, gap: &Gap) {
     }
 }
 
-/// Adds the first gaps, and how many there are besides.
+/// Adds the first gaps, and the number of others.
 fn put_gaps(out: &mut Explanation, watch: &StreamWatch) {
     for gap in watch.first_gaps.as_slice() {
         put_gap(out, gap);
@@ -51,7 +51,7 @@ fn put_gaps(out: &mut Explanation, watch: &StreamWatch) {
     }
 }
 
-/// Returns the counters that a template lacks, if it lacks one.
+/// Returns the counters that a template lacks, if any.
 fn lacking_counters(fields: &[FieldSpecifier]) -> Option<&'static str> {
     let has_octets = has(fields, Element::OctetDeltaCount);
     let has_packets = has(fields, Element::PacketDeltaCount);
@@ -85,7 +85,7 @@ fn put_template(out: &mut Explanation, declared: &Declared) {
     out.text_number(" declares at octet ", declared.at.place);
 }
 
-/// Adds how many records something is about, after a text, and how many packets and octets they count.
+/// Adds a text, the number of records after it, and how many packets and octets they count.
 fn put_amount(out: &mut Explanation, before: &'static str, amount: &Amount) {
     out.text_number(before, amount.records);
     out.text_number(" (packets ", amount.packets);
@@ -93,7 +93,7 @@ fn put_amount(out: &mut Explanation, before: &'static str, amount: &Amount) {
     out.text(")");
 }
 
-/// Adds an observation point whose records are of both directions.
+/// Adds an observation point with records of both directions.
 fn put_both_directions(out: &mut Explanation, amounts: &PointAmounts) {
     if amounts.ingress.records == 0 || amounts.egress.records == 0 {
         return;
@@ -127,7 +127,7 @@ fn put_sampled(out: &mut Explanation, sampled: &Sampled) {
     out.sentence(": the totals are those of the sample, and aren't scaled up");
 }
 
-/// Adds what is doubtful in the records that are in the totals.
+/// Adds what is doubtful in the records that are included in the totals.
 fn put_doubts(out: &mut Explanation, doubts: &Doubts) {
     for amounts in doubts.points() {
         put_both_directions(out, amounts);
@@ -137,7 +137,7 @@ fn put_doubts(out: &mut Explanation, doubts: &Doubts) {
     }
 }
 
-/// Adds when the first and the last message left their exporters.
+/// Adds the export times of the first and the last message.
 fn put_export_times(out: &mut Explanation, watch: &StreamWatch) {
     if let Some((first, last)) = watch.export_times {
         out.text_number("messages: ", watch.message.number);
@@ -149,7 +149,7 @@ fn put_export_times(out: &mut Explanation, watch: &StreamWatch) {
     }
 }
 
-/// Adds what the records of a template lack of the report's key.
+/// Adds which fields of the report's key the records of a template lack.
 fn put_unassigned(out: &mut Explanation, key: &[Part], declared: &Declared) {
     let fields = declared.fields.as_slice();
     put_amount(out, "unassigned: ", &declared.left_out);
@@ -168,7 +168,7 @@ fn put_unassigned(out: &mut Explanation, key: &[Part], declared: &Declared) {
     });
 }
 
-/// Adds what the records of a template lack. Returns whether they lack something.
+/// Adds what the records of a template lack. Returns whether they lack anything.
 fn put_lacking(out: &mut Explanation, key: &[Part], declared: &Declared) -> bool {
     if declared.kind == TemplateKind::Options || declared.records == 0 {
         return false;
@@ -189,7 +189,7 @@ fn put_lacking(out: &mut Explanation, key: &[Part], declared: &Declared) -> bool
     false
 }
 
-/// Adds what the records of templates lack, of the first 20 that lack something.
+/// Adds what the records of templates lack, for the first 20 that lack anything.
 fn put_templates(out: &mut Explanation, watch: &StreamWatch) {
     let mut listed: usize = 0;
     for declared in watch.declarations.as_slice() {
@@ -207,7 +207,7 @@ fn put_templates(out: &mut Explanation, watch: &StreamWatch) {
     }
 }
 
-/// Adds what the totals over the stream leave out that was observed.
+/// Adds what was observed that the totals over the stream leave out.
 fn put_counted(out: &mut Explanation, watch: &StreamWatch) {
     if watch.message.number == 0 {
         out.sentence(
@@ -228,15 +228,15 @@ fn put_counted(out: &mut Explanation, watch: &StreamWatch) {
     put_export_times(out, watch);
 }
 
-/// Writes in sentences what the totals over an IPFIX stream leave out: the first three messages whose sequence number
-/// isn't the one that was due in their observation domain, with both numbers, and how many there are besides; the first
-/// 20 templates whose records lack a field of the report's key, or a counter, which field it is, how many records they
-/// are, and how many packets and octets those count; observation points whose records in the totals are of both
-/// directions (flowDirection), and templates whose records say that packets were sampled; that a stream has no
-/// messages, or no data records of flows; and when its first and last message left their exporters. The text has no
-/// control characters but line feeds.
+/// Explains in sentences what the totals over an IPFIX stream leave out: the first three messages whose sequence number
+/// isn't the expected one in their observation domain, with both numbers, and the number of others; the first 20
+/// templates whose records lack a field of the report's key, or a counter, with that field, the number of records, and
+/// how many packets and octets those count; observation points whose records in the totals are of both directions
+/// (flowDirection), and templates whose records say that packets were sampled; that a stream has no messages, or no
+/// data records of flows; and the export times of its first and last message. The text has no control characters but
+/// line feeds.
 ///
-/// Fails with 900 if this or the observer is out of memory, with nothing written; with 902 if a write fails.
+/// Fails with 900, with nothing written, if this or the observer ran out of memory, and with 902 if a write fails.
 pub fn put_left_out<S: Sink>(watch: &StreamWatch, sink: &mut S) -> Result<(), Fault>
     ensures ok { OnOk result (WritesExplanation (S.taken sink.old) (S.taken sink.new)) }
     ensures going { OnOk result (KeepsGoing (S.failed sink.old) (S.failed sink.new)) }

@@ -7,10 +7,10 @@ use fx_wire::{FieldSpecifier, TemplateKind};
 use std::alloc::{AllocError, Global};
 use std::collections::BTreeMap;
 
-/// How many declarations are kept.
+/// The maximum number of declarations that are kept.
 const DECLARATIONS: usize = 4096;
 
-/// How many fields are kept of all declarations together.
+/// The maximum number of fields of all declarations that are kept.
 const FIELDS: usize = 65_536;
 
 /// Where a template is declared.
@@ -18,9 +18,9 @@ const FIELDS: usize = 65_536;
 pub(crate) struct DeclaredAt {
     /// Its observation domain.
     pub(crate) domain: u32,
-    /// The number of its message, 1-based.
+    /// The 1-based number of its message.
     pub(crate) message: u64,
-    /// The place of its record's first octet in the stream, 0-based.
+    /// The 0-based index of its record's first octet in the stream.
     pub(crate) place: u64,
 }
 
@@ -29,42 +29,43 @@ pub(crate) struct DeclaredAt {
 pub(crate) struct Declared {
     /// Its id.
     pub(crate) id: u16,
-    /// Whether it is an options template.
+    /// Whether it is a template or an options template.
     pub(crate) kind: TemplateKind,
-    /// How many of its fields are scope fields.
+    /// The number of scope fields among its fields.
     pub(crate) scope: u16,
     /// Its fields.
     pub(crate) fields: Vec<FieldSpecifier>,
-    /// Where it is declared for the first time.
+    /// Where it is first declared.
     pub(crate) at: DeclaredAt,
     /// The number of the message that withdraws it, if one does.
     pub(crate) withdrawn: Option<u64>,
-    /// How many data records it has.
+    /// The number of its data records.
     pub(crate) records: u64,
-    /// Those of them that aren't in the totals: a counter is missing, or a field of the report's key, or bits of it.
+    /// Those of them that aren't included in the totals, because a counter or a field of the report's key is missing,
+    /// or bits of one.
     pub(crate) left_out: Amount,
     /// Whether its records have the report's key.
     pub(crate) reading: Reading,
     /// Whether its records lack a counter.
     pub(crate) lacks_counter: bool,
-    /// Whether its records have a direction, or say how packets were sampled.
+    /// Whether its records have a direction, or describe how packets were sampled.
     pub(crate) has_doubtful: bool,
 }
 
 impl Declared {
-    /// Returns whether each of its records is in the totals.
+    /// Returns whether all of its records are included in the totals.
     pub(crate) fn is_in_totals(&self) -> bool {
         matches!(self.reading, Reading::Each) && !self.lacks_counter
     }
 }
 
-/// The templates that a stream declares, as far as there is room: those of the first declarations.
+/// The templates that a stream declares: those of the first declarations, up to the maximum.
 #[derive(Drop)]
 pub(crate) struct Declarations {
     items: Vec<Declared>,
-    /// The places in `items` of those that are not withdrawn, by domain and id.
+    /// The indices in `items` of those that aren't withdrawn, by domain and id.
     live: BTreeMap<(u32, u16), usize>,
-    /// How many fields they have together.
+    /// The number of fields of all items.
     fields: usize,
     is_full: bool,
 }
@@ -80,17 +81,17 @@ impl Declarations {
         }
     }
 
-    /// Returns whether there was no room for some declaration.
+    /// Returns whether some declaration wasn't kept because the maximum was reached.
     pub(crate) fn is_full(&self) -> bool {
         self.is_full
     }
 
-    /// Returns the declarations in the order of the stream, those of withdrawn templates too.
+    /// Returns the declarations in the order of the stream, including those of withdrawn templates.
     pub(crate) fn as_slice(&self) -> &[Declared] {
         self.items.as_slice()
     }
 
-    /// Returns the place of the template of this id in this domain, or one after all.
+    /// Returns the index of the domain's template with this id, or an index past the end if there is none.
     fn place_of(&self, domain: u32, id: u16) -> usize {
         match self.live.get(&(domain, id)) {
             Some(place) => *place,
@@ -98,18 +99,18 @@ impl Declarations {
         }
     }
 
-    /// Returns the domain's template of this id.
+    /// Returns the domain's template with this id.
     pub(crate) fn live(&self, domain: u32, id: u16) -> Option<&Declared> {
         self.items.get(self.place_of(domain, id))
     }
 
-    /// Returns the domain's template of this id, to count its records.
+    /// Returns the domain's template with this id, to count its records.
     pub(crate) fn live_mut(&mut self, domain: u32, id: u16) -> Option<&mut Declared> {
         let place = self.place_of(domain, id);
         self.items.get_mut(place)
     }
 
-    /// Adds a template, unless it is declared already or there is no room.
+    /// Adds a template, unless it is already declared or the maximum is reached.
     ///
     /// Fails if out of memory.
     pub(crate) fn declare(
@@ -149,7 +150,7 @@ impl Declarations {
         Ok(())
     }
 
-    /// Notes that the message of this number withdraws the domain's template of this id, if there is one.
+    /// Notes that the message with this number withdraws the domain's template with this id, if there is one.
     pub(crate) fn withdraw(&mut self, domain: u32, id: u16, message: u64) {
         if let Some(place) = self.live.remove(&(domain, id)) {
             if let Some(declared) = self.items.get_mut(place) {
@@ -158,7 +159,7 @@ impl Declarations {
         }
     }
 
-    /// Notes that the message of this number withdraws all templates of this kind in the domain.
+    /// Notes that the message with this number withdraws all templates of this kind in the domain.
     pub(crate) fn withdraw_all(&mut self, domain: u32, kind: TemplateKind, message: u64) {
         for declared in self.items.iter_mut() {
             let is_meant = declared.at.domain == domain && declared.kind == kind;

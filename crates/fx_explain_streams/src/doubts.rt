@@ -1,13 +1,13 @@
-//! What is doubtful in the data records of a stream: that they are of both directions of one observation point, and
-//! that packets were sampled.
+//! What is doubtful in the data records of a stream: that they cover both directions at one observation point, and that
+//! packets were sampled.
 use fx_explanation::number_in;
 use fx_wire::{FieldSpecifier, cut_value};
 use std::alloc::AllocError;
 
-/// How many observation points are kept.
+/// The maximum number of observation points that are kept.
 const POINTS: usize = 64;
 
-/// How many templates are kept whose records say that packets were sampled.
+/// The maximum number of templates that are kept whose records say that packets were sampled.
 const SAMPLED: usize = 20;
 
 /// Elements of the IANA registry (RFC 5477, RFC 7270 and RFC 5102).
@@ -27,10 +27,10 @@ const OCTETS: u16 = 1;
 
 const PACKETS: u16 = 2;
 
-/// A samplingProbability of 1, as the octets of a number of 8 or of 4 octets (IEEE 754).
+/// A samplingProbability of 1, as the octets of a floating-point number of 8 or of 4 octets (IEEE 754).
 const CERTAIN: [u64; 2] = [0x3ff0_0000_0000_0000, 0x3f80_0000];
 
-/// How many data records, and what their counters come to.
+/// A number of data records, and the sums of their counters.
 #[derive(Clone, Copy, Drop)]
 pub(crate) struct Amount {
     pub(crate) records: u64,
@@ -54,7 +54,7 @@ impl Amount {
     }
 }
 
-/// What explanations read of a data record.
+/// The values that explanations read from a data record.
 #[derive(Clone, Copy, Drop)]
 pub(crate) struct RecordValues {
     /// Its packetDeltaCount, or 0.
@@ -67,7 +67,7 @@ pub(crate) struct RecordValues {
     direction: Option<u64>,
     /// The number of its last element that says that packets were sampled, or 0.
     sampling: u16,
-    /// The value of that.
+    /// The value of that element.
     interval: u64,
 }
 
@@ -89,7 +89,7 @@ impl RecordValues {
     }
 }
 
-/// Returns whether a value of an element says that not each packet was observed.
+/// Returns whether a value of an element says that not every packet was observed.
 fn says_sampled(element: u16, value: u64) -> bool {
     match element {
         SAMPLING_INTERVAL | SAMPLER_RANDOM_INTERVAL => value > 1,
@@ -99,8 +99,7 @@ fn says_sampled(element: u16, value: u64) -> bool {
     }
 }
 
-/// Returns whether an explanation reads values of a template's records one by one: their directions, or how packets
-/// were sampled.
+/// Returns whether explanations read values of each record of a template: directions, or how packets were sampled.
 pub(crate) fn has_doubtful(fields: &[FieldSpecifier]) -> bool {
     for field in fields {
         let is_one = matches!(
@@ -118,7 +117,7 @@ pub(crate) fn has_doubtful(fields: &[FieldSpecifier]) -> bool {
     false
 }
 
-/// Returns what explanations read of the record at the front of the octets.
+/// Returns the values that explanations read from the record at the beginning of the octets.
 pub(crate) fn values_of(fields: &[FieldSpecifier], octets: &[u8]) -> RecordValues {
     let mut values = RecordValues {
         packets: 0,
@@ -141,7 +140,7 @@ pub(crate) fn values_of(fields: &[FieldSpecifier], octets: &[u8]) -> RecordValue
     values
 }
 
-/// The records of an observation point, by their direction.
+/// The records of an observation point, by direction.
 #[derive(Clone, Copy, Drop)]
 pub(crate) struct PointAmounts {
     /// Its observation domain.
@@ -161,12 +160,11 @@ pub(crate) struct Sampled {
     pub(crate) id: u16,
     /// The element that says so.
     pub(crate) element: u16,
-    /// The value of that.
+    /// The value of that element.
     pub(crate) value: u64,
 }
 
-/// What is doubtful in a stream's records, as far as there is room: of the first 64 observation points and the first 20
-/// templates.
+/// What is doubtful in a stream's records, for the first 64 observation points and the first 20 templates.
 #[derive(Drop)]
 pub(crate) struct Doubts {
     points: Vec<PointAmounts>,
@@ -189,8 +187,8 @@ impl Doubts {
         self.sampled.as_slice()
     }
 
-    /// Returns the place of an observation point, which is added where it isn't there yet and there is room, or one
-    /// after all.
+    /// Returns the index of an observation point, which is added if it is new and there is room, or else an index past
+    /// the end.
     fn place_of(&mut self, domain: u32, point: u64) -> Result<usize, AllocError> {
         for place in 0..self.points.len() {
             if self.points[place].domain == domain && self.points[place].point == point {
@@ -209,7 +207,7 @@ impl Doubts {
         Ok(place)
     }
 
-    /// Adds a record that is in the totals, of this observation domain.
+    /// Adds a record of this observation domain that is included in the totals.
     pub(crate) fn add(&mut self, domain: u32, record: &RecordValues) -> Result<(), AllocError> {
         let Some(direction) = record.direction else {
             return Ok(());
@@ -235,7 +233,7 @@ impl Doubts {
         false
     }
 
-    /// Notes what a record of a template says of how packets were sampled.
+    /// Notes what a record of a template says about sampling.
     pub(crate) fn note_sampling(
         &mut self,
         domain: u32,

@@ -1,4 +1,4 @@
-//! Which fields of templates say the report's key.
+//! Which fields of templates provide the report's key.
 use fx_elements::{Axis, Element};
 use fx_explanation::number_in;
 use fx_layout::Part;
@@ -7,11 +7,11 @@ use fx_wire::{FieldSpecifier, cut_value};
 /// Whether the records of a template have the report's key.
 #[derive(Clone, Copy, Drop)]
 pub(crate) enum Reading {
-    /// Each has it.
+    /// All do.
     Each,
-    /// None has it: the template lacks a field.
+    /// None does: the template lacks a field.
     Never,
-    /// Those have it whose prefixes are long enough.
+    /// Those do whose prefixes are long enough.
     ByPrefixes,
 }
 
@@ -30,12 +30,12 @@ fn has_prefix(fields: &[FieldSpecifier], axis: Axis) -> bool {
     has(fields, Element::Prefix(axis)) && has(fields, Element::PrefixLength(axis))
 }
 
-/// Returns whether records of a template say something of an axis.
+/// Returns whether a template has a field of an axis.
 fn says(fields: &[FieldSpecifier], axis: Axis) -> bool {
     has(fields, Element::OnAxis(axis)) || has_prefix(fields, axis)
 }
 
-/// Returns the first part of a key of whose axis a template has no field, if there is one.
+/// Returns the first part of a key for whose axis a template has no field, if any.
 pub(crate) fn first_unsaid<'a>(fields: &[FieldSpecifier], key: &'a [Part]) -> Option<&'a Part> {
     for wanted in key {
         if !says(fields, wanted.axis) {
@@ -45,7 +45,7 @@ pub(crate) fn first_unsaid<'a>(fields: &[FieldSpecifier], key: &'a [Part]) -> Op
     None
 }
 
-/// Returns whether records of a template have an address of the other version of IP in place of the one of an axis.
+/// Returns whether records of a template have an address of the other IP version instead of the one of an axis.
 pub(crate) fn is_of_other_version(fields: &[FieldSpecifier], axis: Axis) -> bool {
     match axis {
         Axis::Source => says(fields, Axis::Source6),
@@ -56,7 +56,7 @@ pub(crate) fn is_of_other_version(fields: &[FieldSpecifier], axis: Axis) -> bool
     }
 }
 
-/// Returns whether the records of a template of these fields have a key.
+/// Returns whether the records of a template with these fields have a key.
 pub(crate) fn reading_of(fields: &[FieldSpecifier], key: &[Part]) -> Reading {
     if first_unsaid(fields, key).is_some() {
         return Reading::Never;
@@ -69,7 +69,7 @@ pub(crate) fn reading_of(fields: &[FieldSpecifier], key: &[Part]) -> Reading {
     Reading::Each
 }
 
-/// Returns how many leading bits of an address the prefix of the record at the front of the octets has.
+/// Returns the number of leading bits that the address prefix in the record at the beginning of the octets has.
 fn prefix_bits(fields: &[FieldSpecifier], octets: &[u8], axis: Axis) -> u32 {
     let mut rest = octets;
     for field in fields {
@@ -89,7 +89,8 @@ pub(crate) fn lacks_counter(fields: &[FieldSpecifier]) -> bool {
     !has(fields, Element::OctetDeltaCount) || !has(fields, Element::PacketDeltaCount)
 }
 
-/// Returns whether the record at the front of the octets lacks bits of a key whose axes all have fields.
+/// Returns whether the record at the beginning of the octets lacks bits of a key. The template has fields for all axes
+/// of the key.
 pub(crate) fn lacks_bits(fields: &[FieldSpecifier], key: &[Part], octets: &[u8]) -> bool {
     for wanted in key {
         if !has(fields, Element::OnAxis(wanted.axis))

@@ -1,4 +1,4 @@
-//! Explanations of captures and of streams of IPFIX messages.
+//! Explanations of captures and of IPFIX streams.
 #![tactic(auto)]
 
 mod captures;

@@ -1,4 +1,4 @@
-//! Data sets that are refused, in words.
+//! Explaining why data sets are refused.
 use crate::declarations::{Declarations, Declared};
 use crate::refused_messages::put_set;
 use crate::stream_watch::RefusedMessage;
@@ -7,10 +7,10 @@ use fx_explanation::{Explanation, number_in, number16, write_element, write_fiel
 use fx_session::StreamFault;
 use fx_wire::{FieldSpecifier, VARIABLE, cut_record, cut_value};
 
-/// How many templates are listed.
+/// The maximum number of templates that are listed.
 const LISTED: usize = 20;
 
-/// Adds the ids of the templates of a domain.
+/// Adds the ids of a domain's templates.
 fn put_live(out: &mut Explanation, declarations: &Declarations, domain: u32) {
     let mut listed: usize = 0;
     for declared in declarations.as_slice() {
@@ -31,7 +31,7 @@ fn put_live(out: &mut Explanation, declarations: &Declarations, domain: u32) {
     out.end_line();
 }
 
-/// Adds where a template is declared, and why it isn't that of the domain.
+/// Adds where a template is declared, and why it isn't one of the domain.
 fn put_declared(out: &mut Explanation, declared: &Declared, domain: u32) {
     out.text_number("message ", declared.at.message);
     out.text_number(" declares template ", u64::from(declared.id));
@@ -47,7 +47,7 @@ fn put_declared(out: &mut Explanation, declared: &Declared, domain: u32) {
     out.end_line();
 }
 
-/// Adds where templates of an id are declared, none of which is that of the domain.
+/// Adds where templates with an id are declared, none of which is one of the domain.
 fn put_elsewhere(out: &mut Explanation, declarations: &Declarations, domain: u32, id: u16) {
     let mut listed: usize = 0;
     for declared in declarations.as_slice() {
@@ -75,7 +75,7 @@ pub(crate) fn put_no_template(
     }
 }
 
-/// Returns how many octets the value has that begins with these.
+/// Returns the number of octets of the value that begins with the given octets.
 fn wanted(field: &FieldSpecifier, octets: &[u8]) -> u64 {
     if field.field_length != VARIABLE {
         return u64::from(field.field_length);
@@ -87,7 +87,7 @@ fn wanted(field: &FieldSpecifier, octets: &[u8]) -> u64 {
     }
 }
 
-/// Returns the axis of the address whose prefix is longer than it by this value of a field.
+/// Returns the axis whose addresses are shorter than the prefix length that is this field's value, if there is one.
 fn long_prefix(field: &FieldSpecifier, value: &[u8]) -> Option<Axis> {
     match field.element() {
         Element::PrefixLength(axis) if number_in(value) > u64::from(width(axis)) => Some(axis),
@@ -95,7 +95,8 @@ fn long_prefix(field: &FieldSpecifier, value: &[u8]) -> Option<Axis> {
     }
 }
 
-/// Adds the field at `place` of the data record of this number, which the set's last `left` octets begin with.
+/// Adds the field at index `place` of the data record with this number. The record begins with the set's last `left`
+/// octets.
 fn put_field_of(
     out: &mut Explanation,
     refused: &RefusedMessage,
@@ -112,9 +113,9 @@ fn put_field_of(
     out.text(", ");
 }
 
-/// Adds the field of the data record of this number, at the front of the octets, whose value passes the set's end or,
-/// if the set is refused for that, is the length of a prefix that is longer than its address. Returns whether there is
-/// one.
+/// Adds the field of the data record with this number, at the beginning of the octets, whose value extends past the
+/// set's end or, if that is why the set is refused, is the length of a prefix that is longer than its address. Returns
+/// whether there is one.
 fn put_wrong_value(
     out: &mut Explanation,
     refused: &RefusedMessage,

@@ -1,9 +1,9 @@
-//! Messages that are malformed or cut, in words.
+//! Explaining why messages are malformed or truncated.
 use crate::stream_watch::{MessageAt, RefusedMessage, SetAt};
 use fx_explanation::{Explanation, format_of, number16, part, write_digits};
 use fx_wire::Malformed;
 
-/// How many octets a message's header has.
+/// The size of a message's header in octets.
 const HEADER: usize = 16;
 
 /// Adds which message it is.
@@ -33,7 +33,7 @@ fn put_start(out: &mut Explanation, refused: &RefusedMessage) {
     out.end_line();
 }
 
-/// Adds what there is in place of a message of version 10.
+/// Adds what was found instead of a message of version 10.
 fn put_version(out: &mut Explanation, refused: &RefusedMessage) {
     put_start(out, refused);
     match format_of(refused.octets.as_slice()) {
@@ -58,7 +58,7 @@ fn put_version(out: &mut Explanation, refused: &RefusedMessage) {
     );
 }
 
-/// Adds that the stream ends inside of the message's header.
+/// Adds that the stream ends inside the message's header.
 fn put_cut_header(out: &mut Explanation, octets: &[u8]) {
     out.text_number(
         "the stream ends within the 16 octets of its header; octets left: ",
@@ -90,13 +90,13 @@ fn put_length(out: &mut Explanation, refused: &RefusedMessage) {
     out.end_line();
 }
 
-/// Returns whether no set may have this id.
+/// Returns whether this set id is reserved.
 fn is_reserved(id: u16) -> bool {
     id < 256 && id != 2 && id != 3
 }
 
-/// Returns the first set of the message that is no set of at least 4 octets, passes the message's end or has a reserved
-/// id, and how many octets the message has from there on; `None` if there is none.
+/// Returns the first set of the message that has fewer than 4 octets, extends past the message's end or has a reserved
+/// id, and the number of octets of the message from there on, or `None` if there is no such set.
 fn first_wrong_set(refused: &RefusedMessage) -> Option<(SetAt, usize)> {
     let message = part(
         refused.octets.as_slice(),
@@ -123,7 +123,7 @@ fn first_wrong_set(refused: &RefusedMessage) -> Option<(SetAt, usize)> {
     None
 }
 
-/// Adds why the length of a set is wrong of whose message so many octets are left.
+/// Adds why the length of a set is wrong, given the number of octets left in its message.
 fn put_set_length(out: &mut Explanation, set: &SetAt, left: usize) {
     if left < 4 {
         out.text_number("at octet ", set.place);
@@ -156,7 +156,7 @@ fn put_reserved(out: &mut Explanation, set: &SetAt) {
     });
 }
 
-/// Adds what is wrong with a message that is malformed or cut.
+/// Adds what is wrong with a malformed or truncated message.
 pub(crate) fn put_malformed(out: &mut Explanation, refused: &RefusedMessage, why: Malformed) {
     match why {
         Malformed::Version => put_version(out, refused),

@@ -1,4 +1,4 @@
-//! Template records that are refused, in words.
+//! Explaining why template records are refused.
 use crate::declarations::{Declarations, Declared};
 use crate::stream_watch::RefusedMessage;
 use fx_elements::Element;
@@ -8,7 +8,7 @@ use fx_wire::{
     FieldSpecifier, FieldSpecifiers, NewTemplate, TemplateHeading, TemplateKind, read_heading,
 };
 
-/// Returns what a template set of this id declares.
+/// Returns the kind of template that a template set with this id declares.
 fn kind_of(id: u16) -> TemplateKind {
     if id == 2 {
         TemplateKind::Plain
@@ -17,7 +17,7 @@ fn kind_of(id: u16) -> TemplateKind {
     }
 }
 
-/// Adds the template of this id, and where its record begins in the stream.
+/// Adds the template with this id, and where its record begins in the stream.
 fn put_template(out: &mut Explanation, refused: &RefusedMessage, id: u16) {
     out.text_number(
         match kind_of(refused.set.id) {
@@ -30,7 +30,7 @@ fn put_template(out: &mut Explanation, refused: &RefusedMessage, id: u16) {
     out.text_number(" at octet ", place);
 }
 
-/// Adds the field at this place of the template, 0-based, and how many there are.
+/// Adds the field at this 0-based index of the template, and the number of fields.
 fn put_field_number(
     out: &mut Explanation,
     refused: &RefusedMessage,
@@ -42,7 +42,7 @@ fn put_field_number(
     out.text_number(" of ", u64::from(new.count));
 }
 
-/// Adds why the record's head is refused.
+/// Adds why the record's header is refused.
 fn put_heading(out: &mut Explanation, refused: &RefusedMessage) {
     let octets = refused.octets.as_slice();
     let id = number16(octets, 0);
@@ -67,7 +67,7 @@ fn put_heading(out: &mut Explanation, refused: &RefusedMessage) {
     out.sentence("; at least one of an options template's fields must be");
 }
 
-/// Adds why the field at this place is refused, which begins with these octets.
+/// Adds why the field at this index is refused, which begins with these octets.
 fn put_wrong_field(
     out: &mut Explanation,
     refused: &RefusedMessage,
@@ -92,7 +92,7 @@ fn put_wrong_field(
     out.end_line();
 }
 
-/// Returns whether a field is a counter of flows of another length than 8 octets.
+/// Returns whether a field is a flow counter with a length other than 8 octets.
 fn is_narrow(field: &FieldSpecifier) -> bool {
     let is_counter = matches!(
         field.element(),
@@ -101,7 +101,7 @@ fn is_narrow(field: &FieldSpecifier) -> bool {
     is_counter && field.field_length != 8
 }
 
-/// Adds the first counter of flows of another length than 8 octets.
+/// Adds the first flow counter with a length other than 8 octets.
 fn put_narrow(
     out: &mut Explanation,
     refused: &RefusedMessage,
@@ -120,7 +120,7 @@ fn put_narrow(
     }
 }
 
-/// Returns the place of the first field in which two lists differ, or of the first that one of them lacks.
+/// Returns the index of the first field in which two lists differ, or of the first that only one of them has.
 fn first_difference(old: &[FieldSpecifier], new: &[FieldSpecifier]) -> Option<usize> {
     for place in 0..old.len().min(new.len()) {
         if old[place] != new[place] {
@@ -134,7 +134,8 @@ fn first_difference(old: &[FieldSpecifier], new: &[FieldSpecifier]) -> Option<us
     }
 }
 
-/// Adds whether a template and an options template differ in that, or two options templates in their scope.
+/// Adds whether one of two templates is an options template and the other isn't, or whether two options templates
+/// differ in their scope.
 fn put_kinds(out: &mut Explanation, old: &Declared, kind: TemplateKind, new: &NewTemplate) {
     if old.kind != kind {
         out.sentence(match old.kind {
@@ -151,7 +152,7 @@ fn put_kinds(out: &mut Explanation, old: &Declared, kind: TemplateKind, new: &Ne
     out.sentence(" now");
 }
 
-/// Adds the first fields in which two templates differ, or how many each has.
+/// Adds the first fields in which two templates differ, or the number of fields of each.
 fn put_difference(out: &mut Explanation, old: &[FieldSpecifier], new: &[FieldSpecifier]) {
     let Some(place) = first_difference(old, new) else {
         return;
@@ -173,7 +174,7 @@ fn put_difference(out: &mut Explanation, old: &[FieldSpecifier], new: &[FieldSpe
     }
 }
 
-/// Adds in what the template differs from the one of its id.
+/// Adds how the template differs from the one with its id.
 fn put_other(
     out: &mut Explanation,
     refused: &RefusedMessage,
@@ -189,8 +190,8 @@ fn put_other(
     put_difference(out, old.fields.as_slice(), fields);
 }
 
-/// Returns the fields of the record with these octets after its header; `None` if one is refused, which is explained, or
-/// if out of memory.
+/// Returns the fields of the record with these octets after its header. Returns `None` if one is refused, which is
+/// explained, or if out of memory.
 fn fields_of(
     out: &mut Explanation,
     refused: &RefusedMessage,
@@ -212,7 +213,7 @@ fn fields_of(
     Some(fields)
 }
 
-/// Adds why the template record is refused: for its head, a field, a counter, or the template that its id stands for.
+/// Adds why the template record is refused: for its header, a field, a counter, or the existing template with its id.
 pub(crate) fn put_refused_template(
     out: &mut Explanation,
     refused: &RefusedMessage,

@@ -1,4 +1,4 @@
-//! What explanations gather of a stream while it is read.
+//! What explanations record of a stream while it is read.
 use crate::declarations::{Declarations, Declared, DeclaredAt};
 use crate::doubts::{Doubts, values_of};
 use crate::key_fields::{Reading, lacks_bits};
@@ -8,20 +8,20 @@ use fx_session::{SessionWatch, StreamFault, Template};
 use fx_wire::{FieldSpecifier, Malformed, Message, Set, TemplateKind, cut_record};
 use std::alloc::{AllocError, Global};
 
-/// The most octets that a message can have.
+/// The maximum length of a message in octets.
 const LONGEST: usize = 65_535;
 
-/// How many gaps are kept.
+/// The maximum number of gaps that are kept.
 const GAPS: usize = 3;
 
 /// A message of a stream.
 #[derive(Clone, Copy, Drop)]
 pub(crate) struct MessageAt {
-    /// Its number, 1-based.
+    /// Its 1-based number.
     pub(crate) number: u64,
-    /// The place of its first octet in the stream, 0-based.
+    /// The 0-based index of its first octet in the stream.
     pub(crate) place: u64,
-    /// Its length by its header, in octets.
+    /// Its length in octets, as given in its header.
     pub(crate) length: u64,
     /// Its observation domain.
     pub(crate) domain: u32,
@@ -34,39 +34,39 @@ pub(crate) struct MessageAt {
 pub(crate) struct SetAt {
     /// Its id.
     pub(crate) id: u16,
-    /// The place of its first octet in the stream, 0-based.
+    /// The 0-based index of its first octet in the stream.
     pub(crate) place: u64,
-    /// Its length with its header, in octets.
+    /// Its length in octets, including its header.
     pub(crate) length: u64,
 }
 
-/// A message whose sequence number isn't the one that was due in its observation domain.
+/// A message whose sequence number isn't the one expected in its observation domain.
 #[derive(Clone, Copy, Drop)]
 pub(crate) struct Gap {
     /// The message.
     pub(crate) message: MessageAt,
-    /// The sequence number that was due.
+    /// The expected sequence number.
     pub(crate) due: u32,
 }
 
 /// The message at which a stream is refused.
 #[derive(Drop)]
 pub(crate) struct RefusedMessage {
-    /// Why.
+    /// The reason.
     pub(crate) fault: StreamFault,
     /// The message.
     pub(crate) message: MessageAt,
-    /// The refused set; of no meaning if the message is malformed or cut.
+    /// The refused set; meaningless if the message is malformed or truncated.
     pub(crate) set: SetAt,
-    /// From the first octet that the refusal is about on: of the message if it is malformed or cut, of the template
-    /// record, or of the data set's content.
+    /// The octets from the first one that the refusal is about: of the message if it is malformed or truncated, of the
+    /// template record, or of the data set's content.
     pub(crate) octets: Vec<u8>,
     /// The fields of the data set's template, if it has one.
     pub(crate) fields: Option<Vec<FieldSpecifier>>,
 }
 
 impl RefusedMessage {
-    /// Returns the place in the stream of the octet that `left` octets of the set follow, it included.
+    /// Returns the index in the stream of the octet from which on `left` octets of the set remain.
     pub(crate) fn place_before_end(&self, left: usize) -> u64 {
         self.set
             .place
@@ -78,17 +78,18 @@ impl RefusedMessage {
 /// An observer of a stream for [`put_refused_message`](crate::put_refused_message) and
 /// [`put_left_out`](crate::put_left_out).
 ///
-/// It keeps the first 4,096 declared templates with 65,536 fields together, the first 3 gaps, and at most 65,535 octets
-/// of a refused message. If it is out of memory it keeps less, and what it is asked for then fails with 900.
+/// It keeps the first 4,096 declared templates with at most 65,536 fields in total, the first 3 gaps, and at most
+/// 65,535 octets of a refused message. If it runs out of memory it keeps less, and the explanations that use it fail
+/// with 900.
 pub struct StreamWatch {
     alloc: Global,
-    /// Whether anything is to be kept.
+    /// Whether anything should be kept.
     is_wanted: bool,
-    /// The message that is read, or was read last.
+    /// The current message, or the last one.
     pub(crate) message: MessageAt,
-    /// Its set that is read.
+    /// Its current set.
     set: SetAt,
-    /// The place in the stream after that set, or after the message's header.
+    /// The index in the stream after that set, or after the message's header.
     after: u64,
     pub(crate) declarations: Declarations,
     /// The report's key.
@@ -101,14 +102,14 @@ pub struct StreamWatch {
     pub(crate) has_flows: bool,
     /// What is doubtful in the records.
     pub(crate) doubts: Doubts,
-    /// When the first and the last message left their exporters, in seconds since 1970.
+    /// The export times of the first and the last message, in seconds since 1970.
     pub(crate) export_times: Option<(u32, u32)>,
     pub(crate) refused: Option<RefusedMessage>,
     is_short: bool,
 }
 
 impl Drop for StreamWatch {
-    /// Drops its parts: proved once, and one call wherever one is dropped.
+    /// Drops its parts here, so that each drop elsewhere is one call.
     fn drop(self) {
         let Self {
             alloc: _,
@@ -130,7 +131,8 @@ impl Drop for StreamWatch {
 }
 
 impl StreamWatch {
-    /// Returns an observer that has seen nothing, and that keeps nothing where it isn't wanted. It takes no memory yet.
+    /// Returns an observer of a stream that hasn't begun. It keeps nothing unless `is_wanted` is true, and hasn't
+    /// allocated yet.
     pub fn new(alloc: Global, is_wanted: bool) -> StreamWatch {
         StreamWatch {
             alloc,
@@ -160,7 +162,7 @@ impl StreamWatch {
         }
     }
 
-    /// Returns an explanation without text; if an allocation failed while the stream was read, it notes that.
+    /// Returns an explanation without text, which notes if an allocation failed while the stream was read.
     pub(crate) fn begin_explanation(&self) -> Explanation {
         let mut out = Explanation::new(self.alloc);
         if self.is_short {
@@ -169,20 +171,20 @@ impl StreamWatch {
         out
     }
 
-    /// Notes whether it is out of memory.
+    /// Notes whether an allocation failed.
     fn note(&mut self, kept: Result<(), AllocError>) {
         if kept.is_err() {
             self.is_short = true;
         }
     }
 
-    /// Notes when a message left its exporter, in seconds since 1970.
+    /// Notes the export time of a message, in seconds since 1970.
     fn note_time(&mut self, time: u32) {
         let (first, last) = self.export_times.unwrap_or((time, time));
         self.export_times = Some((first.min(time), last.max(time)));
     }
 
-    /// Keeps what a refusal of `message` is about.
+    /// Keeps what the refusal of `message` is about.
     fn refuse(
         &mut self,
         message: MessageAt,
@@ -205,7 +207,7 @@ impl StreamWatch {
         Ok(())
     }
 
-    /// Keeps octets that are no whole message of well-formed sets.
+    /// Keeps octets that aren't a complete message of well-formed sets.
     fn refuse_octets(&mut self, place: u64, octets: &[u8], why: Malformed) {
         if !self.is_wanted {
             return;
@@ -222,7 +224,7 @@ impl StreamWatch {
     }
 }
 
-/// Notes what these first data records of a set of a template say.
+/// Notes the content of the first `records` data records in a set of a template.
 fn note_records(
     declared: &mut Declared,
     key: &[Part],

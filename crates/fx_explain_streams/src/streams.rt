@@ -1,4 +1,4 @@
-//! Why a message of an IPFIX stream is refused, in words.
+//! Explaining why a message of an IPFIX stream is refused.
 ghost use Rattle.std.specs.Prelude.{◌≡◌, ◌⊎◌, IfErr, OnOk};
 ghost use Rattle.fx_base.specs.Device.{IsWriteFault, KeepsGoing};
 ghost use Rattle.fx_base.specs.Fault.{IsMemory};
@@ -27,7 +27,7 @@ fn put_refused_set(out: &mut Explanation, watch: &StreamWatch, refused: &Refused
     }
 }
 
-/// Returns what is wrong with the message at which a stream was refused, if it was.
+/// Returns the explanation of what is wrong with the message at which a stream was refused, if it was.
 fn explanation_of(watch: &StreamWatch) -> Explanation {
     let mut out = watch.begin_explanation();
     if let Some(refused) = &watch.refused {
@@ -43,13 +43,12 @@ fn explanation_of(watch: &StreamWatch) -> Explanation {
     out
 }
 
-/// Writes in sentences what a refusal of a message of an IPFIX stream is about (611 to 620): the message's number, the
-/// place of its first octet and its observation domain; and what is wrong in it: the first octets, if they are no
-/// message of version 10, and what they begin; the set, the template, its field with its element and its length, or
-/// the data record. Nothing is written if the stream that was observed isn't refused. The text has no control
-/// characters but line feeds.
+/// Explains in sentences why a message of an IPFIX stream is refused (611 to 620): its number, the index of its first
+/// octet and its observation domain; and what is wrong in it: the first octets, if they are no message of version 10,
+/// and what they begin; the set, the template, its field with its element and its length, or the data record. Writes
+/// nothing if the stream wasn't refused. The text has no control characters but line feeds.
 ///
-/// Fails with 900 if this or the observer is out of memory, with nothing written; with 902 if a write fails.
+/// Fails with 900, with nothing written, if this or the observer ran out of memory, and with 902 if a write fails.
 pub fn put_refused_message<S: Sink>(watch: &StreamWatch, sink: &mut S) -> Result<(), Fault>
     ensures ok { OnOk result (WritesExplanation (S.taken sink.old) (S.taken sink.new)) }
     ensures going { OnOk result (KeepsGoing (S.failed sink.old) (S.failed sink.new)) }
