@@ -6,7 +6,7 @@ ghost use Rattle.fx_words.specs.Words.{words_at};
 use crate::refusal::Row;
 use fx_base::refusals;
 
-/// A row for each number.
+/// One row for each number.
 pub const CAPTURES: &[Row] = &[
     (
         refusals::CAPTURE_FORMAT,
@@ -43,7 +43,7 @@ pub const CAPTURES: &[Row] = &[
     ),
 ];
 
-/// The rows, in the order of their numbers.
+/// Returns the rows in the order of their numbers.
 pub(crate) fn rows() -> &'static [Row]
     ensures { map (λ r. words_at r.0 r.1.now r.2.now r.3.now r.4.now) result.now ≡ captures }
 {

@@ -1,4 +1,4 @@
-//! Refusals written out in words. Nothing here takes memory.
+//! Writing refusals in words, without allocating.
 ghost use Rattle.std.specs.Prelude.{◌≡◌, IfOk, map};
 ghost use Rattle.fx_base.specs.Device.{PutsText};
 ghost use Rattle.fx_base.specs.Refusals.{is_refusal_number};
@@ -13,7 +13,7 @@ use crate::{
 };
 use fx_base::{Fault, Sink, put_number, put_text};
 
-/// Writes a text on a line of its own behind a word, or nothing where there is no text.
+/// Writes a word and a text after it on a line of their own, or nothing if the text is empty.
 fn put_line<S: Sink>(sink: &mut S, word: &[u8], text: &str) -> Result<(), Fault>
     ensures { PutsText S.taken S.failed (line_behind word.now text.now) sink.old sink.new result }
 {
@@ -36,10 +36,10 @@ fn put_known_reason<S: Sink>(sink: &mut S, refusal: &Refusal) -> Result<(), Faul
     put_line(sink, b"see: ", refusal.section)
 }
 
-/// Writes what is wrong where a refusal has this number, its usual causes, what to do, and where to
-/// read on, each on a line; nothing for a number that no refusal has.
+/// Writes what is wrong if a refusal has this number, its usual causes, what to do, and where to read more, each on a
+/// line. Writes nothing if no refusal has this number.
 ///
-/// Fails with 902, at no place, where a write fails.
+/// Fails with 902, at no place, if a write fails.
 pub fn put_reason<S: Sink>(sink: &mut S, number: u16) -> Result<(), Fault>
     ensures { PutsText S.taken S.failed (reason_of (row_of number table)) sink.old sink.new result }
 {
@@ -49,7 +49,7 @@ pub fn put_reason<S: Sink>(sink: &mut S, number: u16) -> Result<(), Fault>
     }
 }
 
-/// Writes a refusal's number on a line, and its reason.
+/// Writes a refusal's number on a line, and its reason after it.
 fn put_known<S: Sink>(sink: &mut S, refusal: &Refusal) -> Result<(), Fault>
     ensures { PutsText S.taken S.failed (explanation_text (words_of refusal.now))
         sink.old sink.new result }
@@ -59,10 +59,10 @@ fn put_known<S: Sink>(sink: &mut S, refusal: &Refusal) -> Result<(), Fault>
     put_known_reason(sink, refusal)
 }
 
-/// Writes a number on a line, and its reason as [`put_reason`]; nothing for a number that no refusal
-/// has. Answers whether one has it.
+/// Writes a number on a line, and its reason as [`put_reason`] does. Writes nothing if no refusal has this number.
+/// Returns whether one has it.
 ///
-/// Fails as [`put_reason`].
+/// Fails as [`put_reason`] does.
 pub fn put_explanation<S: Sink>(sink: &mut S, number: u16) -> Result<bool, Fault>
     ensures written { PutsText S.taken S.failed (explanation_of (row_of number table))
         sink.old sink.new result }
@@ -77,7 +77,7 @@ pub fn put_explanation<S: Sink>(sink: &mut S, number: u16) -> Result<bool, Fault
     }
 }
 
-/// Writes rows, each in a line.
+/// Writes each row on a line.
 fn put_rows<S: Sink>(sink: &mut S, rows: &[Row]) -> Result<(), Fault>
     ensures { PutsText S.taken S.failed (list_text (map (λ r. words_at r.0 r.1.now r.2.now
         r.3.now r.4.now) rows.now)) sink.old sink.new result }
@@ -91,9 +91,9 @@ fn put_rows<S: Sink>(sink: &mut S, rows: &[Row]) -> Result<(), Fault>
     Ok(())
 }
 
-/// Writes each number and what is wrong, a line each, in the order of the numbers.
+/// Writes each number and what is wrong, one line per number, in the order of the numbers.
 ///
-/// Fails as [`put_reason`].
+/// Fails as [`put_reason`] does.
 pub fn put_refusal_list<S: Sink>(sink: &mut S) -> Result<(), Fault>
     ensures { PutsText S.taken S.failed (list_text table) sink.old sink.new result }
 {

@@ -1,4 +1,4 @@
-//! Refusals in words: what is wrong, the usual causes, what to do, and where to read on.
+//! Refusals in words: what is wrong, the usual causes, what to do, and where to read more.
 #![tactic(auto)]
 
 mod captures;

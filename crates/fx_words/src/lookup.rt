@@ -1,4 +1,4 @@
-//! A refusal's words, looked up by its number.
+//! Looking up a refusal's words by its number.
 ghost use Rattle.std.specs.Prelude.{◌≡◌, IfSome, is_some, map, option_map};
 ghost use Rattle.std.specs.Option.{option_or};
 ghost use Rattle.fx_base.specs.Refusals.{is_refusal_number};
@@ -10,7 +10,7 @@ use crate::{
     captures, certificates, devices, machine, networks, refutations, runs, streams, traffic,
 };
 
-/// The words of a number among some rows.
+/// Returns the words of a number if it is among some rows.
 fn refusal_among(rows: &[Row], number: u16) -> Option<Refusal>
     ensures { option_map words_of result
         ≡ row_of number (map (λ r. words_at r.0 r.1.now r.2.now r.3.now r.4.now) rows.now) }
@@ -23,7 +23,7 @@ fn refusal_among(rows: &[Row], number: u16) -> Option<Refusal>
     None
 }
 
-/// The words of a number that were found already, or those among some rows.
+/// Returns words that were already found, or else those of a number among some rows.
 fn found_or_among(found: Option<Refusal>, rows: &[Row], number: u16) -> Option<Refusal>
     ensures { option_map words_of result ≡ option_or (option_map words_of found)
         (row_of number (map (λ r. words_at r.0 r.1.now r.2.now r.3.now r.4.now) rows.now)) }
@@ -34,7 +34,7 @@ fn found_or_among(found: Option<Refusal>, rows: &[Row], number: u16) -> Option<R
     }
 }
 
-/// The words of a number, looked for in one table behind another.
+/// Returns the words of a number, searching one table after another.
 fn refusal_in_turn(number: u16) -> Option<Refusal>
     ensures { option_map words_of result ≡ row_of number table }
 {
@@ -49,7 +49,7 @@ fn refusal_in_turn(number: u16) -> Option<Refusal>
     found_or_among(found, machine::rows(), number)
 }
 
-/// The words of a refusal's number; none where no refusal has it.
+/// Returns the words of a refusal's number, or `None` if no refusal has it.
 pub fn refusal_of(number: u16) -> Option<Refusal>
     ensures words { option_map words_of result ≡ row_of number table }
     ensures known { is_some result ≡ is_refusal_number number }
