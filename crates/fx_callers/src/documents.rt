@@ -1,4 +1,4 @@
-//! A document of one's own, read by the walk.
+//! A document of one's own, read with the walk.
 ghost use Rattle.fx_callers.specs.Sites.{site_faults, site_of};
 
 use fx_base::{Fault, Name};
@@ -15,10 +15,10 @@ pub struct Site {
     pub racks: Sequence<Name>,
 }
 
-/// What reads sites.
+/// The reader of sites.
 pub struct SiteReader;
 
-/// A site: its name, which must be there (103), and at most 64 racks (115); no other member (102).
+/// Reads a site: its name, which is required (103), and at most 64 racks (115). Other members are refused (102).
 impl FromValue for SiteReader {
     type Read = Site;
 

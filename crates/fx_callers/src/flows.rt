@@ -7,10 +7,10 @@ use fx_layout::{Key, Seed};
 use fx_store::{BoundedStore, FlowStore};
 use std::alloc::Global;
 
-/// A store of nothing, with room for so many flows. Its seed should be numbers at random, so that nobody can choose keys
-/// that are slow to find.
+/// Returns an empty store with room for the given number of flows. Its seed should be random, so that nobody can choose
+/// keys that are slow to find.
 ///
-/// Fails with 900, at no place, for want of memory.
+/// Fails with 900, at no place, if out of memory.
 pub fn room_for(alloc: Global, seed: Seed, count: usize) -> Result<BoundedStore, Fault>
     requires { 1 ≤ count }
     ensures { IfOk result (λ store. store ≡ record { entries = []; capacity = count }) }
@@ -18,9 +18,10 @@ pub fn room_for(alloc: Global, seed: Seed, count: usize) -> Result<BoundedStore,
     BoundedStore::new(alloc, seed, count)
 }
 
-/// Counts a packet of so many octets under a key, and answers the flow that left to make room for it, if one did.
+/// Counts a packet with the given number of octets under a key, and returns the flow that left to make room for it, if
+/// one did.
 ///
-/// Fails with 900, at no place, for want of memory.
+/// Fails with 900, at no place, if out of memory.
 pub fn count_packet<S: FlowStore>(
     store: &mut S,
     key: Key,

@@ -11,9 +11,9 @@ use fx_plan::Plan;
 use fx_tables::Crossing;
 use std::alloc::Global;
 
-/// The one occurrence at which each packet of a region that takes a path is counted.
+/// Returns the one occurrence at which each packet of a region that takes a path is counted.
 ///
-/// Fails as [`fate`], and with 900 for want of memory.
+/// Fails as [`fate`] does, and with 900 if out of memory.
 pub fn leaf_of(
     alloc: Global,
     plan: &Plan,

@@ -1,4 +1,4 @@
-//! A caller of each crate that others may build on: what its CALLING.md quotes, proved.
+//! A caller of each crate that others may build on: the code that its CALLING.md quotes, proved.
 #![tactic(auto)]
 
 mod documents;

@@ -7,9 +7,9 @@ use fx_session::Session;
 use fx_tables::Record;
 use std::alloc::Global;
 
-/// The flow records of an IPFIX stream that is in memory, in order.
+/// Returns the flow records of an IPFIX stream in memory, in order.
 ///
-/// Fails as [`Session::feed`] where a message is refused, and with 900 for want of memory.
+/// Fails as [`Session::feed`] does if a message is refused, and with 900 if out of memory.
 pub fn records_of(alloc: Global, stream: &[u8]) -> Result<Vec<Record>, Fault>
     ensures { IfOk result (λ records. records.items
         ≡ (after_piece start stream.now).known.waiting) }

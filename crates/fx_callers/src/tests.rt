@@ -1,4 +1,4 @@
-//! The callers, called over a meter at one interface that exports to a collector.
+//! The callers, called with a meter at one interface that exports to a collector.
 use crate::documents::SiteReader;
 use crate::flows::{count_packet, room_for};
 use crate::leaves::leaf_of;
@@ -26,19 +26,19 @@ const NETWORK: &str = r#"{"devices":[{"name":"m1","config":{"ietf-ipfix-psamp:ip
 "report":{"device":"c1","collectingProcess":"cp","key":[{"ieName":"sourceIPv4Address"}]}}
 "#;
 
-/// The traffic: one class, whose packets come into the meter.
+/// The traffic: one class, whose packets enter the meter.
 const TRAFFIC: &str =
     r#"{"classes":[{"name":"web","region":{"sourceIPv4Address":"10.0.0.0/8"},"paths":[[{"device":"m1","interface":"eth0","direction":"ingress"}]]}]}
 "#;
 
-/// Whether a site's racks are read.
+/// Returns whether a site's racks are read.
 fn is_read(alloc: Global) -> Result<bool, Fail> {
     let value = Value::from_str(alloc, r#"{"name":"s1","rack":["r1","r2"]}"#)?;
     let site = SiteReader::from_value(alloc, &DocumentPath::Root, &value)?;
     Ok(site.racks.as_slice().len() == 2)
 }
 
-/// Whether a second packet joins the flow of the first in a store with room for one.
+/// Returns whether a second packet joins the flow of the first in a store with room for one.
 fn is_joined(alloc: Global) -> Result<bool, Fail> {
     let mut store = room_for(alloc, Seed::new(1, 2), 1)?;
     let fields = Region::whole().corner();
@@ -47,7 +47,7 @@ fn is_joined(alloc: Global) -> Result<bool, Fail> {
     Ok(first.is_none() && second.is_none())
 }
 
-/// Whether the packets of the class are counted at its one crossing, exactly once.
+/// Returns whether the packets of the class are counted at its one crossing, exactly once.
 fn is_counted(alloc: Global) -> Result<bool, Fail> {
     let plan = read_plan(alloc, &Value::from_str(alloc, NETWORK)?)?;
     let traffic = read_traffic(alloc, &Value::from_str(alloc, TRAFFIC)?, &plan)?;
