@@ -1,4 +1,4 @@
-//! Lines, names, places, numbers and texts written out, and devices that fail.
+//! Lines, names, places, numbers and texts that are written, and devices that fail.
 ghost use Rattle.std.specs.Prelude.{◌≤◌};
 
 use crate::answers::{ends, is_refused};
@@ -10,13 +10,13 @@ use fx_base::{
 use std::alloc::Global;
 use std::process::Abort;
 
-/// A text of one character, more often than a line may have it.
+/// A line with one octet more than allowed.
 const LONG: [u8; 4097] = [b'x'; 4097];
 
-/// A text of one line that is as long as a line may be.
+/// A line of the maximum length.
 const LONGEST: [u8; 4096] = [b'x'; 4096];
 
-/// A line's bytes, its number, and whether a line feed ended it.
+/// A line's octets, its number, and whether a line feed ended it.
 type Told<'a> = (&'a [u8], u64, bool);
 
 /// Texts, and the lines of each.
@@ -32,15 +32,15 @@ const TEXTS: [(&[u8], &[Told<'static>]); 3] = [
 /// Two lines.
 const TWO_LINES: [Told<'static>; 2] = [(b"one", 1, true), (b"two", 2, true)];
 
-/// The line in front of one that is too long.
+/// The line before one that is too long.
 const ONE_LINE: [Told<'static>; 1] = [(b"one", 1, true)];
 
-/// Whether a line is this one.
+/// Returns whether a line is the given one.
 fn is_line(line: Line<'_>, want: &Told<'_>) -> bool {
     line.bytes == want.0 && line.number == want.1 && line.ended == want.2
 }
 
-/// Whether a line that is lent is this one.
+/// Returns whether a lent line is the given one.
 fn is_lent(lent: Result<Option<Line<'_>>, Fault>, want: &Told<'_>) -> bool {
     match lent {
         Ok(Some(line)) => is_line(line, want),
@@ -48,7 +48,7 @@ fn is_lent(lent: Result<Option<Line<'_>>, Fault>, want: &Told<'_>) -> bool {
     }
 }
 
-/// Whether these lines come next in a reader.
+/// Returns whether a reader's next lines are the given ones.
 fn are_next<S: Source>(reader: &mut LineReader<S>, lines: &[Told<'_>]) -> bool {
     let mut held = true;
     for line in lines {
@@ -59,7 +59,7 @@ fn are_next<S: Source>(reader: &mut LineReader<S>, lines: &[Told<'_>]) -> bool {
     held
 }
 
-/// Whether no line is lent.
+/// Returns whether no line is lent.
 fn is_none(lent: Result<Option<Line<'_>>, Fault>) -> bool {
     match lent {
         Ok(line) => line.is_none(),
@@ -67,7 +67,7 @@ fn is_none(lent: Result<Option<Line<'_>>, Fault>) -> bool {
     }
 }
 
-/// Whether a source has these lines, and no others.
+/// Returns whether a source has exactly these lines.
 fn has_lines<S: Source>(rt: &impl Abort, alloc: Global, source: S, lines: &[Told<'_>]) -> bool {
     let mut reader = LineReader::new(alloc, source).expect(rt, "memory");
     are_next(&mut reader, lines)
@@ -83,7 +83,7 @@ fn lends_lines_of_up_to_4096_bytes(rt: HostRuntime) {
     }
 }
 
-/// Whether a source has these lines, and a reader of it answers this fault from then on.
+/// Returns whether a source has these lines, and a reader of it returns this fault from then on.
 fn fails_behind<S: Source>(
     rt: &impl Abort,
     alloc: Global,
@@ -115,22 +115,22 @@ fn refuses_a_line_of_4097_bytes(rt: HostRuntime) {
     assert!(rt; fails_behind(&rt, rt.alloc(), source, &ONE_LINE, &Fault::at_line(903, 2)));
 }
 
-/// The name that a text is.
+/// Returns the name with this text.
 fn name(rt: &impl Abort, alloc: Global, text: &str) -> Name {
     Name::read(alloc, text).expect(rt, "a name")
 }
 
-/// Whether a text is a name.
+/// Returns whether a text is a valid name.
 fn is_name(rt: &impl Abort, alloc: Global, text: &str) -> bool {
     name(rt, alloc, text).as_str() == text
 }
 
-/// Whether a text is refused for a name.
+/// Returns whether a text is refused as a name.
 fn is_no_name(alloc: Global, text: &str) -> bool {
     ends(Name::read(alloc, text), 105)
 }
 
-/// Whether two texts are the same name.
+/// Returns whether two texts are the same name.
 fn are_same(rt: &impl Abort, alloc: Global, text: &str, other: &str) -> bool {
     name(rt, alloc, text).same(&name(rt, alloc, other))
 }
@@ -146,7 +146,7 @@ fn reads_names(rt: HostRuntime) {
     );
 }
 
-/// Texts that are no names.
+/// Texts that are no valid names.
 const NO_NAMES: [&str; 8] = [
     "",
     " ",
@@ -172,7 +172,7 @@ fn reads_names_of_up_to_255_bytes(rt: HostRuntime) {
     assert!(rt; is_name(&rt, rt.alloc(), longest) & is_no_name(rt.alloc(), longer));
 }
 
-/// Whether a fault's place is put and printed as this text.
+/// Returns whether a fault's place is written and formatted as this text.
 fn is_placed(rt: &impl Abort, alloc: Global, fault: Fault, want: &str) -> bool {
     let mut octets = [0u8; 32];
     let mut room = Room::new(&mut octets);
@@ -181,7 +181,7 @@ fn is_placed(rt: &impl Abort, alloc: Global, fault: Fault, want: &str) -> bool {
     (room.octets() == want.as_bytes()) & (printed.as_str() == want)
 }
 
-/// Whether a text with control characters is put and printed with question marks.
+/// Returns whether a text with control characters is written and formatted with question marks.
 fn is_text_placed(rt: &impl Abort, alloc: Global) -> bool {
     let text = String::from_str(alloc, "/a\tb\u{7F}\u{1F} \u{80}\u{E9}/0").expect(rt, "memory");
     is_placed(
@@ -203,8 +203,7 @@ fn prints_places(rt: HostRuntime) {
     );
 }
 
-/// Puts the least and the greatest numbers, and a fault with a place and one without: whether there
-/// was room.
+/// Writes the least and the greatest numbers, and a fault with a place and one without. Returns whether there was room.
 fn put_all<S: Sink>(sink: &mut S) -> bool {
     ends(put_number(sink, 0), 0)
         & ends(put_text(sink, b" "), 0)
@@ -226,7 +225,7 @@ fn puts_numbers_and_faults(rt: HostRuntime) {
     assert!(rt; is_put & (room.octets() == want.as_bytes()));
 }
 
-/// Whether a text is refused for want of room.
+/// Returns whether a text is refused because there is no room.
 fn is_full<S: Sink>(sink: &mut S, text: &[u8]) -> bool {
     ends(put_text(sink, text), 902)
 }
@@ -241,7 +240,7 @@ fn fills_room(rt: HostRuntime) {
     );
 }
 
-/// Puts three texts: whether the second alone is refused.
+/// Writes three texts, and returns whether only the second is refused.
 fn fails_at_second<S: Sink>(sink: &mut S) -> bool {
     ends(put_text(sink, b"1"), 0) & is_full(sink, b"2") & ends(put_text(sink, b"3"), 0)
 }
@@ -254,7 +253,7 @@ fn fails_at_the_call_that_a_fuse_names(rt: HostRuntime) {
     assert!(rt; fails & (sink.into_inner().octets() == b"13".as_slice()));
 }
 
-/// Puts three octets in two calls, and tells whether the next call fails.
+/// Writes three octets in two calls, and returns whether the next call fails.
 fn fails_after_three<S: Sink>(sink: &mut S) -> bool {
     ends(put_text(sink, b"12"), 0) & ends(put_number(sink, 3), 0) & is_full(sink, b"4")
 }
@@ -268,7 +267,7 @@ fn lends_devices(rt: HostRuntime) {
     assert!(rt; fails & is_lent & (room.octets() == b"123".as_slice()));
 }
 
-/// Whether what a source has left is this.
+/// Returns whether the given octets remain in a source.
 fn is_left<S: Source>(rt: &impl Abort, alloc: Global, source: &mut S, want: &[u8]) -> bool {
     read_whole(alloc, source).expect(rt, "octets").as_slice() == want
 }
@@ -283,7 +282,7 @@ fn reads_a_source_whole(rt: HostRuntime) {
     assert!(rt; is_read & fails);
 }
 
-/// Whether this piece comes next in a source.
+/// Returns whether a source's next piece is the given one.
 fn is_next_piece<S: Source>(pieces: &mut PieceReader, source: &mut S, want: &[u8]) -> bool {
     (pieces.advance(source).ok() == Some(!want.is_empty())) & (pieces.piece() == want)
 }
@@ -299,8 +298,8 @@ fn lends_pieces_of_a_source(rt: HostRuntime) {
     );
 }
 
-/// Whether a window of four octets on `12345678` is filled where so many are wanted, and again
-/// behind three of them, where it fails first with this number, or doesn't for 0.
+/// Returns whether a window of four octets on `12345678` is filled when `wanted` octets are requested, and filled again
+/// after three of them are passed. The second time it first fails with this number, unless the number is 0.
 fn fills_again<S: Source>(
     rt: &impl Abort,
     alloc: Global,
@@ -339,7 +338,7 @@ fn fills_a_window_again(rt: HostRuntime) {
     );
 }
 
-/// Whether a text is written to a device outside, which has these octets then.
+/// Returns whether a text that is written to an outside device arrives there.
 fn is_written(alloc: Global, text: &[u8]) -> bool {
     let mut sink = Outside::new(Vec::new(alloc));
     ends(put_text(&mut sink, text), 0) & (sink.into_inner().as_slice() == text)

@@ -1,8 +1,8 @@
-//! Regions that are split, meet and hold fields.
+//! Regions that are split, intersected and searched for fields.
 use fx_boxes::{Fields, Region};
 use fx_elements::Axis;
 
-/// Whether a region and a part of it meet within that part.
+/// Returns whether a region and a part of it intersect within that part.
 fn meet(whole: &Region, part: &Region) -> bool {
     match whole.meet(part) {
         Some(both) => both.inside(part),
@@ -10,7 +10,7 @@ fn meet(whole: &Region, part: &Region) -> bool {
     }
 }
 
-/// Whether two parts of a region lie in it and apart from each other.
+/// Returns whether two parts of a region are inside it and disjoint.
 fn are_parts(below: &Region, above: &Region, whole: &Region) -> bool {
     below.inside(whole)
         & above.inside(whole)
@@ -21,7 +21,7 @@ fn are_parts(below: &Region, above: &Region, whole: &Region) -> bool {
         & meet(whole, above)
 }
 
-/// Whether the corners of two parts are on either side of the middle of the source addresses.
+/// Returns whether the corners of two parts are on either side of the middle of the source addresses.
 fn are_halves(below: &Region, above: &Region) -> bool {
     let corner = above.corner();
     (corner.get(Axis::Source) == 0x8000_0000)
@@ -30,7 +30,7 @@ fn are_halves(below: &Region, above: &Region) -> bool {
         & (below.far_corner().get(Axis::Source) == 0x7fff_ffff)
 }
 
-/// The parts of a region that is split in place, if both are there.
+/// Returns the parts of a region that is split in place, if both are there.
 fn parts(region: &Region, axis: Axis, at: u128) -> Option<(Region, Region)> {
     if !region.can_split(axis, at) {
         return None;
@@ -40,7 +40,7 @@ fn parts(region: &Region, axis: Axis, at: u128) -> Option<(Region, Region)> {
     Some((below, above))
 }
 
-/// Whether a region is split at the middle of the source addresses, in place too.
+/// Returns whether a region is split at the middle of the source addresses, also in place.
 fn is_split(whole: &Region) -> bool {
     let (axis, at) = (Axis::Source, 0x8000_0000);
     let Some((below, above)) = whole.split(axis, at) else {
@@ -51,7 +51,7 @@ fn is_split(whole: &Region) -> bool {
         & (parts(whole, axis, at) == Some((below, above)))
 }
 
-/// Whether a region isn't split at this protocol.
+/// Returns whether a region isn't split at this protocol.
 fn is_kept(whole: &Region, at: u128) -> bool {
     whole.split(Axis::Protocol, at).is_none() & !whole.can_split(Axis::Protocol, at)
 }
@@ -62,10 +62,10 @@ fn splits_and_meets(rt: HostRuntime) {
     assert!(rt; is_split(&whole) & is_kept(&whole, 0) & is_kept(&whole, 256));
 }
 
-/// The least fields of 10.0.0.0/8.
+/// The least fields in 10.0.0.0/8.
 const LOW: [u128; 9] = [0x0a00_0000, 0, 0, 0, 0, 0, 0, 0, 0];
 
-/// The greatest fields of 10.0.0.0/8.
+/// The greatest fields in 10.0.0.0/8.
 const HIGH: [u128; 9] = [
     0x0aff_ffff,
     0xffff_ffff,
@@ -78,10 +78,10 @@ const HIGH: [u128; 9] = [
     u128::MAX,
 ];
 
-/// Fields behind 10.0.0.0/8.
+/// Fields after 10.0.0.0/8.
 const BEHIND: [u128; 9] = [0x0b00_0000, 0, 0, 0, 0, 0, 0, 0, 0];
 
-/// Whether the region between two fields holds both and not the fields behind it.
+/// Returns whether the region between two fields contains both, and not the fields after it.
 fn is_bounded(low: &Fields, high: &Fields, behind: &Fields) -> bool {
     match Region::between(low, high) {
         Some(region) => region.holds(low) & region.holds(high) & !region.holds(behind),

@@ -1,11 +1,11 @@
-//! Lines of certificates read and written.
+//! Lines of certificates that are read and written.
 use crate::answers::is_refused;
 use fx_base::{Fault, Line, Room};
 use fx_cert::{Item, Version, one_text, put_item, read_item};
 use fx_elements::Axis;
 use std::process::Abort;
 
-/// The item that a line says.
+/// Reads the item in a line.
 fn read(text: &[u8]) -> Result<Item, Fault> {
     read_item(&Line {
         bytes: text,
@@ -14,7 +14,7 @@ fn read(text: &[u8]) -> Result<Item, Fault> {
     })
 }
 
-/// Whether this text is read as the item, and the item is written as the text and a line feed.
+/// Returns whether this text is read as the item, and the item is written as the text and a line feed.
 fn is_spelled(rt: &impl Abort, text: &str, item: Item) -> bool {
     let mut octets = [0u8; 64];
     let mut room = Room::new(&mut octets);
@@ -26,7 +26,7 @@ fn is_spelled(rt: &impl Abort, text: &str, item: Item) -> bool {
     }
 }
 
-/// Lines, and the items that they say.
+/// Lines, and their items.
 const ITEMS: [(&str, Item); 7] = [
     ("once-certificate 1", Item::Header(Version::One)),
     ("once-certificate 2", Item::Header(Version::Two)),
@@ -58,7 +58,7 @@ fn reads_and_writes(rt: HostRuntime) {
     }
 }
 
-/// Lines that say no item.
+/// Lines that aren't items.
 const REFUSED: [&str; 8] = [
     "class 01 path 1",
     "once-certificate 3",

@@ -1,4 +1,4 @@
-//! Values of elements read and written, and elements by name and number.
+//! Values of elements that are read and written, and elements by name and number.
 use crate::answers::ends;
 use fx_base::Room;
 use fx_elements::{
@@ -6,7 +6,7 @@ use fx_elements::{
     read_u64, read_value, read_written, top, width,
 };
 
-/// Whether this many leading bits of a value on an axis are written as this text.
+/// Returns whether this many leading bits of a value on an axis are written as this text.
 fn is_written(axis: Axis, bits: u32, value: u128, text: &str) -> bool {
     if bits > width(axis) || bits > 127 || value >= 1u128 << bits {
         return false;
@@ -16,7 +16,7 @@ fn is_written(axis: Axis, bits: u32, value: u128, text: &str) -> bool {
     ends(put_value(&mut room, axis, bits, value), 0) & (room.octets() == text.as_bytes())
 }
 
-/// Leading bits of values, and how they are written.
+/// Leading bits of values, and their texts.
 const WRITTEN: [(Axis, u32, u128, &str); 4] = [
     (Axis::Source, 32, 0xc000_0201, "192.0.2.1"),
     (Axis::Destination, 16, 0x0a01, "10.1.0.0/16"),
@@ -36,7 +36,7 @@ fn writes_values(rt: HostRuntime) {
     }
 }
 
-/// Texts of elements, and the values that they mean.
+/// Texts of elements, and the values that they denote.
 const VALUES: [(Element, &str, Range); 3] = [
     (
         Element::Prefix(Axis::Source),
@@ -74,7 +74,7 @@ fn reads_values(rt: HostRuntime) {
     }
 }
 
-/// Texts on axes, and their values, if they have any.
+/// Texts on axes, and their values, if any.
 const ON_AXES: [(Axis, &[u8], Option<u128>); 9] = [
     (Axis::DestinationPort, b"65535", Some(65535)),
     (Axis::DestinationPort, b"65536", None),
@@ -118,7 +118,7 @@ fn reads_addresses_of_ipv6_as_they_are_written(rt: HostRuntime) {
     );
 }
 
-/// Whether none of these texts means a value of an element.
+/// Returns whether none of these texts denotes a value of an element.
 fn refuses(element: Element, texts: &[&str]) -> bool {
     let mut all = true;
     for text in texts {
@@ -139,7 +139,7 @@ const NO_PREFIXES: [&str; 7] = [
     "1.2.3.4",
 ];
 
-/// A text of an element whose values aren't read.
+/// A text for an element whose values aren't read.
 const COUNTERS: [&str; 1] = ["1"];
 
 #[test]

@@ -1,4 +1,4 @@
-//! Captures of frames that scapy made, each of which holds what tshark tells of it
+//! Captures of frames generated with scapy, each of which must contain what tshark reports for it
 //! (`tests/make_capture_frames.py`).
 mod ipv6;
 mod raw;
@@ -9,22 +9,22 @@ use fx_elements::AXES;
 use fx_pcap::{Capture, Frame, Skipped};
 use std::alloc::Global;
 
-/// What a frame holds.
+/// The content of a frame.
 #[derive(Clone, Copy)]
 pub(crate) enum Held {
-    /// A packet's value on each axis, its octets, and the second in which it was captured.
+    /// A packet: its value on each axis, its octets, and the second in which it was captured.
     Packet([u128; AXES], u32, u32),
     Other,
     Malformed,
 }
 
-/// Whether a frame that is lent holds this.
+/// Returns whether a lent frame contains this packet.
 fn holds(frame: &Frame<'_>, values: &[u128; AXES], octets: u32, second: u32) -> bool {
     frame.fields.array() == *values && frame.octets == octets && frame.second == second
 }
 
-/// The place of the first frame that doesn't hold what is told of it; none where the capture has
-/// these frames and no more.
+/// Returns the index of the first frame with other content than expected, or `None` if the capture has exactly the
+/// expected frames.
 fn first_other<S: Source>(capture: &mut Capture<S>, told: &[Held]) -> Option<usize> {
     let mut skipped = Skipped {
         other: 0,
@@ -48,7 +48,7 @@ fn first_other<S: Source>(capture: &mut Capture<S>, told: &[Held]) -> Option<usi
     if is_end { None } else { Some(told.len()) }
 }
 
-/// The same of a capture with these octets.
+/// Returns the index of the first frame with other content than expected in a capture with these octets.
 fn first_other_of(alloc: Global, octets: &[u8], told: &[Held]) -> Option<usize> {
     match Capture::new(alloc, Octets::new(octets)) {
         Ok(mut capture) => first_other(&mut capture, told),

@@ -4,12 +4,12 @@ use fx_elements::Axis;
 use fx_layout::{Key, Layout, Seed, Values};
 use std::hash::{BuildHasher, Hasher};
 
-/// A packet from 10.1.2.3 to 192.0.2.1.
+/// Returns a packet from 10.1.2.3 to 192.0.2.1.
 fn web_packet() -> Fields {
     Fields::of([0x0a01_0203, 0xc000_0201, 6, 1000, 80, 0, 4, 0, 0])
 }
 
-/// Whether a layout has two parts, the first of the source address.
+/// Returns whether a layout has two parts, the first of the source address.
 fn begins_with_source(layout: &Layout) -> bool {
     match layout.parts() {
         [first, _] => first.axis == Axis::Source,
@@ -17,7 +17,7 @@ fn begins_with_source(layout: &Layout) -> bool {
     }
 }
 
-/// Parts that don't fit into a layout of protocol and source, or into any.
+/// Parts that can't be added to a layout of protocol and source, or to any layout.
 const NO_PARTS: [(Axis, u32); 6] = [
     (Axis::Source, 16),
     (Axis::Protocol, 7),
@@ -27,7 +27,7 @@ const NO_PARTS: [(Axis, u32); 6] = [
     (Axis::Source6, 129),
 ];
 
-/// Whether a layout takes in none of these parts.
+/// Returns whether a layout accepts none of these parts.
 fn refuses(layout: &Layout, parts: &[(Axis, u32)]) -> bool {
     let mut all = true;
     for (axis, bits) in parts {
@@ -36,7 +36,7 @@ fn refuses(layout: &Layout, parts: &[(Axis, u32)]) -> bool {
     all
 }
 
-/// A layout of the protocol, and then of 24 bits of the source.
+/// Returns a layout of the protocol and then of 24 bits of the source.
 fn protocol_and_source() -> Option<Layout> {
     Layout::new()
         .with(Axis::Protocol, 8)?
@@ -55,12 +55,12 @@ fn lays_out_in_axis_order(rt: HostRuntime) {
     );
 }
 
-/// The layout of so many leading bits of the source address.
+/// Returns the layout of the given number of leading bits of the source address.
 fn source_layout(bits: u32) -> Option<Layout> {
     Layout::new().with(Axis::Source, bits)
 }
 
-/// Whether a key is that of the web packet under a layout, and has no finer one.
+/// Returns whether a key is that of the web packet under a layout, and has no finer one.
 fn is_coarse_key(key: Key, coarse: &Layout, fine: &Layout) -> bool {
     key.same(&coarse.key_of(&web_packet()))
         & key.layout().same(coarse)
@@ -69,7 +69,7 @@ fn is_coarse_key(key: Key, coarse: &Layout, fine: &Layout) -> bool {
         & key.project(fine).is_none()
 }
 
-/// Whether a key of the web packet gives its first octet, is not before itself, and is projected.
+/// Returns whether a key of the web packet has its first octet, doesn't precede itself, and is projected.
 fn is_projected(key: &Key, coarse: &Layout, fine: &Layout) -> bool {
     let is_whole = (key.bits_on(Axis::Source, 8) == 10) & !key.comes_before(&key.copy());
     match key.project(coarse) {
@@ -78,7 +78,7 @@ fn is_projected(key: &Key, coarse: &Layout, fine: &Layout) -> bool {
     }
 }
 
-/// Whether the values of a key under a layout are these.
+/// Returns whether the values of a key under a layout are the given ones.
 fn has_values_under(key: &Key, layout: &Layout, values: &[u128]) -> bool {
     let mut found = Values::new();
     key.project_values(layout, &mut found) & (found.as_slice() == values)
@@ -98,7 +98,8 @@ fn makes_the_key_of_values(rt: HostRuntime) {
     assert!(rt; key.same(&layout.key_of(&web_packet())));
 }
 
-/// Whether a key becomes that of the web packet under a layout, by its values under a finer one.
+/// Returns whether a key that is replaced by the values under a layout, projected from a finer one, is that of the web
+/// packet.
 fn takes_the_place_by_values(key: &mut Key, fine: &Layout, coarse: &Layout) -> bool {
     let mut values = Values::new();
     if !fine
@@ -142,7 +143,7 @@ fn projects_a_key(rt: HostRuntime) {
     );
 }
 
-/// The numbers were worked out in Python.
+/// The numbers were computed in Python.
 #[test]
 fn hashes_by_a_seed(rt: HostRuntime) {
     let mut hasher = Seed::new(0x0123_4567_89ab_cdef, 0xfedc_ba98_7654_3210).build_hasher();

@@ -1,4 +1,4 @@
-//! Tests of the crates of values: what they read, write, hold and refuse.
+//! Tests of the crates of values: what they read, write, contain and refuse.
 #![tactic(auto)]
 
 #[cfg(test)]

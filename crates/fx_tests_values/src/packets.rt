@@ -1,17 +1,18 @@
-//! Captures of one packet: its protocol and ports, or why it is passed over.
+//! Captures of one packet: its protocol and ports, or why it is skipped.
 use fx_base::{Octets, Source};
 use fx_elements::Axis;
 use fx_pcap::{Capture, Frame, Skipped};
 use std::alloc::Global;
 use std::process::Abort;
 
-/// A packet of TCP with ports 1000 and 443.
+/// A TCP packet with ports 1000 and 443.
 pub(crate) const TCP: [u8; 24] = [
     0x45, 0xb8, 0x00, 0x28, 0x00, 0x00, 0x00, 0x00, 0x40, 0x06, 0x00, 0x00, 0x0a, 0x00, 0x00, 0x01,
     0xc0, 0x00, 0x02, 0x01, 0x03, 0xe8, 0x01, 0xbb,
 ];
 
-/// The headers of a capture of one record with so many octets: file header and record header in either order.
+/// Returns the headers of a capture of one record with `n` octets, the file header and the record header, in either
+/// octet order.
 fn headers(big: bool, magic: u32, link: u8, n: u8) -> [u8; 40] {
     if big {
         let [a, b, c, d] = magic.to_be_bytes();
@@ -28,7 +29,7 @@ fn headers(big: bool, magic: u32, link: u8, n: u8) -> [u8; 40] {
     }
 }
 
-/// A capture of one record with these octets, in either order.
+/// Returns a capture of one record with these octets, in either octet order.
 pub(crate) fn capture_of(
     rt: &impl Abort,
     alloc: Global,
@@ -43,14 +44,14 @@ pub(crate) fn capture_of(
         .expect(rt, "memory")
 }
 
-/// What a capture of one record holds: the packet's protocol and ports, or how many frames were passed over.
+/// The content of a capture of one record: the packet's protocol and ports, or the number of skipped frames.
 #[derive(Clone, Copy, PartialEq, Eq)]
 enum Holding {
     Packet(u128, u128, u128),
     Passed(u64, u64),
 }
 
-/// What a frame that is lent says.
+/// Returns the packet of a lent frame.
 fn packet(frame: &Frame<'_>) -> Holding {
     Holding::Packet(
         frame.fields.get(Axis::Protocol),
@@ -59,12 +60,12 @@ fn packet(frame: &Frame<'_>) -> Holding {
     )
 }
 
-/// What is passed over where no frame is lent.
+/// Returns the number of skipped frames where no frame is lent.
 fn passed(skipped: Skipped) -> Holding {
     Holding::Passed(skipped.other, skipped.malformed)
 }
 
-/// What comes first in a capture.
+/// Returns the first content of a capture.
 fn first<S: Source>(rt: &impl Abort, capture: &mut Capture<S>) -> Holding {
     if capture.advance().expect(rt, "a capture") {
         packet(&capture.frame())
@@ -73,14 +74,14 @@ fn first<S: Source>(rt: &impl Abort, capture: &mut Capture<S>) -> Holding {
     }
 }
 
-/// What a raw capture (101) or one of Ethernet (1) of these octets holds.
+/// Returns the content of a raw capture (101) or an Ethernet capture (1) of these octets.
 fn held(rt: &impl Abort, alloc: Global, link: u8, octets: &[u8]) -> Holding {
     let bytes = capture_of(rt, alloc, true, 0xa1b2_c3d4, link, octets);
     let mut capture = Capture::new(alloc, Octets::new(bytes.as_slice())).expect(rt, "a capture");
     first(rt, &mut capture)
 }
 
-/// The packet with another octet at a place.
+/// Returns the packet with another octet at an index.
 fn changed(at: usize, octet: u8) -> [u8; 24] {
     let mut packet = TCP;
     if at < 24 {
@@ -89,17 +90,18 @@ fn changed(at: usize, octet: u8) -> [u8; 24] {
     packet
 }
 
-/// What stands in front of a place, or all of it.
+/// Returns the octets before an index, or all of them.
 fn front(octets: &[u8], place: usize) -> &[u8] {
     octets.split_at(place.min(octets.len())).0
 }
 
-/// The tags of Ethernet frames: one of either kind, and again.
+/// The tags of Ethernet frames: one of each kind, twice.
 const TAGS: [u8; 16] = [
     0x88, 0xa8, 0, 0, 0x81, 0x00, 0, 1, 0x88, 0xa8, 0, 2, 0x81, 0x00, 0, 3,
 ];
 
-/// What a capture holds of an Ethernet frame with so many octets of tags, of which at most so many were captured.
+/// Returns the content of a capture of an Ethernet frame with `tags` octets of tags, of which at most `captured` octets
+/// were captured.
 fn held_in_ethernet(
     rt: &impl Abort,
     alloc: Global,
@@ -113,13 +115,14 @@ fn held_in_ethernet(
     held(rt, alloc, 1, front(frame.as_slice(), captured))
 }
 
-/// How many octets no tag, one, two and three tags have.
+/// The number of octets of no tag, and of one, two and three tags.
 const LENGTHS: [usize; 4] = [0, 4, 8, 12];
 
 /// All octets of a frame.
 const WHOLE: usize = 1000;
 
-/// Whether the packet is read behind so many octets of tags, and is malformed where the frame is cut in its first ones.
+/// Returns whether the packet is read after the given number of octets of tags, and is malformed if the frame is
+/// truncated in its first octets.
 fn is_read_behind(rt: &impl Abort, alloc: Global, tags: usize) -> bool {
     (held_in_ethernet(rt, alloc, tags, [0x08, 0x00], &TCP, WHOLE) == Holding::Packet(6, 1000, 443))
         & (held_in_ethernet(rt, alloc, tags, [0x08, 0x00], &TCP, 13) == Holding::Passed(0, 1))
@@ -132,7 +135,7 @@ fn passes_over_tags(rt: HostRuntime) {
     }
 }
 
-/// Whether an Ethernet frame is passed over: as another, or as a malformed one.
+/// Returns whether an Ethernet frame is skipped, as another or as a malformed one.
 fn is_passed_over(
     rt: &impl Abort,
     alloc: Global,
@@ -156,7 +159,7 @@ fn passes_over_other_frames(rt: HostRuntime) {
     );
 }
 
-/// Packets, how many of their octets were captured, and what a capture holds of them.
+/// Packets, how many of their octets were captured, and the content of a capture of them.
 const CUT: [(&[u8], usize, Holding); 4] = [
     (&[], 0, Holding::Passed(0, 1)),
     (&[0x50], 1, Holding::Passed(1, 0)),
@@ -171,7 +174,7 @@ fn reads_a_packet_and_passes_over_cut_ones(rt: HostRuntime) {
     }
 }
 
-/// Octets that stand at places of the packet, and what a capture holds of it then.
+/// Octets that replace those at indices of the packet, and the content of a capture of it then.
 const CHANGED: [(usize, u8, Holding); 8] = [
     // More fragments, and a reserved bit: the offset is 0. Then an offset of 1.
     (6, 0xe0, Holding::Packet(6, 1000, 443)),
@@ -179,7 +182,7 @@ const CHANGED: [(usize, u8, Holding); 8] = [
     // Protocols with ports and without.
     (9, 132, Holding::Packet(132, 1000, 443)),
     (9, 50, Holding::Packet(50, 0, 0)),
-    // A header of 16 octets, a total length of 19, of 20 with ports behind it, and options that are cut.
+    // A header of 16 octets; a total length of 19; one of 20, with ports after it; and truncated options.
     (0, 0x44, Holding::Passed(0, 1)),
     (3, 19, Holding::Passed(0, 1)),
     (3, 20, Holding::Passed(0, 1)),
@@ -196,7 +199,7 @@ fn reads_ports_of_first_fragments_and_tells_malformed_packets(rt: HostRuntime) {
 /// UDP with ports 53 and 1000.
 const UDP: [u8; 8] = [0x00, 0x35, 0x03, 0xe8, 0, 8, 0, 0];
 
-/// Behind a fixed header: hop-by-hop options (a router alert, RFC 2711), then UDP with ports 53 and 1000.
+/// After a fixed header: hop-by-hop options (a router alert, RFC 2711), then UDP with ports 53 and 1000.
 const HOP_BY_HOP: [u8; 16] = [
     17, 0, 5, 2, 0, 0, 1, 0, //
     0x00, 0x35, 0x03, 0xe8, 0, 8, 0, 0,
@@ -220,7 +223,7 @@ const FIRST: [u8; 16] = [
     0x00, 0x35, 0x03, 0xe8, 0, 8, 0, 0,
 ];
 
-/// A fragment that is whole, options, routing, options, hop-by-hop options, then UDP.
+/// A complete fragment, options, routing, options, hop-by-hop options, then UDP.
 const MANY: [u8; 48] = [
     60, 0, 0, 0, 0, 0, 0, 1, //
     43, 0, 1, 4, 0, 0, 0, 0, //
@@ -236,7 +239,7 @@ const JUMBO: [u8; 16] = [
     0x00, 0x35, 0x03, 0xe8, 0, 0, 0, 0,
 ];
 
-/// A packet of version 6 with this payload length and next header, and what was captured of its payload.
+/// Returns an IPv6 packet with this payload length and next header, and the captured octets of its payload.
 fn packet6(rt: &impl Abort, alloc: Global, length: u8, next_header: u8, payload: &[u8]) -> Vec<u8> {
     let fixed = [0x6b, 0x80, 0, 0, 0, length, next_header, 64];
     [fixed.as_slice(), &[0; 32], payload]
@@ -244,7 +247,7 @@ fn packet6(rt: &impl Abort, alloc: Global, length: u8, next_header: u8, payload:
         .expect(rt, "memory")
 }
 
-/// What a raw capture of one packet of version 6 holds.
+/// Returns the content of a raw capture of one IPv6 packet.
 fn held6(rt: &impl Abort, alloc: Global, length: u8, next_header: u8, payload: &[u8]) -> Holding {
     held(
         rt,
@@ -254,11 +257,11 @@ fn held6(rt: &impl Abort, alloc: Global, length: u8, next_header: u8, payload: &
     )
 }
 
-/// A packet of version 6: its payload length and next header, its payload, and how many octets of that were captured;
-/// and what a capture holds of it.
+/// An IPv6 packet, given by its payload length and next header, its payload, and how many octets of that were captured;
+/// and the content of a capture of it.
 type Case6 = (u8, u8, &'static [u8], usize, Holding);
 
-/// Whether captures hold this of these packets.
+/// Returns whether captures of these packets have the expected content.
 fn hold6(rt: &impl Abort, alloc: Global, cases: &[Case6]) -> bool {
     let mut all = true;
     for (length, next_header, payload, captured, holding) in cases {
@@ -287,7 +290,7 @@ const WITHOUT_PORTS: [Case6; 7] = [
     (4, 58, &[128, 0, 0, 0], 4, Holding::Packet(58, 0, 0)),
     (16, 50, &HOP_BY_HOP, 16, Holding::Packet(50, 0, 0)),
     (16, 51, &HOP_BY_HOP, 16, Holding::Packet(51, 0, 0)),
-    // Fragments of offset 1, of the greatest, and one whose first fragment has more headers.
+    // Fragments with an offset of 1, with the greatest offset, and one whose first fragment has more headers.
     (
         12,
         44,
@@ -317,7 +320,7 @@ fn reads_no_ports_of_other_protocols_and_later_fragments(rt: HostRuntime) {
 }
 
 const CUT6: [Case6; 14] = [
-    // Ports, by the captured octets and by the payload length.
+    // Ports, limited by the captured octets and by the payload length.
     (8, 17, &UDP, 3, Holding::Passed(0, 1)),
     (3, 17, &UDP, 8, Holding::Passed(0, 1)),
     (4, 17, &UDP, 4, Holding::Packet(17, 53, 1000)),
@@ -331,7 +334,7 @@ const CUT6: [Case6; 14] = [
     (3, 44, &FIRST, 16, Holding::Passed(0, 1)),
     (8, 60, &[58, 0], 2, Holding::Packet(58, 0, 0)),
     (8, 44, &[17, 0, 0, 8], 4, Holding::Packet(17, 0, 0)),
-    // One that ends behind the packet.
+    // A header that ends after the packet.
     (8, 60, &[17, 2, 1, 4, 0, 0, 0, 0], 8, Holding::Passed(0, 1)),
     (0, 0, &JUMBO, 16, Holding::Passed(0, 1)),
 ];
@@ -341,13 +344,13 @@ fn passes_over_cut_packets_of_version_6(rt: HostRuntime) {
     assert!(rt; hold6(&rt, rt.alloc(), &CUT6));
 }
 
-/// Whether a raw capture of the fixed header without its last octet holds a malformed frame.
+/// Returns whether a raw capture of the fixed header without its last octet contains a malformed frame.
 fn is_cut6(rt: &impl Abort, alloc: Global) -> bool {
     let packet = packet6(rt, alloc, 0, 59, &[]);
     held(rt, alloc, 101, front(packet.as_slice(), 39)) == Holding::Passed(0, 1)
 }
 
-/// What a capture holds of an Ethernet frame with a packet of version 6.
+/// Returns the content of a capture of an Ethernet frame with an IPv6 packet.
 fn held6_in_ethernet(rt: &impl Abort, alloc: Global, tags: usize, ether_type: [u8; 2]) -> Holding {
     let packet = packet6(rt, alloc, 16, 0, &HOP_BY_HOP);
     held_in_ethernet(rt, alloc, tags, ether_type, packet.as_slice(), WHOLE)

@@ -1,4 +1,4 @@
-//! Captures: frames that are lent, passed over and refused, at each cut and each failing read.
+//! Captures: frames that are lent, skipped and refused, at each truncation and each failing read.
 ghost use Rattle.std.specs.Prelude.{false, Some};
 
 use crate::answers::{ends, is_refused};
@@ -9,8 +9,8 @@ use fx_pcap::{Capture, Frame, headers_one_by_one, records_by_cases};
 use std::alloc::Global;
 use std::process::Abort;
 
-/// Ethernet, little-endian, nanoseconds: a tagged packet, a later fragment, a packet without ports,
-/// and a record that is cut.
+/// Ethernet, little-endian, nanoseconds: a tagged packet, a later fragment, a packet without ports, and a truncated
+/// record.
 const CAPTURE: [u8; 201] = [
     0x4d, 0x3c, 0xb2, 0xa1, 0x02, 0x00, 0x04, 0x00, 0x00, 0x00, 0x00, 0x00, 0x00, 0x00, 0x00, 0x00,
     0x00, 0x00, 0x04, 0x00, 0x01, 0x00, 0x00, 0x00, 0x01, 0x00, 0x00, 0x00, 0x00, 0x00, 0x00, 0x00,
@@ -27,7 +27,7 @@ const CAPTURE: [u8; 201] = [
     0x00, 0x00, 0x3c, 0x00, 0x00, 0x00, 0x00, 0x00, 0x00,
 ];
 
-/// Octets that come three at a time.
+/// A source that returns three octets per call.
 #[derive(Drop)]
 struct Drops<'a> {
     rest: &'a [u8],
@@ -51,10 +51,10 @@ impl Source for Drops<'_> {
     }
 }
 
-/// What a frame says: protocol, ports, class of service, octets and second.
+/// The content of a frame: protocol, ports, class of service, octets and second.
 type Said = ([u128; 4], u32, u32);
 
-/// Whether a frame says this.
+/// Returns whether a frame has this content.
 fn says(frame: &Frame<'_>, said: &Said) -> bool {
     let fields = [
         frame.fields.get(Axis::Protocol),
@@ -65,7 +65,7 @@ fn says(frame: &Frame<'_>, said: &Said) -> bool {
     fields == said.0 && frame.octets == said.1 && frame.second == said.2
 }
 
-/// Whether a frame is lent, and says this.
+/// Returns whether a frame is lent, and has this content.
 fn is_lent(lent: Result<Option<Frame<'_>>, Fault>, said: &Said) -> bool {
     match lent {
         Ok(Some(frame)) => says(&frame, said),
@@ -74,7 +74,7 @@ fn is_lent(lent: Result<Option<Frame<'_>>, Fault>, said: &Said) -> bool {
     }
 }
 
-/// Whether a capture lends these frames next.
+/// Returns whether a capture's next frames are the given ones.
 fn lends<S: Source>(capture: &mut Capture<S>, frames: &[Said]) -> bool {
     let mut all = true;
     for said in frames {
@@ -83,7 +83,7 @@ fn lends<S: Source>(capture: &mut Capture<S>, frames: &[Said]) -> bool {
     all
 }
 
-/// How many frames there are, and the number of the fault at which they end; 0 where they don't.
+/// Returns the number of frames, and the number of the fault that ends them, or 0.
 fn count<S: Source>(capture: &mut Capture<S>) -> (u32, u16) {
     for n in 0..1000u32 {
         match capture.advance() {
@@ -95,7 +95,7 @@ fn count<S: Source>(capture: &mut Capture<S>) -> (u32, u16) {
     (1000, 0)
 }
 
-/// Whether a capture lends these frames, and is refused with this fault from then on.
+/// Returns whether a capture lends these frames, and is refused with this fault from then on.
 fn fails_behind<S: Source>(
     rt: &impl Abort,
     alloc: Global,
@@ -122,7 +122,7 @@ fn lends_frames(rt: HostRuntime) {
     assert!(rt; fails_behind(&rt, rt.alloc(), source, &FRAMES, &Fault::at_octet(703, 182)));
 }
 
-/// Whether the next frame has these octets, source and destination.
+/// Returns whether the next frame has these octets, source and destination.
 fn lends_octets<S: Source>(
     capture: &mut Capture<S>,
     octets: &[u8],
@@ -144,7 +144,8 @@ fn lends_the_buffer(rt: HostRuntime) {
     assert!(rt; lends_octets(&mut capture, &CAPTURE[40..82], 0x0a00_0001, 0xc000_0201));
 }
 
-/// How many frames there are and the fault at which they end, twice, or the fault of a file header.
+/// Returns the number of frames and of the fault that ends them, counted twice, or the number of the file header's
+/// fault.
 fn counts_in<S: Source>(alloc: Global, source: S) -> Result<[(u32, u16); 2], u16> {
     match Capture::new(alloc, source) {
         Ok(mut capture) => Ok([count(&mut capture), count(&mut capture)]),
@@ -152,8 +153,8 @@ fn counts_in<S: Source>(alloc: Global, source: S) -> Result<[(u32, u16); 2], u16
     }
 }
 
-/// How many frames the first octets of the capture have and the fault at which they end, or the
-/// fault of the file header.
+/// Returns the number of frames in the first octets of the capture and the number of the fault that ends them, or that
+/// of the file header's fault.
 fn counts_of_cut(octets: usize) -> Result<(u32, u16), u16> {
     match octets {
         0..24 => Err(701),
@@ -168,7 +169,7 @@ fn counts_of_cut(octets: usize) -> Result<(u32, u16), u16> {
     }
 }
 
-/// The same, counted twice.
+/// Returns the counts that are expected when the frames are counted twice.
 fn twice(counts: Result<(u32, u16), u16>) -> Result<[(u32, u16); 2], u16> {
     let (n, number) = counts?;
     Ok([(n, number), (0, number)])
@@ -182,18 +183,18 @@ fn reads_every_cut(rt: HostRuntime) {
     }
 }
 
-/// Whether no reader of this capture is made, for this fault.
+/// Returns whether no reader of this capture is created because of this fault.
 fn is_other(alloc: Global, octets: &[u8], fault: &Fault) -> bool {
     is_refused(Capture::new(alloc, Octets::new(octets)), fault)
 }
 
-/// Whether a capture of the packet with this magic and link type is refused with this fault.
+/// Returns whether a capture of the packet with this magic and link type is refused with this fault.
 fn is_other_link(rt: &impl Abort, alloc: Global, magic: u32, link: u8, fault: &Fault) -> bool {
     let octets = capture_of(rt, alloc, true, magic, link, &TCP);
     is_other(alloc, octets.as_slice(), fault)
 }
 
-/// A file header of version 3, and the magic of the next format.
+/// A file header of version 3, and the magic of pcapng.
 const OTHERS: [&[u8]; 2] = [
     &[
         0x4d, 0x3c, 0xb2, 0xa1, 2, 0, 3, 0, 0, 0, 0, 0, 0, 0, 0, 0, 0, 0, 4, 0, 1, 0, 0, 0,
@@ -228,7 +229,7 @@ fn refuses_too_long_records_first(rt: HostRuntime) {
     assert!(rt; fails_behind(&rt, rt.alloc(), source, &[], &Fault::at_octet(704, 24)));
 }
 
-/// What two counts of the capture give where the read of this number fails.
+/// The two counts of the capture if the read with this number fails.
 const FAILING: [(u64, [(u32, u16); 2]); 2] = [(2, [(3, 901), (0, 901)]), (3, [(3, 703), (0, 703)])];
 
 #[test]
@@ -254,7 +255,7 @@ fn reads_in_pieces(rt: HostRuntime) {
         calls: 0,
     };
     let mut capture = Capture::new(rt.alloc(), source).expect(&rt, "a capture");
-    // 67 calls that give three octets each, and one at the end
+    // 67 calls return three octets each, and one finds the end.
     assert!(rt;
         lends(&mut capture, &FRAMES[..1])
             & (count(&mut capture) == (2, 703))
@@ -262,7 +263,7 @@ fn reads_in_pieces(rt: HostRuntime) {
     );
 }
 
-/// A packet of version 6 from 2001:db8::1 to 2001:db8::2: destination options, then UDP.
+/// An IPv6 packet from 2001:db8::1 to 2001:db8::2: destination options, then UDP.
 const OPTIONS: [u8; 56] = [
     0x6b, 0x80, 0x00, 0x00, 0x00, 0x10, 0x3c, 0x40, //
     0x20, 0x01, 0x0d, 0xb8, 0x00, 0x00, 0x00, 0x00, 0x00, 0x00, 0x00, 0x00, 0x00, 0x00, 0x00, 0x01,
@@ -270,7 +271,7 @@ const OPTIONS: [u8; 56] = [
     0x11, 0x00, 0x01, 0x04, 0x00, 0x00, 0x00, 0x00, 0x00, 0x35, 0x03, 0xe8, 0x00, 0x08, 0x00, 0x00,
 ];
 
-/// The same with a fragment header of offset 1 in place of the options.
+/// The same packet with a fragment header with an offset of 1 instead of the options.
 const FRAGMENT: [u8; 56] = [
     0x6b, 0x80, 0x00, 0x00, 0x00, 0x10, 0x2c, 0x40, //
     0x20, 0x01, 0x0d, 0xb8, 0x00, 0x00, 0x00, 0x00, 0x00, 0x00, 0x00, 0x00, 0x00, 0x00, 0x00, 0x01,
@@ -278,17 +279,17 @@ const FRAGMENT: [u8; 56] = [
     0x11, 0x00, 0x00, 0x08, 0x00, 0x00, 0x00, 0x01, 0x00, 0x35, 0x03, 0xe8, 0x00, 0x08, 0x00, 0x00,
 ];
 
-/// A fixed header of ICMPv6 with traffic class 255 and the greatest payload length, none of which was captured.
+/// A fixed header of ICMPv6 with traffic class 255 and the greatest payload length, without any captured payload.
 const LONGEST: [u8; 40] = [
     0x6f, 0xff, 0xff, 0xff, 0xff, 0xff, 0x3a, 0x40, //
     0x20, 0x01, 0x0d, 0xb8, 0x00, 0x00, 0x00, 0x00, 0x00, 0x00, 0x00, 0x00, 0x00, 0x00, 0x00, 0x01,
     0x20, 0x01, 0x0d, 0xb8, 0x00, 0x00, 0x00, 0x00, 0x00, 0x00, 0x00, 0x00, 0x00, 0x00, 0x00, 0x02,
 ];
 
-/// What the one frame of a capture of a packet says, its version, and its addresses: of IPv4 and of IPv6.
+/// The content of the one frame of a packet's capture, its version, and its IPv4 and IPv6 addresses.
 type Whole = (Said, u128, [u128; 4]);
 
-/// Whether a frame says this, with its version and addresses.
+/// Returns whether a frame has this content, version and addresses.
 fn says_whole(frame: &Frame<'_>, whole: &Whole) -> bool {
     let addresses = [
         frame.fields.get(Axis::Source),
@@ -299,7 +300,7 @@ fn says_whole(frame: &Frame<'_>, whole: &Whole) -> bool {
     says(frame, &whole.0) && frame.fields.get(Axis::Version) == whole.1 && addresses == whole.2
 }
 
-/// Whether a capture has one frame, which says this.
+/// Returns whether a capture has exactly one frame, with this content.
 fn has_one<S: Source>(rt: &impl Abort, alloc: Global, source: S, whole: &Whole) -> bool {
     let mut capture = Capture::new(alloc, source).expect(rt, "a capture");
     capture.advance().unwrap_or(false)
@@ -307,7 +308,8 @@ fn has_one<S: Source>(rt: &impl Abort, alloc: Global, source: S, whole: &Whole) 
         & !capture.advance().unwrap_or(true)
 }
 
-/// Whether a raw capture of the packet, in either order and with this magic, has one frame, which says this.
+/// Returns whether a raw capture of the packet, in either octet order and with this magic, has exactly one frame, with
+/// this content.
 fn is_read(
     rt: &impl Abort,
     alloc: Global,
@@ -320,14 +322,14 @@ fn is_read(
     has_one(rt, alloc, Octets::new(octets.as_slice()), whole)
 }
 
-/// What the packet of TCP says.
+/// The content of the TCP packet.
 const TCP_SAYS: Whole = (
     ([6, 1000, 443, 184], 40, 7),
     4,
     [0x0a00_0001, 0xc000_0201, 0, 0],
 );
 
-/// The order of captures, and their magic.
+/// The octet orders of captures, and their magics.
 const MAGICS: [(bool, u32); 4] = [
     (true, 0xa1b2_c3d4),
     (true, 0xa1b2_3c4d),
@@ -346,7 +348,7 @@ const FROM: u128 = 0x2001_0db8_0000_0000_0000_0000_0000_0001;
 
 const TO: u128 = 0x2001_0db8_0000_0000_0000_0000_0000_0002;
 
-/// Packets, and what they say.
+/// Packets, and their content.
 const PACKETS: [(&[u8], Whole); 4] = [
     (
         &OPTIONS,

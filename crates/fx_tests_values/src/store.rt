@@ -12,12 +12,12 @@ const COUNTS: Counts = Counts {
     octets: 10,
 };
 
-/// The seed of all stores here.
+/// Returns the seed of all stores here.
 fn seed() -> Seed {
     Seed::new(1, 2)
 }
 
-/// The key of packets from this address by so many of its bits.
+/// Returns the key of packets from this address by the given number of its bits.
 fn from(rt: &impl Abort, source: u32, bits: u32) -> Key {
     let layout = Layout::new()
         .with(Axis::Source, bits)
@@ -25,7 +25,7 @@ fn from(rt: &impl Abort, source: u32, bits: u32) -> Key {
     layout.key_of(&Fields::of([u128::from(source), 0, 0, 0, 0, 0, 4, 0, 0]))
 }
 
-/// The address that left a store, or 0 where none did.
+/// Returns the address that left a store, or 0 if none did.
 fn address(left: Option<(Key, Counts)>) -> u128 {
     match left {
         Some((key, _)) => key.bits_on(Axis::Source, 32),
@@ -33,7 +33,7 @@ fn address(left: Option<(Key, Counts)>) -> u128 {
     }
 }
 
-/// Whether this address left a store when it took something in, or none for 0.
+/// Returns whether this address, or none for 0, left a store when it took something in.
 fn is_left(answer: Result<Option<(Key, Counts)>, Fault>, left: u128) -> bool {
     match answer {
         Ok(found) => address(found) == left,
@@ -41,18 +41,18 @@ fn is_left(answer: Result<Option<(Key, Counts)>, Fault>, left: u128) -> bool {
     }
 }
 
-/// Adds one packet of ten octets from an address: whether this address left then, or none for 0.
+/// Adds one packet of ten octets from an address. Returns whether the address `left`, or none for 0, left then.
 fn adds<S: FlowStore>(rt: &impl Abort, store: &mut S, source: u32, left: u128) -> bool {
     is_left(store.add(from(rt, source, 32), COUNTS), left)
 }
 
-/// Takes the least key out: its address and counts.
+/// Removes the least key, and returns its address and counts.
 fn least<S: FlowStore>(store: &mut S) -> Option<(u128, u64, u64)> {
     let (key, counts) = store.take_least()?;
     Some((key.bits_on(Axis::Source, 32), counts.packets, counts.octets))
 }
 
-/// Adds at three keys, one of them twice, and empties the store in order: whether it held them.
+/// Adds at three keys, one of them twice, and empties the store in order. Returns whether it contained them.
 fn is_filled_and_emptied<S: FlowStore>(rt: &impl Abort, mut store: S) -> bool {
     adds(rt, &mut store, 0x0a00_0002, 0)
         & adds(rt, &mut store, 0x0a00_0001, 0)
@@ -74,15 +74,15 @@ fn fills_and_empties_a_bounded_store(rt: HostRuntime) {
     assert!(rt; is_filled_and_emptied(&rt, store));
 }
 
-/// Adds a packet from an address by its fields, under the layout of whole addresses: whether this address left then, or
-/// none for 0.
+/// Adds a packet from an address by its fields, under the layout of whole addresses. Returns whether the address
+/// `left`, or none for 0, left then.
 fn adds_packet<S: FlowStore>(rt: &impl Abort, store: &mut S, source: u32, left: u128) -> bool {
     let layout = Layout::new().with(Axis::Source, 32).expect(rt, "a layout");
     let fields = Fields::of([u128::from(source), 0, 0, 0, 0, 0, 4, 0, 0]);
     is_left(store.add_packet(&layout, &fields, COUNTS), left)
 }
 
-/// Adds three packets of two addresses and one at a key of them: whether the store holds what was counted.
+/// Adds three packets of two addresses, and one at a key of them. Returns whether the store contains what was counted.
 fn counts_packets<S: FlowStore>(rt: &impl Abort, mut store: S) -> bool {
     adds_packet(rt, &mut store, 0x0a00_0002, 0)
         & adds_packet(rt, &mut store, 0x0a00_0001, 0)
@@ -98,7 +98,7 @@ fn counts_packets_in_a_list(rt: HostRuntime) {
     assert!(rt; counts_packets(&rt, ListStore::new(rt.alloc(), seed())));
 }
 
-/// Whether a store for two keys lets the one leave to which a packet was added longest ago.
+/// Returns whether a full store for two keys evicts the one to which a packet was added least recently.
 fn lets_a_packet_leave<S: FlowStore>(rt: &impl Abort, mut store: S) -> bool {
     adds_packet(rt, &mut store, 1, 0)
         & adds_packet(rt, &mut store, 2, 0)
@@ -116,7 +116,7 @@ fn counts_packets_in_a_bounded_store(rt: HostRuntime) {
     assert!(rt; lets_a_packet_leave(&rt, store));
 }
 
-/// Whether a store for two keys lets the one leave that was added to longest ago, and keeps the others.
+/// Returns whether a full store for two keys evicts the one that was added to least recently, and keeps the other.
 fn lets_leave<S: FlowStore>(rt: &impl Abort, mut store: S) -> bool {
     adds(rt, &mut store, 1, 0)
         & adds(rt, &mut store, 2, 0)
@@ -137,12 +137,12 @@ fn lets_the_least_recently_added_to_leave(rt: HostRuntime) {
     );
 }
 
-/// Takes out what is held of an address.
+/// Removes and returns the counts of an address.
 fn take<S: FlowStore>(rt: &impl Abort, store: &mut S, source: u32) -> Option<Counts> {
     store.take(&from(rt, source, 32))
 }
 
-/// Adds at a key, looks for another, takes the first one out and adds again: whether it was there alone.
+/// Adds at a key, removes another, removes the first one and adds again. Returns whether only the first one was there.
 fn is_taken<S: FlowStore>(rt: &impl Abort, mut store: S) -> bool {
     adds(rt, &mut store, 7, 0)
         & take(rt, &mut store, 8).is_none()
@@ -166,7 +166,7 @@ fn takes_a_key_out_of_a_bounded_store(rt: HostRuntime) {
     );
 }
 
-/// Whether the least key of a store has one part, of eight bits.
+/// Returns whether the least key of a store has one part, of eight bits.
 fn is_wide(least: Option<(Key, Counts)>) -> bool {
     match least {
         Some((key, _)) => key.layout().reads(Axis::Source, 8)
@@ -175,7 +175,7 @@ fn is_wide(least: Option<(Key, Counts)>) -> bool {
     }
 }
 
-/// Adds at keys of two layouts that have the same value, 10: whether both are held, that of eight bits first.
+/// Adds at keys of two layouts with the same value, 10. Returns whether both are kept, with that of eight bits first.
 fn are_apart<S: FlowStore>(rt: &impl Abort, mut store: S, wide: Key) -> bool {
     adds(rt, &mut store, 10, 0)
         & is_left(store.add(wide, COUNTS), 0)
@@ -189,7 +189,7 @@ fn tells_layouts_apart(rt: HostRuntime) {
     assert!(rt; are_apart(&rt, ListStore::new(rt.alloc(), seed()), wide));
 }
 
-/// Whether a store is made, and holds nothing.
+/// Returns whether a store is created, and is empty.
 fn is_empty<S: FlowStore>(made: Result<S, Fault>) -> bool {
     match made {
         Ok(store) => store.len() == 0,

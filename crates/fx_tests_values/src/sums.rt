@@ -1,4 +1,4 @@
-//! Texts of totals added up, and the sum's own text.
+//! Texts of totals that are added up, and the text of the sum.
 use crate::answers::{ends, is_refused};
 use fx_base::{Fault, Fuse, LineReader, Octets, Room, Source};
 use fx_elements::Axis;
@@ -7,13 +7,13 @@ use fx_sums::{Sum, sums_of_parts, totals_texts};
 use std::alloc::Global;
 use std::process::Abort;
 
-/// By 24 bits of the source and by protocol.
+/// Returns a layout of 24 bits of the source and of the protocol.
 fn layout(rt: &impl Abort) -> Layout {
     let layout = Layout::new().with(Axis::Source, 24).expect(rt, "source");
     layout.with(Axis::Protocol, 8).expect(rt, "protocol")
 }
 
-/// By version and by 32 bits of the source of IPv6.
+/// Returns a layout of the version and of 32 bits of the IPv6 source.
 fn layout_of_ipv6(rt: &impl Abort) -> Layout {
     let layout = Layout::new().with(Axis::Version, 8).expect(rt, "version");
     layout.with(Axis::Source6, 32).expect(rt, "source")
@@ -25,7 +25,7 @@ fn add<S: Source>(alloc: Global, sum: &mut Sum, texts: S) -> Result<(), Fault> {
     sum.add_texts(&mut lines)
 }
 
-/// Whether a sum's text is this one.
+/// Returns whether a sum's text is the given one.
 fn is_text(sum: &mut Sum, text: &[u8]) -> bool {
     let mut octets = [0u8; 512];
     let mut room = Room::new(&mut octets);
@@ -35,7 +35,7 @@ fn is_text(sum: &mut Sum, text: &[u8]) -> bool {
     }
 }
 
-/// Whether these texts come to that one.
+/// Returns whether the sum of these texts is the given one.
 fn comes(
     rt: &impl Abort,
     alloc: Global,
@@ -51,20 +51,20 @@ fn comes(
     is_text(&mut sum, text)
 }
 
-/// Whether these texts come to that one, and that one alone comes to itself.
+/// Returns whether the sum of these texts is the given one, which alone is its own sum.
 fn come_to(rt: &impl Abort, alloc: Global, layout: &Layout, texts: &[&[u8]], text: &[u8]) -> bool {
     comes(rt, alloc, Seed::new(1, 2), layout, texts, text)
         & comes(rt, alloc, Seed::new(3, 4), layout, &[text], text)
 }
 
-/// Of two streams.
+/// Totals of two streams.
 const FIRST: &[u8] =
     b"keys 2\n10.1.1.0/24 6 packets 3 octets 300\n10.1.2.0/24 17 packets 1 octets 40\nunassigned 2\ngaps 1\nskipped 5\n";
 
 const SECOND: &[u8] =
     b"keys 2\n10.1.0.0/24 6 packets 7 octets 70\n10.1.1.0/24 6 packets 2 octets 11\nunassigned 1\ngaps 2\nskipped 0\n";
 
-/// Of a run over a capture, and of two replays.
+/// Totals of a run over a capture, and of two replays.
 const RUN: &[u8] =
     b"keys 1\n10.1.1.0/24 6 packets 1 octets 1\nunassigned 0\nskipped other 4 malformed 6\n";
 
@@ -133,7 +133,7 @@ fn adds_totals_of_ipv6(rt: HostRuntime) {
     assert!(rt; come_to(&rt, rt.alloc(), &layout, &[one, one], text));
 }
 
-/// What isn't a text of totals, and the line at which it is refused.
+/// Octets that are no texts of totals, and the line at which they are refused.
 const REFUSED: [(&[u8], u64); 41] = [
     (b"", 1),
     (b"keys 0", 1),
@@ -223,7 +223,7 @@ const REFUSED: [(&[u8], u64); 41] = [
     ),
 ];
 
-/// Adds texts to a sum that has none.
+/// Adds texts to an empty sum.
 fn add_first<S: Source>(alloc: Global, layout: &Layout, texts: S) -> Result<(), Fault> {
     let mut sum = Sum::new(alloc, Seed::new(1, 2), layout.copy())?;
     add(alloc, &mut sum, texts)

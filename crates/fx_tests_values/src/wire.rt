@@ -1,4 +1,4 @@
-//! Messages read and written, with their templates and records.
+//! Messages that are read and written, with their templates and records.
 use crate::answers::ends;
 use fx_base::Room;
 use fx_elements::{Axis, Element};
@@ -29,7 +29,7 @@ const HEADER: Header = Header {
     observation_domain: 0,
 };
 
-/// Whether the sets are those of the first message: a template set and a data set.
+/// Returns whether the sets are those of the first message: a template set and a data set.
 fn are_first(mut sets: Sets<'_>) -> bool {
     let (Some(first), Some(second)) = (sets.next(), sets.next()) else {
         return false;
@@ -56,7 +56,7 @@ fn needs_all_octets(rt: HostRuntime) {
     }
 }
 
-/// The number with which a message is refused; 0 where it isn't.
+/// Returns the number with which a message is refused, or 0.
 fn refusal(octets: &[u8]) -> u16 {
     match parse(octets) {
         Parsed::Refused(why) => why.number(),
@@ -100,7 +100,7 @@ fn writes_a_message(rt: HostRuntime) {
     );
 }
 
-/// The length of a message of one set with this content, if it has one.
+/// Returns the length of a message with one set of this content, if there is such a message.
 fn length_with(content: &[u8]) -> Option<u16> {
     message_length(&[Set { id: 256, content }])
 }
@@ -119,7 +119,7 @@ fn refuses_to_write_past_the_room(rt: HostRuntime) {
     assert!(rt; ends(put_message(&mut Room::new(&mut room), &HEADER, &[]), 902));
 }
 
-/// Whether fields are of these elements, and no octets stand behind them.
+/// Returns whether fields are of these elements, and no octets follow them.
 fn are_of(mut fields: FieldSpecifiers<'_>, elements: &[Element]) -> bool {
     let mut all = true;
     for element in elements {
@@ -171,7 +171,7 @@ fn reads_fields_of_ipv6(rt: HostRuntime) {
     assert!(rt; are_of(FieldSpecifiers::new(4, &IPV6), &OF_IPV6));
 }
 
-/// Elements, the length that their fields have, and lengths that they don't have.
+/// Elements, the length of their fields, and lengths that they can't have.
 const LENGTHS: [(Element, u16, [u16; 3]); 6] = [
     (Element::OnAxis(Axis::Destination), 4, [3, 16, VARIABLE]),
     (Element::OnAxis(Axis::Destination6), 16, [4, 15, VARIABLE]),
@@ -211,7 +211,7 @@ const FIELDS: [FieldSpecifier; 2] = [
     },
 ];
 
-/// A record of those fields, and an octet behind it.
+/// A record of those fields, and an octet after it.
 const RECORD: [u8; 9] = [10, 0, 0, 1, 3, b'e', b't', b'h', 9];
 
 #[test]

@@ -1,9 +1,9 @@
-//! Refusals in words: found by their numbers, written out, and listed.
+//! Refusals in words: found by number, written, and listed.
 use crate::answers::ends;
 use fx_base::{Fault, Room, Sink};
 use fx_words::{put_explanation, put_reason, put_refusal_list, refusal_of};
 
-/// How many numbers have words, which are those of the number.
+/// Returns the number of numbers whose refusal was found under them.
 fn known() -> u16 {
     let mut found = 0u16;
     for number in 0..1000u16 {
@@ -16,7 +16,7 @@ fn known() -> u16 {
     found
 }
 
-/// What is wrong where this number is told.
+/// Returns what is wrong according to the refusal with this number.
 fn wrong(number: u16) -> &'static str {
     match refusal_of(number) {
         Some(refusal) => refusal.wrong,
@@ -33,7 +33,7 @@ fn finds_words_by_number(rt: HostRuntime) {
     );
 }
 
-/// What is written of 411, a number that has words, and of 416, one that has none.
+/// The explanations of 411, a number that has words, and of 416, one that has none.
 const WORDS: &[u8] = b"411
 wrong: A line follows the line `end`.
 usually: an empty line at the end of the text, two certificates in one file, or the sentences \
@@ -46,7 +46,7 @@ there is memory for.
 what to do: Give the program more memory, or cut what it reads into parts.
 ";
 
-/// Whether a number was explained, if it was, or had no words.
+/// Returns whether a number was explained, if it is known, or had no words.
 fn is_explained(answer: Result<bool, Fault>, known: bool) -> bool {
     match answer {
         Ok(found) => found == known,
@@ -54,8 +54,8 @@ fn is_explained(answer: Result<bool, Fault>, known: bool) -> bool {
     }
 }
 
-/// Explains a number that has words and one that has none, and puts the reason of a number without a
-/// section: whether there was room, and the first number was known alone.
+/// Explains a number that has words and one that has none, and writes the reason of a number without a section. Returns
+/// whether there was room, and only the first number was known.
 fn puts_words<S: Sink>(sink: &mut S) -> bool {
     is_explained(put_explanation(sink, 411), true)
         & is_explained(put_explanation(sink, 416), false)
@@ -71,7 +71,7 @@ fn writes_words_line_by_line(rt: HostRuntime) {
     assert!(rt; is_put & (room.octets() == WORDS));
 }
 
-/// How many lines octets have, each of them ended.
+/// Returns the number of lines in octets, each of which is ended.
 fn lines_of(octets: &[u8]) -> u16 {
     let mut found = 0u16;
     for octet in octets {
@@ -82,7 +82,7 @@ fn lines_of(octets: &[u8]) -> u16 {
     found
 }
 
-/// Whether the list has a line for each number, begins with the first and ends with the last.
+/// Returns whether the list has a line for each number, begins with the first and ends with the last.
 fn is_listed() -> bool {
     let mut octets = [0u8; 8192];
     let mut room = Room::new(&mut octets);
