@@ -11,17 +11,17 @@ use fx_boxes::Region;
 use fx_elements::{AXES, Axis, EVERY_AXIS};
 use std::alloc::{AllocError, Global};
 
-/// An axis is chosen by at most this many selection processes, and at least half of it, where there are as many.
+/// An axis is chosen by at most this many selection processes, and at least half as many if there are enough.
 const SAMPLE: usize = 32;
 
-/// Room for the bounds of one axis that cut a region.
+/// Room for the bounds on one axis that cut a region.
 #[derive(Debug, Drop)]
 pub struct CutBounds {
     pub(crate) values: Vec<u128>,
 }
 
 impl CutBounds {
-    /// Room for none yet.
+    /// Returns room that is empty.
     pub fn new(alloc: Global) -> CutBounds {
         CutBounds {
             values: Vec::new(alloc),
@@ -29,7 +29,7 @@ impl CutBounds {
     }
 }
 
-/// The least value of the other region on an axis, if it is strictly inside the region.
+/// Returns the least value of the other region on an axis, if it is strictly inside the region.
 fn low_bound(region: &Region, other: &Region, axis: Axis) -> Option<u128>
     ensures { IfSome result (λ at. splits.IsSplitBy region.now other.now axis at) }
 {
@@ -41,7 +41,7 @@ fn low_bound(region: &Region, other: &Region, axis: Axis) -> Option<u128>
     }
 }
 
-/// One above the greatest value of the other region on an axis, if it is strictly inside the region.
+/// Returns one above the greatest value of the other region on an axis, if it is strictly inside the region.
 fn high_bound(region: &Region, other: &Region, axis: Axis) -> Option<u128>
     ensures { IfSome result (λ at. splits.IsSplitBy region.now other.now axis at) }
 {
@@ -53,7 +53,8 @@ fn high_bound(region: &Region, other: &Region, axis: Axis) -> Option<u128>
     }
 }
 
-/// Adds how many bounds of the other region, which overlaps the region, are strictly inside it, by axis.
+/// Adds, by axis, the number of bounds of the other region, which overlaps the region, that are strictly inside the
+/// region.
 pub(crate) fn count_bounds(counts: &mut [u64; AXES], region: &Region, other: &Region) {
     let least = region.corner();
     let most = region.far_corner();
@@ -66,8 +67,8 @@ pub(crate) fn count_bounds(counts: &mut [u64; AXES], region: &Region, other: &Re
     }
 }
 
-/// How many bounds of selection processes that overlap the region are strictly inside it, by axis: of `many` at most, every
-/// `step`th.
+/// Counts, by axis, the bounds of selection processes that overlap the region that are strictly inside it, looking at
+/// `many` at most and at every `step`th.
 fn count_by_axis(
     selections: &[PathSelection<'_>],
     region: &Region,
@@ -85,7 +86,7 @@ fn count_by_axis(
     counts
 }
 
-/// The axis with the greatest count, the first of them if there are several.
+/// Returns the axis with the greatest count, the first of them if there are several.
 pub(crate) fn axis_with_most(counts: &[u64; AXES]) -> Axis {
     let mut most = Axis::Source;
     for axis in EVERY_AXIS {
@@ -96,8 +97,8 @@ pub(crate) fn axis_with_most(counts: &[u64; AXES]) -> Axis {
     most
 }
 
-/// The axis on which most bounds of these selection processes, which overlap the region, are strictly inside it, by a
-/// sample of them; by all of them, if those of the sample have none.
+/// Returns the axis on which most bounds of these selection processes, which overlap the region, are strictly inside
+/// it, by a sample of them, or by all of them if the sample has no such bounds.
 fn axis_to_split(selections: &[PathSelection<'_>], region: &Region) -> Axis {
     let step = selections.len() / SAMPLE + 1;
     let counts = count_by_axis(selections, region, SAMPLE, step);
@@ -133,7 +134,7 @@ pub(crate) fn push_bounds(
     push_bound(values, high_bound(region, other, axis))
 }
 
-/// Collects the bounds on an axis of these selection processes, none of which is apart from the region, where they are
+/// Collects the bounds on an axis of these selection processes, none of which is apart from the region, that are
 /// strictly inside it.
 fn collect_bounds(
     values: &mut Vec<u128>,
@@ -148,7 +149,7 @@ fn collect_bounds(
         → splits.Meets net path s.selection)
         → Contains values.new.items at → splits.IsSplit net path region.now axis at) }
 {
-    // For the prover alone: the bounds of a region hold.
+    // Only for the prover: the bounds of a region hold.
     bounds_hold(region);
     values.clear();
     for place in 0..selections.len() {
@@ -160,7 +161,7 @@ fn collect_bounds(
     Ok(())
 }
 
-/// The value in the middle of all, in ascending order, if there is any.
+/// Returns the middle value in ascending order, if there are any values.
 pub(crate) fn median(values: &mut [u128]) -> Option<u128>
     ensures { IfSome result (Contains values.old) }
 {
@@ -168,10 +169,10 @@ pub(crate) fn median(values: &mut [u128]) -> Option<u128>
     values.get(values.len() / 2).copied()
 }
 
-/// The bound that halves those of these selection processes, none of which is apart from the region: the one in the
-/// middle of those on the axis that has the most. None where none of them cuts the region.
+/// Returns the bound that halves the bounds of these selection processes, none of which is apart from the region: the
+/// middle one on the axis that has the most, or none if none of them cuts the region.
 ///
-/// Fails where memory runs out.
+/// Fails if out of memory.
 pub(crate) fn halving_selections(
     bounds: &mut CutBounds,
     selections: &[PathSelection<'_>],

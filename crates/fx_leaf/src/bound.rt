@@ -11,7 +11,7 @@ use fx_boxes::Region;
 use fx_elements::{Axis, EVERY_AXIS};
 use fx_tables::MatchEntry;
 
-/// A bound of the other region on this axis that is strictly inside the region.
+/// Returns a bound of the other region on this axis that is strictly inside the region.
 fn bound_on(region: &Region, other: &Region, axis: Axis) -> Option<u128>
     ensures some { IfSome result (λ at. splits.IsSplitBy region.now other.now axis at) }
     ensures none { IfNone result (splits.NoSplitBy region.now other.now axis) }
@@ -29,7 +29,7 @@ fn bound_on(region: &Region, other: &Region, axis: Axis) -> Option<u128>
     }
 }
 
-/// A bound of the other region, where it cuts the region.
+/// Returns a bound of the other region, if it cuts the region.
 pub(crate) fn bound(region: &Region, other: &Region) -> Option<(Axis, u128)>
     ensures some { IfSome result (λ s. splits.IsSplitBy region.now other.now s.0 s.1) }
     ensures none { IfNone result (overlaps.region_overlap region.now other.now ≡ overlap.Part → ⊥) }
@@ -42,7 +42,7 @@ pub(crate) fn bound(region: &Region, other: &Region) -> Option<(Axis, u128)>
     None
 }
 
-/// A bound of a match, all of its entries together, where it cuts the region.
+/// Returns a bound of a match, which all of its entries make together, if it cuts the region.
 pub(crate) fn bound_of_match(region: &Region, entries: &[MatchEntry]) -> Option<(Axis, u128)>
     requires { AllByRecursion IsEntry entries.now }
     ensures some { IfSome result (λ s. splits.IsSplitBy region.now
@@ -50,12 +50,12 @@ pub(crate) fn bound_of_match(region: &Region, entries: &[MatchEntry]) -> Option<
     ensures none { IfNone result (overlaps.region_overlap region.now
         (overlaps.match_fields entries.now) ≡ overlap.Part → ⊥) }
 {
-    // For the prover alone: the bounds of a region hold.
+    // Only for the prover: the bounds of a region hold.
     bounds_hold(region);
     match match_part(region, entries) {
         None => None,
         Some(left) => {
-            // For the prover alone: both ends of what is left are in it.
+            // Only for the prover: both ends of what is left are in it.
             let _ends = (left.corner(), left.far_corner());
             bound(region, &left)
         }

@@ -1,4 +1,4 @@
-//! What cuts a region, followed from where there is no verdict.
+//! The cause of a missing verdict: what cuts a region.
 ghost use Rattle.std.specs.Prelude.{◌≡◌, map, slice_get, Some, None, [], ◌∷◌, IfSome, IfNone};
 ghost use Rattle.std.specs.List.{AllByRecursion};
 ghost use Rattle.fx_layout.specs.Keys as keys;
@@ -19,14 +19,15 @@ use fx_tables::{AggregationEntry, Process};
 /// Why there is no verdict.
 #[derive(Clone, Copy)]
 pub(crate) enum Cause {
-    /// Something cuts the region here, and has this bound strictly inside it.
+    /// Something cuts the region here and has this bound strictly inside it.
     Split(Axis, u128),
-    /// There is none at the collecting process of this place, on records of the layout of this number, from 0 each.
+    /// There is no verdict at the collecting process at this index on records of the layout with this number, each
+    /// 0-based.
     Behind(usize, usize),
 }
 
 impl Verdicts<'_, '_> {
-    /// The place of the collecting process to which a destination leads, if there is no verdict there.
+    /// Returns the index of the collecting process that a destination leads to, if there is no verdict there.
     pub(crate) fn cause_at_destination(
         &self,
         number: usize,
@@ -52,7 +53,7 @@ impl Verdicts<'_, '_> {
         }
     }
 
-    /// The collecting process behind one of these destinations at which there is no verdict.
+    /// Returns the collecting process that one of these destinations leads to and that has no verdict.
     fn cause_among_destinations(
         &self,
         number: usize,
@@ -75,7 +76,7 @@ impl Verdicts<'_, '_> {
         None
     }
 
-    /// The collecting process behind the exporting process at this place at which there is no verdict.
+    /// Returns the collecting process without a verdict that the exporting process at this index sends to.
     fn cause_at_exporter(&self, number: usize, place: usize) -> Option<usize>
         ensures some { let net = self.now.tables.now.net in
             let table = self.now.rows.now in
@@ -92,7 +93,7 @@ impl Verdicts<'_, '_> {
         }
     }
 
-    /// The collecting process behind one of the exporting processes at these places at which there is no verdict.
+    /// Returns the collecting process without a verdict that one of the exporting processes at these indices sends to.
     fn cause_by_exporters(&self, number: usize, places: &[usize]) -> Option<usize>
         ensures some { let net = self.now.tables.now.net in
             let table = self.now.rows.now in
@@ -111,7 +112,7 @@ impl Verdicts<'_, '_> {
         None
     }
 
-    /// The collecting process behind a holder at which there is no verdict, with the number of the holder's layout.
+    /// Returns the collecting process without a verdict downstream of a holder, with the number of the holder's layout.
     pub(crate) fn cause_by_holder(&self, holder: usize) -> Option<Cause>
         ensures some { let t = self.now.tables.now in
             let table = self.now.rows.now in
@@ -129,7 +130,7 @@ impl Verdicts<'_, '_> {
         }
     }
 
-    /// Why there is no verdict on what an aggregation takes in of records of this layout.
+    /// Returns why there is no verdict on what an aggregation takes in from records of this layout.
     fn cause_in_match(&self, layout: &Layout, aggregation: &AggregationEntry) -> Option<Cause>
         requires { HasEntries aggregation.now }
         ensures some { let t = self.now.tables.now in
@@ -156,7 +157,7 @@ impl Verdicts<'_, '_> {
         }
     }
 
-    /// Why there is no verdict on what one of these aggregations takes in.
+    /// Returns why there is no verdict on what one of these aggregations takes in.
     fn cause_in_matches(&self, layout: &Layout, aggregations: &[AggregationEntry]) -> Option<Cause>
         requires { AllByRecursion HasEntries aggregations.now }
         ensures some { let t = self.now.tables.now in
@@ -179,7 +180,7 @@ impl Verdicts<'_, '_> {
         None
     }
 
-    /// Why there is no verdict on what a collecting process does with records of the layout of this number.
+    /// Returns why there is no verdict on what a collecting process does with records of the layout with this number.
     fn cause_in_process(&self, number: usize, layout: &Layout, process: &Process) -> Option<Cause>
         requires { AllByRecursion HasEntries process.now.aggregations }
         ensures some { let t = self.now.tables.now in
@@ -199,8 +200,8 @@ impl Verdicts<'_, '_> {
         }
     }
 
-    /// Why there is no verdict on what the collecting process at this place does with records of the layout of this
-    /// number.
+    /// Returns why there is no verdict on what the collecting process at this index does with records of the layout
+    /// with this number.
     pub(crate) fn cause_at(&self, process: usize, number: usize) -> Option<Cause>
         requires { by_table.AreTables self.now.tables.now }
         ensures some { let t = self.now.tables.now in

@@ -1,4 +1,4 @@
-//! The verdict on records that come to a collecting process, from those at the processes that it feeds.
+//! The verdict on records that reach a collecting process, from the verdicts at the processes that it feeds.
 ghost use Rattle.std.specs.Prelude.{◌≡◌, map, slice_get, Some};
 ghost use Rattle.std.specs.List.{AllByRecursion, list_all};
 ghost use Rattle.fx_layout.specs.Keys as keys;
@@ -13,14 +13,14 @@ use crate::verdict::{Fate, overlap_verdict, verdict_of_both};
 use fx_layout::Layout;
 use fx_tables::{AggregationEntry, MatchEntry, Net, Process};
 
-/// Whether all of these entries can be read from a layout.
+/// Returns whether all of these entries can be read from a layout.
 fn reads_entries(layout: &Layout, entries: &[MatchEntry]) -> bool
     ensures { result ≡ list_all (λ e. keys.reads layout.now e.axis e.bits) entries.now }
 {
     entries.iter().all(|e| layout.reads(e.axis, e.bits))
 }
 
-/// Whether an aggregation's key and match can be read from a layout.
+/// Returns whether an aggregation's key and match can be read from a layout.
 pub(crate) fn layout_reads(net: &Net, layout: &Layout, aggregation: &AggregationEntry) -> bool
     ensures { result ≡ verdicts.layout_reads net.now layout.now aggregation.now }
 {
@@ -28,7 +28,7 @@ pub(crate) fn layout_reads(net: &Net, layout: &Layout, aggregation: &Aggregation
         && reads_entries(layout, aggregation.matches())
 }
 
-/// The verdict on what is counted of records that come to the collecting process at this place.
+/// Returns the verdict on what is counted of records that reach the collecting process at this index.
 fn tally_verdict(net: &Net, layout: &Layout, process: usize) -> Option<Fate>
     ensures { result ≡ verdicts.tally_verdict net.now layout.now process }
 {
@@ -42,7 +42,7 @@ fn tally_verdict(net: &Net, layout: &Layout, process: usize) -> Option<Fate>
 }
 
 impl Verdicts<'_, '_> {
-    /// The verdict on records of the holder at this place.
+    /// Returns the verdict on records of the holder at this index.
     pub(crate) fn holder_verdict(&self, holder: usize) -> Option<Fate>
         ensures { let t = self.now.tables.now in
             let table = self.now.rows.now in
@@ -54,7 +54,7 @@ impl Verdicts<'_, '_> {
         self.sent_verdict(self.tables.number_of_layout(holder), named)
     }
 
-    /// The verdict on what an aggregation takes in of records of this layout: never, where it can't read them.
+    /// Returns the verdict on what an aggregation takes in from records of this layout: never, if it can't read them.
     fn taken_verdict(&self, layout: &Layout, aggregation: &AggregationEntry) -> Option<Fate>
         requires { HasEntries aggregation.now }
         ensures { let t = self.now.tables.now in
@@ -70,7 +70,7 @@ impl Verdicts<'_, '_> {
         overlap_verdict(passes, self.holder_verdict(aggregation.holder()))
     }
 
-    /// The verdict on what all of these aggregations take in.
+    /// Returns the verdict on what all of these aggregations take in.
     fn all_taken_verdict(&self, layout: &Layout, aggregations: &[AggregationEntry]) -> Option<Fate>
         requires { AllByRecursion HasEntries aggregations.now }
         ensures { let t = self.now.tables.now in
@@ -87,7 +87,7 @@ impl Verdicts<'_, '_> {
         joined
     }
 
-    /// The verdict on what a collecting process does with records of the layout of this number.
+    /// Returns the verdict on what a collecting process does with records of the layout with this number.
     fn handled_verdict(&self, number: usize, layout: &Layout, process: &Process) -> Option<Fate>
         requires { AllByRecursion HasEntries process.now.aggregations }
         ensures { let t = self.now.tables.now in
@@ -101,7 +101,8 @@ impl Verdicts<'_, '_> {
         verdict_of_both(forwarded, taken)
     }
 
-    /// The verdict on what the collecting process at this place does with such records; never, where there is none.
+    /// Returns the verdict on what the collecting process at this index does with such records: never, if there is no
+    /// such process.
     fn handled_verdict_at(&self, number: usize, layout: &Layout, process: usize) -> Option<Fate>
         requires { by_table.AreTables self.now.tables.now }
         ensures { let t = self.now.tables.now in
@@ -116,7 +117,7 @@ impl Verdicts<'_, '_> {
         }
     }
 
-    /// The entry for the collecting process at this place and the layout of this number, from the rows of the
+    /// Returns the entry for the collecting process at this index and the layout with this number, from the rows of the
     /// processes that it feeds.
     pub(crate) fn entry_from(&self, process: usize, number: usize, layout: &Layout) -> Option<Fate>
         requires { by_table.AreTables self.now.tables.now }

@@ -1,4 +1,4 @@
-//! What is to be said of the packets of a region, in one judgement.
+//! The judgement on the packets of a region.
 ghost use Rattle.std.specs.Prelude.{◌≡◌, ◌≤◌, List, length, IfOk, IfErr};
 ghost use Rattle.fx_boxes.specs.Boxes.{Bounds, IsRegion};
 ghost use Rattle.fx_tables.specs.Network.{Net};
@@ -19,32 +19,32 @@ use fx_boxes::Region;
 use fx_elements::Axis;
 use fx_tables::Crossing;
 
-/// What is to be said of the packets of a region that take a path.
+/// The judgement on the packets of a region that take a path.
 #[derive(Clone, Copy, Debug, PartialEq, Eq)]
 pub enum Judgement {
-    /// A selection process, or the match of an aggregation that records of the packets reach, holds for some of the
-    /// packets only. It has this bound strictly inside the region: values of the axis below `at`, and from `at` on.
+    /// A selection process, or the match of an aggregation that records of the packets reach, holds for only some of
+    /// the packets. It has this bound strictly inside the region: values of the axis below `at`, and from `at` on.
     Cut {
         /// The axis on which the region may be split.
         axis: Axis,
         /// The least value of the upper part.
         at: u128,
     },
-    /// Each packet is counted once, by this selection process alone.
+    /// Each packet is counted once, by exactly this selection process.
     Once(Counted),
     /// No packet is counted.
     Never,
     /// Each packet is counted more than once.
     Many,
-    /// How often a packet is counted depends on the destinations that are chosen.
+    /// How often a packet is counted depends on the chosen destinations.
     Differing,
-    /// Records of each packet can come to the report with a layout that doesn't refine the report's.
+    /// Records of each packet can reach the report with a layout that doesn't refine the report's.
     Unassigned,
 }
 
-/// What is to be said of the packets of a region that take a path: where to split it, if something cuts it, or how
-/// often each of them is counted. It says at once what `fate`, `never` and `cut` say, takes no memory, and answers
-/// the same whatever the room held.
+/// Judges the packets of a region that take a path: returns where to split the region, if something cuts it, or how
+/// often each packet is counted. It combines `fate`, `never` and `cut` in one call, allocates nothing, and returns the
+/// same whatever the scratch contained.
 pub fn judge(
     scratch: &mut Scratch,
     tables: &Tables<'_>,
@@ -56,12 +56,12 @@ pub fn judge(
     ensures judged { judgements.IsJudged tables.now.net path.now region.now result }
     ensures size { length scratch.new ≡ length scratch.old }
 {
-    // For the prover alone: the bounds of a region hold.
+    // Only for the prover: the bounds of a region hold.
     bounds_hold(region);
     judgement_of(path_verdict(scratch, tables, path, region))
 }
 
-/// What is to be said by what is known.
+/// Returns the judgement that follows from what is known.
 pub(crate) fn judgement_of(known: Result<PathFate, (Axis, u128)>) -> Judgement
     ensures { (net : Net) (path : List of_crossing.Crossing) (region : Bounds) → IsNetwork net
         → IsRegion region → IfOk known (leaves.IsPathFate net path region)

@@ -1,4 +1,4 @@
-//! The laws: no code, but contracts over the definitions.
+//! The laws: contracts over the definitions, without code.
 ghost use Rattle.std.specs.Prelude.{◌≡◌, ℕ, List};
 ghost use Rattle.fx_layout.specs.Keys as keys;
 ghost use Rattle.fx_machine.specs.Acts as acts;
@@ -14,8 +14,8 @@ ghost use Rattle.fx_leaf.specs.Certificates as certificates;
 ghost use Rattle.fx_leaf.specs.Fates as fates;
 ghost use Rattle.fx_leaf.specs.Laws as the_laws;
 
-/// Where each link leads to a process of higher rank, the fates of keys at processes agree with one another along
-/// the links, and no other fates do.
+/// If each link leads to a process of higher rank, the fates of keys at processes agree along the links, and no other
+/// fates do.
 pub fn fates_along_ranks()
     ensures agree { (net : network.Net) → ranks.IsRanked net → fates.AreFates net (fates.fate net) }
     ensures no_other { (net : network.Net) (at : fates.FateAt) → ranks.IsRanked net
@@ -23,15 +23,15 @@ pub fn fates_along_ranks()
         → at process key ≡ fates.fate net process key }
 {}
 
-/// What every step keeps: the totals, with each record on its way and each crossing to come weighed by its fate.
+/// The invariant of every step: the totals, plus each record on its way and each pending crossing weighed by its fate.
 pub fn conservation()
-    // At the opening it is the plain sums.
+    // At the opening, it is the plain sums.
     ensures opens { (net : network.Net) (classes : List traffic.Class) → ranks.IsNetwork net
         → certificates.AllAsWanted net classes → the_laws.Opens net classes }
-    // So it is modulo 2 to the 64, however large they are.
+    // So it is modulo 2 to the 64, however large the sums are.
     ensures opens_modulo { (net : network.Net) (classes : List traffic.Class) → ranks.IsNetwork net
         → certificates.AllAsWanted net classes → the_laws.OpensModulo net classes }
-    // There the machine's tables have their sizes, which each step keeps too.
+    // There the machine's tables have their sizes, which each step preserves too.
     ensures sized { (net : network.Net) (classes : List traffic.Class)
         (packets : List of_packet.Packet)
         → the_laws.IsSized net (states.opening net classes packets) }
@@ -44,31 +44,30 @@ pub fn conservation()
     ensures arrive { (net : network.Net) (classes : List traffic.Class) (link : ℕ) (number : ℕ)
         (choices : acts.Choices) → ranks.IsNetwork net
         → the_laws.Keeps net classes (of_step.Arrive link number choices) }
-    // In a complete state it is the totals.
+    // In a complete state, it is the totals.
     ensures ends { (net : network.Net) (classes : List traffic.Class) → the_laws.Ends net classes }
 {}
 
-/// Where a certificate is sound, each packet is counted exactly once by every complete run, and those of exempt classes
-/// never.
+/// If a certificate is sound, every complete run counts each packet exactly once, and those of exempt classes never.
 pub fn exactly_once()
     ensures once { the_laws.Theorem }
     // However large the sums are, the totals are the plain sums modulo 2 to the 64.
     ensures modulo { the_laws.TheoremModulo }
 {}
 
-/// The verdict on a region, which is worked out by layouts alone, says whether something cuts the region, which
+/// The verdict on a region, which is computed from layouts alone, determines whether something cuts the region, which
 /// fate its packets have, and which leaf is sound.
 pub fn verdicts_judge_regions()
-    // Where there is no verdict, something cuts the region.
+    // If there is no verdict, something cuts the region.
     ensures none { answers.OnEveryRegion answers.NoneIsCut }
-    // Where there is one, nothing does, and it is the fate of each packet.
+    // If there is one, nothing does, and it is the fate of each packet.
     ensures some { answers.OnEveryRegion answers.SomeIsFate }
-    // Where it is once, the selection process that counts makes a sound leaf, and no other does.
+    // If it is once, the selection process that counts makes a sound leaf, and no other does.
     ensures once { answers.OnEveryRegion answers.OnceIsSound }
     ensures no_other { answers.OnEveryRegion answers.NoOtherIsSound }
-    // Where it is never no packet is counted, and nowhere else.
+    // No packet is counted if, and only if, it is never.
     ensures never { answers.OnEveryRegion answers.NeverIsSound }
     ensures never_alone { answers.OnEveryRegion answers.SoundIsNever }
-    // Verdicts at collecting processes may be worked out by table, from the processes of highest rank on.
+    // Verdicts at collecting processes may be computed in a table, starting at the processes of highest rank.
     ensures table { answers.TableIsVerdicts }
 {}

@@ -17,19 +17,19 @@ use fx_boxes::Region;
 use fx_elements::Axis;
 use fx_tables::Crossing;
 
-/// The selection process that counts the packets of a leaf, by numbers from 1: its crossing's on the path, its
-/// observation point's on the crossing's device, and its own at the point.
+/// The selection process that counts the packets of a leaf, by 1-based numbers: of its crossing on the path, of its
+/// observation point on the crossing's device, and of the process at the point.
 #[derive(Clone, Copy, Debug, PartialEq, Eq)]
 pub struct Counted {
-    /// The crossing's number on the path.
+    /// The number of the crossing on the path.
     pub crossing: u64,
-    /// The observation point's number on the crossing's device.
+    /// The number of the observation point on the crossing's device.
     pub point: u64,
-    /// The selection process's number at its point.
+    /// The number of the selection process at its point.
     pub process: u64,
 }
 
-/// The fault where packets are to be counted once, and aren't.
+/// Returns the fault of packets that must be counted once and have this fate instead.
 fn fault_of(fate: Fate) -> Fault
     ensures { result ≡ leaves.fault_of (Some fate) }
 {
@@ -41,7 +41,7 @@ fn fault_of(fate: Fate) -> Fault
     }
 }
 
-/// The leaf that is sound by what is known, or why there is none.
+/// Returns the leaf that is sound by what is known, or why there is none.
 pub(crate) fn leaf_of(known: Result<PathFate, (Axis, u128)>) -> Result<Counted, Fault>
     ensures ok { IfOk known (λ t. result ≡ leaves.leaf_of (Some t.fate) t.counted) }
     ensures err { IfErr known (λ s. result ≡ Err (leaves.fault_of None)) }
@@ -55,7 +55,7 @@ pub(crate) fn leaf_of(known: Result<PathFate, (Axis, u128)>) -> Result<Counted, 
     }
 }
 
-/// Whether no packet is counted by what is known, or why not.
+/// Checks whether no packet is counted by what is known, and fails with the reason otherwise.
 pub(crate) fn never_of(known: Result<PathFate, (Axis, u128)>) -> Result<(), Fault>
     ensures ok { IfOk known (λ t. result ≡ leaves.never_of (Some t.fate)) }
     ensures err { IfErr known (λ s. result ≡ Err (leaves.fault_of None)) }
@@ -70,8 +70,8 @@ pub(crate) fn never_of(known: Result<PathFate, (Axis, u128)>) -> Result<(), Faul
     }
 }
 
-/// The verdict on the packets of a region that take a path, or a bound of what cuts the region, where there is room for
-/// the collecting processes of these tables and no more.
+/// Returns the verdict on the packets of a region that take a path, or a bound of what cuts the region, given room for
+/// exactly the collecting processes of these tables.
 fn path_verdict_in_room(
     rows: &mut [VerdictRow],
     marks: &mut [u64],
@@ -85,7 +85,7 @@ fn path_verdict_in_room(
     ensures ok { IfOk result (leaves.IsPathFate tables.now.net path.now region.now) }
     ensures err { IfErr result (λ s. splits.IsSplit tables.now.net path.now region.now s.0 s.1) }
 {
-    // For the prover alone: the bounds of a region hold.
+    // Only for the prover: the bounds of a region hold.
     bounds_hold(region);
     prepare(rows, marks, tables, path, region);
     let verdicts = Verdicts {
@@ -97,8 +97,8 @@ fn path_verdict_in_room(
     reader.path(path)
 }
 
-/// The verdict on the packets of a region that take a path, or a bound of what cuts it, in any room that is large
-/// enough.
+/// Returns the verdict on the packets of a region that take a path, or a bound of what cuts it, given any room that is
+/// large enough.
 fn path_verdict_in_larger_room(
     rows: &mut Vec<VerdictRow>,
     marks: &mut Vec<u64>,
@@ -124,7 +124,7 @@ fn path_verdict_in_larger_room(
     )
 }
 
-/// The verdict on the packets of a region that take a path, or a bound of what cuts it, worked out in a scratch.
+/// Returns the verdict on the packets of a region that take a path, or a bound of what cuts it, computed in a scratch.
 pub(crate) fn path_verdict(
     scratch: &mut Scratch,
     tables: &Tables<'_>,
@@ -140,13 +140,13 @@ pub(crate) fn path_verdict(
     path_verdict_in_larger_room(&mut scratch.rows, &mut scratch.marks, tables, path, region)
 }
 
-/// The leaf that is sound for the packets of a region that take a path: the one selection process that counts each of
-/// them. It takes no memory, and answers the same whatever the room held.
+/// Returns the leaf that is sound for the packets of a region that take a path: the one selection process that counts
+/// each of them. It allocates nothing, and returns the same whatever the scratch contained.
 ///
-/// Fails with 406 where a selection process, or the match of an aggregation that records of the packets reach, holds
-/// for some of the packets only; else with 413 where records can come to the report under a layout that doesn't refine
-/// the report's, with 409 where the destinations of a choice differ, with 408 where packets are counted more than once, and
-/// with 407 where they aren't counted.
+/// Fails with 406 if a selection process, or the match of an aggregation that records of the packets reach, holds for
+/// only some of the packets; else with 413 if records can reach the report under a layout that doesn't refine the
+/// report's, with 409 if the destinations of a choice differ, with 408 if packets are counted more than once, and with
+/// 407 if they aren't counted.
 pub fn fate(
     scratch: &mut Scratch,
     tables: &Tables<'_>,
@@ -155,10 +155,10 @@ pub fn fate(
 ) -> Result<Counted, Fault>
     requires tables { by_table.AreTables tables.now }
     requires room { length tables.now.net.processes ≤ length scratch.old }
-    // The leaf is sound,
+    // The leaf is sound.
     ensures sound { IfOk result (λ c. sound_leaves.SoundLeaf tables.now.net path.now region.now
         c.crossing c.point c.process) }
-    // it is answered wherever there is one, and no other leaf is sound.
+    // A leaf is returned whenever one is sound, and no other leaf is sound.
     ensures every { (crossing point process : ℕ)
         → sound_leaves.SoundLeaf tables.now.net path.now region.now crossing point process
         → result ≡ Ok (record { crossing = crossing; point = point; process = process }) }
@@ -166,15 +166,15 @@ pub fn fate(
     ensures answer { result ≡ leaves.path_leaf tables.now.net path.now region.now }
     ensures size { length scratch.new ≡ length scratch.old }
 {
-    // For the prover alone: the bounds of a region hold.
+    // Only for the prover: the bounds of a region hold.
     bounds_hold(region);
     leaf_of(path_verdict(scratch, tables, path, region))
 }
 
-/// Ok where none of the packets of a region that take a path is counted, as exempt packets must not be. It takes no
-/// memory, and answers the same whatever the room held.
+/// Checks whether none of the packets of a region that take a path is counted, as is required of exempt packets. It
+/// allocates nothing, and returns the same whatever the scratch contained.
 ///
-/// Fails with 406, 413, 409 and 408 as `fate` does, and with 415 where each packet is counted once.
+/// Fails with 406, 413, 409 and 408 like `fate`, and with 415 if each packet is counted once.
 pub fn never(
     scratch: &mut Scratch,
     tables: &Tables<'_>,
@@ -183,7 +183,7 @@ pub fn never(
 ) -> Result<(), Fault>
     requires tables { by_table.AreTables tables.now }
     requires room { length tables.now.net.processes ≤ length scratch.old }
-    // It is Ok just where the leaf that says so is sound.
+    // It is Ok exactly if the leaf that says so is sound.
     ensures sound { OnOk result (sound_leaves.SoundNever tables.now.net path.now region.now) }
     ensures every { sound_leaves.SoundNever tables.now.net path.now region.now → result ≡ Ok tt }
     ensures none { IfErr result (λ e. leaves.NeverIsUnsound tables.now.net path.now region.now e) }
@@ -191,7 +191,7 @@ pub fn never(
         (verdicts.path_verdict tables.now.net region.now path.now) }
     ensures size { length scratch.new ≡ length scratch.old }
 {
-    // For the prover alone: the bounds of a region hold.
+    // Only for the prover: the bounds of a region hold.
     bounds_hold(region);
     never_of(path_verdict(scratch, tables, path, region))
 }

@@ -1,5 +1,5 @@
-//! What becomes of a packet: how often it comes to be counted, and when a certificate shows that each is counted
-//! exactly once.
+//! The fate of a packet: how often it is counted, and when a certificate shows that each packet is counted exactly
+//! once.
 #![tactic(auto)]
 
 mod balance;

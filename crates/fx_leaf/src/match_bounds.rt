@@ -1,4 +1,5 @@
-//! The bounds of the matches that cut a region where records of its packets come, and the one that halves them.
+//! The bounds of the matches that cut a region at the processes that records of its packets reach, and the bound that
+//! halves them.
 ghost use Rattle.std.specs.Prelude.{◌≡◌, ℕ, List, Contains, IfOk, IfSome, OnOk};
 ghost use Rattle.std.specs.List.{AllByRecursion};
 ghost use Rattle.fx_elements.specs.declared.axis.Axis as of_axis;
@@ -26,7 +27,7 @@ use fx_layout::Layout;
 use fx_tables::{AggregationEntry, MatchEntry, Selection};
 use std::alloc::AllocError;
 
-/// The part of the region for which a match holds, all of its entries together, if the match cuts the region.
+/// Returns the part of the region for which a match holds, all of its entries together, if the match cuts the region.
 fn cut_part(region: &Region, entries: &[MatchEntry]) -> Option<Region>
     requires { AllByRecursion IsEntry entries.now }
     ensures { IfSome result (λ part.
@@ -34,10 +35,10 @@ fn cut_part(region: &Region, entries: &[MatchEntry]) -> Option<Region>
         × ((axis : of_axis.Axis) (at : ℕ) → splits.IsSplitBy region.now part axis at
         → splits.IsSplitBy region.now (overlaps.match_fields entries.now) axis at)) }
 {
-    // For the prover alone: the bounds of a region hold.
+    // Only for the prover: the bounds of a region hold.
     bounds_hold(region);
     let part = match_part(region, entries)?;
-    // For the prover alone: both ends of the part are in it.
+    // Only for the prover: both ends of the part are in it.
     let _ends = (part.corner(), part.far_corner());
     match region_overlap(region, &part) {
         Overlap::Part => Some(part),
@@ -46,7 +47,8 @@ fn cut_part(region: &Region, entries: &[MatchEntry]) -> Option<Region>
 }
 
 impl Verdicts<'_, '_> {
-    /// The part of the region whose records of this layout an aggregation takes in, if its match cuts the region.
+    /// Returns the part of the region whose records of this layout an aggregation takes in, if its match cuts the
+    /// region.
     fn part_taken(&self, layout: &Layout, aggregation: &AggregationEntry) -> Option<Region>
         requires { HasEntries aggregation.now }
         ensures { let t = self.now.tables.now in
@@ -62,7 +64,7 @@ impl Verdicts<'_, '_> {
         cut_part(self.region, aggregation.matches())
     }
 
-    /// How many bounds of the matches that cut the region are strictly inside it, by axis.
+    /// Returns, by axis, how many bounds of the matches that cut the region are strictly inside it.
     fn count_matches(&self, layout: &Layout, aggregations: &[AggregationEntry]) -> [u64; AXES]
         requires { AllByRecursion HasEntries aggregations.now }
     {
@@ -75,7 +77,7 @@ impl Verdicts<'_, '_> {
         counts
     }
 
-    /// Collects the bounds on an axis of the matches that cut the region, where they are strictly inside it.
+    /// Collects the bounds on an axis of the matches that cut the region that are strictly inside it.
     fn collect_matches(
         &self,
         values: &mut Vec<u128>,
@@ -99,7 +101,7 @@ impl Verdicts<'_, '_> {
         Ok(())
     }
 
-    /// The bound that halves those of the matches that cut the region, if one does.
+    /// Returns the bound that halves those of the matches that cut the region, if one does.
     fn halving_among(
         &self,
         bounds: &mut CutBounds,
@@ -121,8 +123,8 @@ impl Verdicts<'_, '_> {
         }
     }
 
-    /// The bound that halves those of the matches that cut the region at the collecting process of this place, for
-    /// records of the layout of this number, from 0 each.
+    /// Returns the bound that halves those of the matches that cut the region at the collecting process at this index,
+    /// for records of the layout with this number, each 0-based.
     fn halving_at(
         &self,
         bounds: &mut CutBounds,
@@ -147,7 +149,7 @@ impl Verdicts<'_, '_> {
 }
 
 impl PathReader<'_, '_> {
-    /// The match that cuts the region behind a selection process's cache.
+    /// Returns the match that cuts the region downstream of a selection process's cache.
     fn match_cut(&self, selection: &Selection) -> Option<MatchCut>
         requires tables { by_table.AreTables self.now.verdicts.tables.now }
         requires along { let t = self.now.verdicts.tables.now in
@@ -165,7 +167,8 @@ impl PathReader<'_, '_> {
         }
     }
 
-    /// The match that cuts the region behind the first of these selection processes behind whose cache one does.
+    /// Returns the match that cuts the region downstream of the first of these selection processes for which there is
+    /// one.
     fn first_match_cut(&self, selections: &[PathSelection<'_>]) -> Option<MatchCut>
         requires tables { by_table.AreTables self.now.verdicts.tables.now }
         requires along { let t = self.now.verdicts.tables.now in
@@ -187,10 +190,10 @@ impl PathReader<'_, '_> {
         None
     }
 
-    /// Where to split a region that none of these selection processes cuts, and that is cut at `other`: at the bound in the
-    /// middle of those of all matches that cut it at one collecting process; at `other`, if no match does.
+    /// Returns where to split a region that none of these selection processes cuts, and that is cut at `other`: at the
+    /// middle one of the bounds of all matches that cut it at one collecting process, or at `other` if no match does.
     ///
-    /// Fails where memory runs out.
+    /// Fails if out of memory.
     pub(crate) fn halving_match(
         &self,
         bounds: &mut CutBounds,

@@ -1,5 +1,5 @@
-//! The collecting process in the middle of those to which records are sent and where something cuts the region, so that
-//! splits halve what cuts it at several processes, too.
+//! The middle one of the collecting processes that records are sent to and at which something cuts the region, so that
+//! splits also halve what cuts it at several processes.
 ghost use Rattle.std.specs.Prelude.{◌≡◌, List, slice_get, [], ◌∷◌, IfSome};
 ghost use Rattle.fx_tables.specs.Network as network;
 ghost use Rattle.fx_tables.specs.declared.traffic.Crossing as of_crossing;
@@ -13,7 +13,7 @@ use crate::split::MatchCut;
 use crate::table::Verdicts;
 
 impl Verdicts<'_, '_> {
-    /// How many of these destinations lead to a collecting process at which there is no verdict.
+    /// Counts these destinations that lead to a collecting process without a verdict.
     fn count_destinations(&self, number: usize, destinations: &[Option<usize>]) -> usize {
         let mut count: usize = 0;
         for destination in destinations {
@@ -24,7 +24,7 @@ impl Verdicts<'_, '_> {
         count
     }
 
-    /// The collecting process behind a destination at which there is no verdict, after `skipped` others.
+    /// Returns the collecting process without a verdict that a destination leads to, after `skipped` others.
     fn destination_after(
         &self,
         number: usize,
@@ -47,8 +47,8 @@ impl Verdicts<'_, '_> {
         None
     }
 
-    /// The collecting process in the middle of those behind the exporting process at this place at which there is no
-    /// verdict.
+    /// Returns the middle one of the collecting processes without a verdict that the exporting process at this index
+    /// sends to.
     fn middle_at_exporter(&self, number: usize, place: usize) -> Option<usize>
         ensures { let net = self.now.tables.now.net in
             let table = self.now.rows.now in
@@ -65,7 +65,7 @@ impl Verdicts<'_, '_> {
         }
     }
 
-    /// How many of the exporting processes at these places send to a collecting process at which there is no verdict.
+    /// Counts the exporting processes at these indices that send to a collecting process without a verdict.
     fn count_exporters(&self, number: usize, places: &[usize]) -> usize {
         let mut count: usize = 0;
         for place in places {
@@ -76,8 +76,8 @@ impl Verdicts<'_, '_> {
         count
     }
 
-    /// The collecting process in the middle behind an exporting process, after `skipped` others that send to one at which
-    /// there is no verdict.
+    /// Returns the middle collecting process of an exporting process, after `skipped` others that send to one without a
+    /// verdict.
     fn exporter_after(&self, number: usize, places: &[usize], skipped: usize) -> Option<usize>
         ensures { let net = self.now.tables.now.net in
             let table = self.now.rows.now in
@@ -98,7 +98,8 @@ impl Verdicts<'_, '_> {
 }
 
 impl PathReader<'_, '_> {
-    /// The match that cuts the region behind a cache, where there are several at the collecting process in the middle.
+    /// Returns the match that cuts the region downstream of a cache, if there are several at the middle collecting
+    /// process.
     pub(crate) fn middle_cut_behind_holder(&self, holder: usize) -> Option<MatchCut>
         requires tables { by_table.AreTables self.now.verdicts.tables.now }
         requires along { let t = self.now.verdicts.tables.now in

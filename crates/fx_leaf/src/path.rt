@@ -1,4 +1,4 @@
-//! What is known of the packets of a region that take a path, or what cuts the region.
+//! The fate of the packets of a region that take a path, or what cuts the region.
 ghost use Rattle.std.specs.Prelude.{◌≡◌, true, List, [], ◌∷◌, if◌then◌else◌, Contains, Some, IfOk, IfErr};
 ghost use Rattle.fx_boxes.specs.Boxes as boxes;
 ghost use Rattle.fx_tables.specs.Network as network;
@@ -20,7 +20,7 @@ use crate::verdict::{Fate, overlap_verdict};
 use fx_elements::Axis;
 use fx_tables::{Crossing, Point, Selection};
 
-/// What is known of the packets, from the selection processes that were met. None of them cuts the region.
+/// What is known of the packets from the selection processes met so far. None of them cuts the region.
 #[derive(Clone, Copy)]
 pub(crate) struct PathFate {
     /// How often all of them together count a packet.
@@ -30,7 +30,7 @@ pub(crate) struct PathFate {
 }
 
 impl PathFate {
-    /// What is known with one more selection process: how often it counts a packet, and its numbers.
+    /// Returns what is known with one more selection process: how often it counts a packet, and its numbers.
     fn with(self, fate: Fate, numbers: Counted) -> PathFate
         ensures { leaves.AddsVerdicts self result
             (record {
@@ -52,7 +52,7 @@ impl PathFate {
     }
 }
 
-/// What reads paths: verdicts by table on a region's packets, which are filled where they are marked.
+/// A reader of paths: the verdicts on a region's packets in a table whose marked entries are filled.
 #[derive(Drop)]
 pub(crate) struct PathReader<'a, 't> {
     pub(crate) verdicts: Verdicts<'a, 't>,
@@ -63,7 +63,7 @@ pub(crate) struct PathReader<'a, 't> {
 }
 
 impl PathReader<'_, '_> {
-    /// The verdict on records of the holder at this place.
+    /// Returns the verdict on records of the holder at this index.
     fn holder_verdict(&self, holder: usize) -> Option<Fate>
         requires tables { by_table.AreTables self.now.verdicts.tables.now }
         requires along { let t = self.now.verdicts.tables.now in
@@ -75,8 +75,8 @@ impl PathReader<'_, '_> {
         self.verdicts.holder_verdict(holder)
     }
 
-    /// What is known with a selection process of these numbers, if it has a cache; or, where it or what is behind its
-    /// cache cuts the region, a bound of that.
+    /// Returns what is known with a selection process with these numbers, if it has a cache. Fails with a bound if it,
+    /// or what is downstream of its cache, cuts the region.
     fn selection(
         &self,
         known: PathFate,
@@ -111,7 +111,7 @@ impl PathReader<'_, '_> {
         }
     }
 
-    /// What is known with the selection processes of a point, up to the first that cuts the region.
+    /// Returns what is known with the selection processes of a point, up to the first that cuts the region.
     fn selections(
         &self,
         known: PathFate,
@@ -146,7 +146,7 @@ impl PathReader<'_, '_> {
         Ok(known)
     }
 
-    /// What is known with these selection processes, up to the first that cuts the region.
+    /// Returns what is known with these selection processes, up to the first that cuts the region.
     pub(crate) fn known_of(
         &self,
         selections: &[PathSelection<'_>],
@@ -177,7 +177,7 @@ impl PathReader<'_, '_> {
         Ok(known)
     }
 
-    /// What is known with a point, if it watches the crossing.
+    /// Returns what is known with a point, if it watches the crossing.
     fn point(
         &self,
         known: PathFate,
@@ -210,7 +210,7 @@ impl PathReader<'_, '_> {
         }
     }
 
-    /// What is known with these points of the crossing's device.
+    /// Returns what is known with these points of the crossing's device.
     fn points(
         &self,
         known: PathFate,
@@ -242,7 +242,7 @@ impl PathReader<'_, '_> {
         Ok(known)
     }
 
-    /// What is known with the points at a crossing of this number.
+    /// Returns what is known with the points at a crossing with this number.
     fn crossing(
         &self,
         known: PathFate,
@@ -269,7 +269,7 @@ impl PathReader<'_, '_> {
         self.points(known, number, crossing, points)
     }
 
-    /// What is known with the points along a path.
+    /// Returns what is known with the points along a path.
     fn along(&self, known: PathFate, path: &[Crossing]) -> Result<PathFate, (Axis, u128)>
         requires tables { by_table.AreTables self.now.verdicts.tables.now }
         requires along { let t = self.now.verdicts.tables.now in
@@ -290,7 +290,8 @@ impl PathReader<'_, '_> {
         Ok(known)
     }
 
-    /// What is known of the packets that take a path; or, where something cuts the region, a bound of that.
+    /// Returns what is known of the packets that take a path. Fails with a bound of what cuts the region, if something
+    /// does.
     pub(crate) fn path(&self, path: &[Crossing]) -> Result<PathFate, (Axis, u128)>
         requires tables { by_table.AreTables self.now.verdicts.tables.now }
         requires along { let t = self.now.verdicts.tables.now in

@@ -1,4 +1,4 @@
-//! Leaves of one path, judged one after another: what depends on the path alone is worked out once.
+//! Judging the leaves of one path one after another: what depends only on the path is computed once.
 ghost use Rattle.std.specs.Prelude.{◌≡◌, ◌≤◌, ◌<◌, ℕ, List, length, slice_index_or, [], IfOk, IfErr, OnOk, IsTrue};
 ghost use Rattle.fx_base.specs.Fault.{IsMemory};
 ghost use Rattle.fx_boxes.specs.Boxes.{Bounds};
@@ -31,9 +31,9 @@ use std::alloc::{AllocError, Global};
 use std::marker::Model;
 
 /// Room for what the leaves of a path are judged by: a verdict for each collecting process and each layout, marks of
-/// those that are needed, and the path's selection processes. The marks are the path's, and where no aggregation takes
-/// in records of its packets, so are the verdicts: then a leaf costs no more than the selection processes that still
-/// matter for its region.
+/// those that are needed, and the selection processes of the path. The marks depend only on the path, and if no
+/// aggregation takes in records of its packets, so do the verdicts: then a leaf costs no more than the selection
+/// processes that still matter for its region.
 #[derive(Debug, Drop)]
 pub struct PathScratch<'a> {
     rows: Vec<VerdictRow>,
@@ -56,14 +56,14 @@ impl<'a> Model for PathScratch<'a> {
     } };
 }
 
-/// Whether a collecting process has no mark, or no aggregation.
+/// Returns whether a collecting process has no mark or no aggregation.
 fn takes_none_in(marks: u64, process: &Process) -> bool
     ensures { IsTrue result → path_tables.HasNoMarkOrAggregation marks process.now }
 {
     marks == 0 || process.aggregations().is_empty()
 }
 
-/// Whether no aggregation takes records in at the collecting processes that are marked.
+/// Returns whether no aggregation takes in records at the marked collecting processes.
 fn take_none_in(marks: &[u64], processes: &[Process]) -> bool
     requires { length marks.now ≡ length processes.now }
     ensures { IsTrue result → path_tables.TakeNoneIn processes.now marks.now }
@@ -77,9 +77,9 @@ fn take_none_in(marks: &[u64], processes: &[Process]) -> bool
 }
 
 impl<'a> PathScratch<'a> {
-    /// Room for the collecting processes of these tables, and for no selection process.
+    /// Returns room for the collecting processes of these tables, and for no selection process.
     ///
-    /// Fails with 900, at no place, where memory runs out.
+    /// Fails with 900, at no place, if out of memory.
     pub fn new(alloc: Global, tables: &Tables<'a>) -> Result<PathScratch<'a>, Fault>
         ensures ok { IfOk result (path_tables.HasProcessRoom tables.now) }
         ensures err { IfErr result IsMemory }
@@ -93,9 +93,9 @@ impl<'a> PathScratch<'a> {
         })
     }
 
-    /// Makes room for the selection processes of a path too.
+    /// Reserves room for the selection processes of a path too.
     ///
-    /// Fails with 900, at no place, where memory runs out.
+    /// Fails with 900, at no place, if out of memory.
     pub fn reserve(&mut self, tables: &Tables<'_>, path: &[Crossing]) -> Result<(), Fault>
         requires room { path_tables.HasProcessRoom tables.now self.old }
         ensures path { OnOk result (path_tables.HasPathRoom tables.now path.now self.new) }
@@ -110,7 +110,7 @@ impl<'a> PathScratch<'a> {
         Ok(())
     }
 
-    /// Marks what the verdict on a path is worked out from, and works the verdicts out that hold for each region.
+    /// Marks what the verdict on a path is computed from, and computes the verdicts that hold for each region.
     fn mark_path(&mut self, tables: &Tables<'_>, path: &[Crossing])
         requires tables { by_table.AreTables tables.now }
         requires room { path_tables.HasProcessRoom tables.now self.old }
@@ -125,7 +125,7 @@ impl<'a> PathScratch<'a> {
         }
     }
 
-    /// Begins a path, whose leaves are judged from now on, and returns how many selection processes it meets.
+    /// Begins a path, whose leaves are judged from now on, and returns the number of selection processes that it meets.
     pub fn begin(&mut self, tables: &Tables<'a>, path: &[Crossing]) -> usize
         requires tables { by_table.AreTables tables.now }
         requires room { path_tables.HasProcessRoom tables.now self.old }
@@ -140,8 +140,8 @@ impl<'a> PathScratch<'a> {
         self.selections.len()
     }
 
-    /// Of the first `active` selection processes, behind which none counts a packet of the region, moves those that
-    /// count some before the others, and returns how many they are.
+    /// Moves those of the first `active` selection processes that count packets of the region before the others, and
+    /// returns their number. None after the first `active` counts a packet of the region.
     pub fn narrow(&mut self, region: &Region, active: usize) -> usize
         requires narrowed { of_path.IsNarrowed self.old.selections region.now active }
         ensures narrowed { of_path.IsNarrowed self.new.selections region.now result }
@@ -161,7 +161,7 @@ impl<'a> PathScratch<'a> {
         self.selections.narrow(region, active)
     }
 
-    /// Works out the verdicts on the packets of this region.
+    /// Computes the verdicts on the packets of this region.
     fn fill_for(&mut self, tables: &Tables<'_>, path: &[Crossing], region: &Region)
         requires tables { by_table.AreTables tables.now }
         requires room { path_tables.HasProcessRoom tables.now self.old }
@@ -179,7 +179,7 @@ impl<'a> PathScratch<'a> {
         fill(&mut self.rows, &self.marks, tables, region);
     }
 
-    /// The verdict on the packets of a region that take the path, or a bound of what cuts the region.
+    /// Returns the verdict on the packets of a region that take the path, or a bound of what cuts the region.
     fn path_verdict(
         &mut self,
         tables: &Tables<'_>,
@@ -201,7 +201,7 @@ impl<'a> PathScratch<'a> {
         ensures kept { self.new.selections ≡ self.old.selections }
         ensures more { self.old.room ≤ self.new.room }
     {
-        // For the prover alone: the bounds of a region hold.
+        // Only for the prover: the bounds of a region hold.
         bounds_hold(region);
         self.fill_for(tables, path, region);
         let verdicts = Verdicts {
@@ -217,11 +217,11 @@ impl<'a> PathScratch<'a> {
         reader.known_of(&self.selections.as_slice()[..active])
     }
 
-    /// The leaf that is sound for the packets of a region that take the path that was begun, as [`fate`](crate::fate)
-    /// answers it. The first `active` selection processes are looked at; the others count no packet of the region.
-    /// It takes no memory.
+    /// Returns the leaf that is sound for the packets of a region that take the begun path, like [`fate`](crate::fate).
+    /// Only the first `active` selection processes are looked at; the others count no packet of the region. It
+    /// allocates nothing.
     ///
-    /// Fails as that does.
+    /// Fails like [`fate`](crate::fate).
     pub fn fate(
         &mut self,
         tables: &Tables<'_>,
@@ -239,16 +239,16 @@ impl<'a> PathScratch<'a> {
         ensures kept { self.new.selections ≡ self.old.selections }
         ensures more { self.old.room ≤ self.new.room }
     {
-        // For the prover alone: the bounds of a region hold.
+        // Only for the prover: the bounds of a region hold.
         bounds_hold(region);
         leaf_of(self.path_verdict(tables, path, region, active))
     }
 
-    /// Ok where none of the packets of a region that take the path that was begun is counted, as
-    /// [`never`](crate::never) answers it. The first `active` selection processes are looked at; the others count no packet
-    /// of the region. It takes no memory.
+    /// Checks whether none of the packets of a region that take the begun path is counted, like
+    /// [`never`](crate::never). Only the first `active` selection processes are looked at; the others count no packet
+    /// of the region. It allocates nothing.
     ///
-    /// Fails as that does.
+    /// Fails like [`never`](crate::never).
     pub fn never(
         &mut self,
         tables: &Tables<'_>,
@@ -267,14 +267,13 @@ impl<'a> PathScratch<'a> {
         ensures kept { self.new.selections ≡ self.old.selections }
         ensures more { self.old.room ≤ self.new.room }
     {
-        // For the prover alone: the bounds of a region hold.
+        // Only for the prover: the bounds of a region hold.
         bounds_hold(region);
         never_of(self.path_verdict(tables, path, region, active))
     }
 
-    /// What is to be said of the packets of a region that take the path that was begun, as [`judge`](crate::judge) says
-    /// it. The first `active` selection processes are looked at; the others count no packet of the region. It takes no
-    /// memory.
+    /// Judges the packets of a region that take the begun path, like [`judge`](crate::judge). Only the first `active`
+    /// selection processes are looked at; the others count no packet of the region. It allocates nothing.
     pub fn judge(
         &mut self,
         tables: &Tables<'_>,
@@ -294,17 +293,17 @@ impl<'a> PathScratch<'a> {
         ensures kept { self.new.selections ≡ self.old.selections }
         ensures more { self.old.room ≤ self.new.room }
     {
-        // For the prover alone: the bounds of a region hold.
+        // Only for the prover: the bounds of a region hold.
         bounds_hold(region);
         judgement_of(self.path_verdict(tables, path, region, active))
     }
 
-    /// Where to split a region that is cut at `other`, so that the split halves what cuts the region: at the bound in the
-    /// middle of those on the axis that has the most. The bounds are those of the first `active` selection processes, or,
-    /// where none of these cuts the region, of the matches that cut it at one collecting process. The verdicts on the
-    /// region's packets are worked out.
+    /// Returns where to split a region that is cut at `other`, so that the split halves what cuts the region: at the
+    /// middle bound on the axis that has the most. The bounds are those of the first `active` selection processes or,
+    /// if none of these cuts the region, those of the matches that cut it at one collecting process. The verdicts on
+    /// the region's packets must have been computed.
     ///
-    /// Fails with 900, at no place, where memory runs out.
+    /// Fails with 900, at no place, if out of memory.
     pub fn halving_bound(
         &self,
         bounds: &mut CutBounds,
@@ -324,7 +323,7 @@ impl<'a> PathScratch<'a> {
             other.0 other.1 → splits.IsSplit tables.now.net path.now region.now s.0 s.1) }
         ensures err { IfErr result IsMemory }
     {
-        // For the prover alone: the bounds of a region hold.
+        // Only for the prover: the bounds of a region hold.
         bounds_hold(region);
         let active = active.min(self.selections.len());
         let selections = &self.selections.as_slice()[..active];

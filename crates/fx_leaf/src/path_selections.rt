@@ -1,4 +1,4 @@
-//! The selection processes that a path meets, those that matter for a region before the others.
+//! The selection processes that a path meets, with those that matter for a region before the others.
 ghost use Rattle.std.specs.Prelude.{◌≡◌, ◌≤◌, ◌<◌, ◌+◌, ◌++◌, ◌∷◌, ◌↔◌, [], ℕ, drop, length, slice_index_or, IfOk, IfSome, IsTrue, OnOk};
 ghost use Rattle.std.specs.List.Sorted.{IsPermutation};
 ghost use Rattle.fx_base.specs.Entries.{entry_numbered};
@@ -15,7 +15,7 @@ use std::marker::Model;
 /// A selection process of a point that watches a crossing of a path.
 #[derive(Debug, Drop)]
 pub(crate) struct PathSelection<'a> {
-    /// The numbers of the crossing, the point and the process, from 1 each.
+    /// The 1-based numbers of the crossing, the point and the process.
     pub(crate) numbers: Counted,
     pub(crate) selection: &'a Selection,
 }
@@ -33,7 +33,7 @@ impl<'a> Model for PathSelection<'a> {
     } };
 }
 
-/// The selection processes of a path, in room that is made beforehand.
+/// The selection processes of a path, in room that is reserved beforehand.
 #[derive(Debug, Drop)]
 pub(crate) struct PathSelections<'a> {
     items: Vec<PathSelection<'a>>,
@@ -48,7 +48,7 @@ impl<'a> Model for PathSelections<'a> {
     ghost view = { λ s. record { items = s.items.items; room = vec_capacity s.items } };
 }
 
-/// Whether a selection process counts no packet of the region: it has no cache, or selects none of them.
+/// Returns whether a selection process counts no packet of the region: it has no cache, or selects none of them.
 fn is_apart(region: &Region, selection: &Selection) -> bool
     ensures { IsTrue result ↔ of_path.IsApart region.now selection.now }
 {
@@ -61,8 +61,8 @@ fn is_apart(region: &Region, selection: &Selection) -> bool
     }
 }
 
-/// Of the first `active` selection processes, moves those that count packets of the region before the others, and
-/// returns how many they are.
+/// Moves those of the first `active` selection processes that count packets of the region before the others, and
+/// returns their number.
 fn narrow(selections: &mut [PathSelection<'_>], region: &Region, active: usize) -> usize
     requires within { active ≤ length selections.old }
     requires narrowed { of_path.IsNarrowed selections.old region.now active }
@@ -86,9 +86,9 @@ fn narrow(selections: &mut [PathSelection<'_>], region: &Region, active: usize) 
 }
 
 impl<'a> PathSelections<'a> {
-    /// Returns room for `room` selection processes, and none of them.
+    /// Returns empty room for `room` selection processes.
     ///
-    /// Fails where memory runs out.
+    /// Fails if out of memory.
     pub(crate) fn new(alloc: Global, room: usize) -> Result<PathSelections<'a>, AllocError>
         ensures { IfOk result (λ s. (s.items ≡ []) × (s.room ≡ room)) }
     {
@@ -97,9 +97,9 @@ impl<'a> PathSelections<'a> {
         })
     }
 
-    /// Makes room for `count` selection processes.
+    /// Reserves room for `count` selection processes.
     ///
-    /// Fails where memory runs out.
+    /// Fails if out of memory.
     pub(crate) fn reserve(&mut self, count: usize) -> Result<(), AllocError>
         ensures ok { OnOk result (count ≤ self.new.room) }
         ensures more { self.old.room ≤ self.new.room }
@@ -108,21 +108,21 @@ impl<'a> PathSelections<'a> {
         self.items.reserve_exact(count)
     }
 
-    /// How many there are.
+    /// Returns their number.
     pub(crate) fn len(&self) -> usize
         ensures { result ≡ length self.now.items }
     {
         self.items.len()
     }
 
-    /// All of them.
+    /// Returns all of them.
     pub(crate) fn as_slice(&self) -> &[PathSelection<'a>]
         ensures { result.now ≡ self.now.items }
     {
         self.items.as_slice()
     }
 
-    /// Takes all of them out.
+    /// Removes all of them.
     fn clear(&mut self)
         ensures items { self.new.items ≡ [] }
         ensures room { self.old.room ≤ self.new.room }
@@ -130,7 +130,7 @@ impl<'a> PathSelections<'a> {
         self.items.clear();
     }
 
-    /// Adds one more, for which there is room.
+    /// Appends a selection process, for which there is room.
     fn push(&mut self, selection: PathSelection<'a>)
         requires { length self.old.items < self.old.room }
         ensures items { self.new.items ≡ self.old.items ++ selection.entry ∷ [] }
@@ -142,7 +142,7 @@ impl<'a> PathSelections<'a> {
         }
     }
 
-    /// Adds the selection processes of a point of this number, at a crossing of this number.
+    /// Appends the selection processes of a point with this number, at a crossing with this number.
     fn push_processes(&mut self, crossing: u64, point: u64, processes: &'a [Selection])
         requires { length self.old.items + length processes.now ≤ self.old.room }
         ensures items { self.new.items ≡ self.old.items
@@ -161,7 +161,7 @@ impl<'a> PathSelections<'a> {
         }
     }
 
-    /// Adds the selection processes of a point, if it watches the crossing.
+    /// Appends the selection processes of a point, if it watches the crossing.
     fn push_point(&mut self, number: u64, place: u64, crossing: &Crossing, point: &'a Point)
         requires { length self.old.items
             + length (of_path.watching_selections number place crossing.now point.now)
@@ -175,7 +175,7 @@ impl<'a> PathSelections<'a> {
         }
     }
 
-    /// Adds the selection processes of the points that watch a crossing.
+    /// Appends the selection processes of the points that watch a crossing.
     fn push_points(&mut self, number: u64, crossing: &Crossing, points: &'a [Point])
         requires { length self.old.items
             + length (of_path.crossing_selections number 1 points.now crossing.now)
@@ -189,7 +189,7 @@ impl<'a> PathSelections<'a> {
         }
     }
 
-    /// Adds the selection processes of the points that watch the crossings of a path.
+    /// Appends the selection processes of the points that watch the crossings of a path.
     fn push_path(&mut self, net: &'a Net, path: &[Crossing])
         requires { length self.old.items + length (of_path.path_selections net.now 1 path.now)
             ≤ self.old.room }
@@ -203,7 +203,7 @@ impl<'a> PathSelections<'a> {
         }
     }
 
-    /// Takes in the selection processes of a path, in order, for which there is room.
+    /// Replaces the contents by the selection processes of a path, in order, for which there is room.
     pub(crate) fn fill(&mut self, net: &'a Net, path: &[Crossing])
         requires { length (of_path.path_selections net.now 1 path.now) ≤ self.old.room }
         ensures items { self.new.items ≡ of_path.path_selections net.now 1 path.now }
@@ -213,8 +213,7 @@ impl<'a> PathSelections<'a> {
         self.push_path(net, path);
     }
 
-    /// Of the first `active`, moves those that count packets of the region before the others, and returns how many they
-    /// are.
+    /// Moves those of the first `active` that count packets of the region before the others, and returns their number.
     pub(crate) fn narrow(&mut self, region: &Region, active: usize) -> usize
         requires within { active ≤ length self.old.items }
         requires narrowed { of_path.IsNarrowed self.old.items region.now active }
@@ -231,7 +230,7 @@ impl<'a> PathSelections<'a> {
     }
 }
 
-/// How many selection processes the point has, if it watches the crossing.
+/// Returns how many selection processes the point has, if it watches the crossing.
 fn count_at(crossing: &Crossing, point: &Point) -> usize
     ensures { (number n : ℕ)
         → length (of_path.watching_selections number n crossing.now point.now) ≡ result }
@@ -243,7 +242,8 @@ fn count_at(crossing: &Crossing, point: &Point) -> usize
     }
 }
 
-/// How many selection processes the points that watch a crossing have; None where they are 2 to the 64 or more.
+/// Returns how many selection processes the points that watch a crossing have, or None if there are 2 to the 64 or
+/// more.
 fn count_on_crossing(crossing: &Crossing, points: &[Point]) -> Option<usize>
     ensures { IfSome result (λ count. (number n : ℕ)
         → length (of_path.crossing_selections number n points.now crossing.now) ≡ count) }
@@ -255,7 +255,7 @@ fn count_on_crossing(crossing: &Crossing, points: &[Point]) -> Option<usize>
     Some(count)
 }
 
-/// How many selection processes a path meets; None where they are 2 to the 64 or more.
+/// Returns how many selection processes a path meets, or None if there are 2 to the 64 or more.
 pub(crate) fn count_on_path(net: &Net, path: &[Crossing]) -> Option<usize>
     ensures { IfSome result (λ count. (n : ℕ)
         → length (of_path.path_selections net.now n path.now) ≡ count) }

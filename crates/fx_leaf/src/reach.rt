@@ -1,4 +1,4 @@
-//! Marks of the entries that the verdict on a path is worked out from: for each collecting process a number, whose bits
+//! Marks of the entries that the verdict on a path is computed from: a number for each collecting process, whose bits
 //! are layouts.
 ghost use Rattle.std.specs.Prelude.{◌≡◌, ◌<◌, map, length, slice_get, slice_index, Some, []};
 ghost use Rattle.fx_tables.specs.Network as network;
@@ -8,7 +8,7 @@ ghost use Rattle.fx_leaf.specs.Tables as by_table;
 use crate::tables::Tables;
 use fx_tables::{AggregationEntry, Crossing, LAYOUTS, Net, Point, Process, Selection};
 
-/// These layouts too at the collecting process of this place, if there is one.
+/// Marks these layouts at the collecting process at this index, if there is one.
 fn mark_at(marks: &mut [u64], layouts: u64, process: usize)
     ensures { marks.new ≡ reach.marks_at layouts marks.old (Some process) }
 {
@@ -17,7 +17,7 @@ fn mark_at(marks: &mut [u64], layouts: u64, process: usize)
     }
 }
 
-/// These layouts too at the collecting process to which a destination leads, if there is one.
+/// Marks these layouts at the collecting process that a destination leads to, if there is one.
 fn mark_behind(marks: &mut [u64], net: &Net, layouts: u64, destination: Option<usize>)
     ensures { marks.new ≡ reach.marks_behind net.now layouts marks.old destination }
 {
@@ -29,7 +29,7 @@ fn mark_behind(marks: &mut [u64], net: &Net, layouts: u64, destination: Option<u
     }
 }
 
-/// These layouts too at the collecting processes to which these destinations lead.
+/// Marks these layouts at the collecting processes that these destinations lead to.
 fn mark_to(marks: &mut [u64], net: &Net, layouts: u64, destinations: &[Option<usize>])
     ensures { marks.new ≡ reach.marks_to net.now layouts marks.old destinations.now }
 {
@@ -38,7 +38,7 @@ fn mark_to(marks: &mut [u64], net: &Net, layouts: u64, destinations: &[Option<us
     }
 }
 
-/// These layouts too where the exporting process at this place sends.
+/// Marks these layouts where the exporting process at this index sends.
 fn mark_by_place(marks: &mut [u64], net: &Net, layouts: u64, place: usize)
     ensures { let exporters = network.before (slice_get net.now.exporters place) [] in
         marks.new ≡ reach.marks_by net.now layouts marks.old exporters }
@@ -48,7 +48,7 @@ fn mark_by_place(marks: &mut [u64], net: &Net, layouts: u64, place: usize)
     }
 }
 
-/// These layouts too where the exporting processes at these places send.
+/// Marks these layouts where the exporting processes at these indices send.
 fn mark_by(marks: &mut [u64], net: &Net, layouts: u64, places: &[usize])
     ensures { let exporters = network.at_places net.now.exporters places.now in
         marks.new ≡ reach.marks_by net.now layouts marks.old exporters }
@@ -58,7 +58,7 @@ fn mark_by(marks: &mut [u64], net: &Net, layouts: u64, places: &[usize])
     }
 }
 
-/// The layout of this holder, where its records are sent.
+/// Marks the layout of this holder where its records are sent.
 fn mark_by_holder(marks: &mut [u64], tables: &Tables<'_>, holder: usize)
     requires { by_table.AreTables tables.now }
     ensures { let t = tables.now in
@@ -71,7 +71,7 @@ fn mark_by_holder(marks: &mut [u64], tables: &Tables<'_>, holder: usize)
     }
 }
 
-/// The layouts of these aggregations, where their records are sent.
+/// Marks the layouts of these aggregations where their records are sent.
 fn mark_by_aggregations(marks: &mut [u64], tables: &Tables<'_>, aggregations: &[AggregationEntry])
     requires { by_table.AreTables tables.now }
     ensures { let t = tables.now in
@@ -83,7 +83,7 @@ fn mark_by_aggregations(marks: &mut [u64], tables: &Tables<'_>, aggregations: &[
     }
 }
 
-/// These layouts where a collecting process sends records on, and those of its aggregations.
+/// Marks these layouts where a collecting process sends records on, and the layouts of its aggregations.
 fn mark_on(marks: &mut [u64], tables: &Tables<'_>, layouts: u64, process: &Process)
     requires { by_table.AreTables tables.now }
     ensures { let t = tables.now in
@@ -93,7 +93,7 @@ fn mark_on(marks: &mut [u64], tables: &Tables<'_>, layouts: u64, process: &Proce
     mark_by_aggregations(marks, tables, process.aggregations());
 }
 
-/// The layouts that are marked at the collecting process of this place.
+/// Returns the layouts that are marked at the collecting process at this index.
 pub(crate) fn marks_at(marks: &[u64], process: usize) -> u64
     requires { process < length marks.now }
     ensures { result ≡ slice_index marks.now process }
@@ -101,8 +101,8 @@ pub(crate) fn marks_at(marks: &[u64], process: usize) -> u64
     marks[process]
 }
 
-/// The layouts that are marked at the collecting process of this place, wherever it sends them on, and those of its
-/// aggregations.
+/// Marks the layouts that are marked at the collecting process at this index wherever it sends them on, and the layouts
+/// of its aggregations.
 fn mark_from(marks: &mut [u64], tables: &Tables<'_>, process: usize)
     requires tables { by_table.AreTables tables.now }
     requires there { process < length marks.old }
@@ -118,7 +118,7 @@ fn mark_from(marks: &mut [u64], tables: &Tables<'_>, process: usize)
     }
 }
 
-/// What is marked is marked wherever its records lead.
+/// Spreads all marks to wherever their records lead.
 fn spread(marks: &mut [u64], tables: &Tables<'_>)
     requires tables { by_table.AreTables tables.now }
     requires size { length marks.old ≡ length tables.now.net.processes }
@@ -131,7 +131,7 @@ fn spread(marks: &mut [u64], tables: &Tables<'_>)
     }
 }
 
-/// The layouts of these selection processes' caches, where their records are sent.
+/// Marks the layouts of these selection processes' caches where their records are sent.
 fn mark_by_selections(marks: &mut [u64], tables: &Tables<'_>, selections: &[Selection])
     requires { by_table.AreTables tables.now }
     ensures { let t = tables.now in
@@ -145,7 +145,7 @@ fn mark_by_selections(marks: &mut [u64], tables: &Tables<'_>, selections: &[Sele
     }
 }
 
-/// The layouts of the caches behind those of these points that watch the crossing, where their records are sent.
+/// Marks the layouts of the caches at those of these points that watch the crossing, where their records are sent.
 fn mark_at_points(marks: &mut [u64], tables: &Tables<'_>, points: &[Point], crossing: &Crossing)
     requires { by_table.AreTables tables.now }
     ensures { let t = tables.now in
@@ -159,7 +159,7 @@ fn mark_at_points(marks: &mut [u64], tables: &Tables<'_>, points: &[Point], cros
     }
 }
 
-/// The layouts of the caches behind all points along a path, where their records are sent.
+/// Marks the layouts of the caches at all points along a path, where their records are sent.
 fn mark_along(marks: &mut [u64], tables: &Tables<'_>, path: &[Crossing])
     requires { by_table.AreTables tables.now }
     ensures { let t = tables.now in
@@ -176,8 +176,8 @@ fn mark_along(marks: &mut [u64], tables: &Tables<'_>, path: &[Crossing])
     }
 }
 
-/// Marks of all entries that the verdict on the packets which take a path is worked out from: those where their records
-/// come, and where the records of the aggregations there do, also of those that can't read what comes.
+/// Marks all entries that the verdict on the packets of a path is computed from: those where their records arrive, and
+/// where records of the aggregations there do, even of aggregations that can't read what arrives.
 pub(crate) fn mark(marks: &mut [u64], tables: &Tables<'_>, path: &[Crossing])
     requires tables { by_table.AreTables tables.now }
     requires size { length marks.old ≡ length tables.now.net.processes }

@@ -1,4 +1,4 @@
-//! How much of a region of packets a test passes for: the whole, nothing, or a part only.
+//! How much of a region of packets passes a test: all of it, none, or only a part.
 ghost use Rattle.std.specs.Prelude.{◌≡◌, ◌≤◌, ◌<◌, ◌↔◌, ◌^◌, ◌-◌, ℕ, List, true, false, slice_index, IfSome, IfNone};
 ghost use Rattle.std.specs.List.{AllByRecursion};
 ghost use Rattle.fx_boxes.specs.Boxes as boxes;
@@ -18,23 +18,23 @@ pub enum Overlap {
     Whole,
     /// Some fields of the region, and not all: the other region, or the test, cuts it.
     Part,
-    /// No field of the region.
+    /// No fields of the region.
     Nothing,
 }
 
-/// No low of the region is above its high, as its type keeps. It does nothing, and is called for the prover alone.
+/// Does nothing; called for the prover only. No low of the region is above its high, by the invariant of its type.
 pub(crate) fn bounds_hold(region: &Region)
     ensures { boxes.IsRegion region.now }
 {
-    // For the prover alone: `far_corner` says it of the region.
+    // Only for the prover: `far_corner` says it of the region.
     let _greatest = region.far_corner();
 }
 
-/// How much of the region is in the other too.
+/// Returns how much of the region is also in the other.
 pub fn region_overlap(region: &Region, other: &Region) -> Overlap
     ensures { result ≡ overlaps.region_overlap region.now other.now }
 {
-    // For the prover alone: the bounds of a region hold.
+    // Only for the prover: the bounds of a region hold.
     bounds_hold(region);
     if region.inside(other) {
         Overlap::Whole
@@ -45,7 +45,8 @@ pub fn region_overlap(region: &Region, other: &Region) -> Overlap
     }
 }
 
-/// How much of the region a selection process selects that selects the fields of another region, or none.
+/// Returns how much of the region is selected by a selection process that selects the fields of another region, or
+/// none.
 pub fn selection_overlap(region: &Region, selected: &Option<Region>) -> Overlap
     ensures { result ≡ overlaps.selection_overlap region.now selected.now }
 {
@@ -55,7 +56,7 @@ pub fn selection_overlap(region: &Region, selected: &Option<Region>) -> Overlap
     }
 }
 
-/// The fields of the region whose value on the axis is this or more, if there are any.
+/// Returns the fields of the region whose value on the axis is this or more, if there are any.
 fn part_from(region: &Region, axis: Axis, least: u128) -> Option<Region>
     ensures some { IfSome result (λ r. (f : List ℕ)
         → boxes.Holds r f ↔ (boxes.Holds region.now f
@@ -73,7 +74,7 @@ fn part_from(region: &Region, axis: Axis, least: u128) -> Option<Region>
     }
 }
 
-/// The fields of the region whose value on the axis is this or less, if there are any.
+/// Returns the fields of the region whose value on the axis is this or less, if there are any.
 fn part_up_to(region: &Region, axis: Axis, most: u128) -> Option<Region>
     ensures some { IfSome result (λ r. (f : List ℕ)
         → boxes.Holds r f ↔ (boxes.Holds region.now f
@@ -90,7 +91,7 @@ fn part_up_to(region: &Region, axis: Axis, most: u128) -> Option<Region>
     }
 }
 
-/// How many values of its axis begin with the bits of an entry, which has some.
+/// Returns how many values of its axis begin with the bits of an entry, which has at least one bit.
 fn span(entry: MatchEntry) -> u128
     requires entry { IsEntry entry }
     requires some { 0 < entry.bits }
@@ -99,7 +100,7 @@ fn span(entry: MatchEntry) -> u128
     1 << (width(entry.axis) - entry.bits)
 }
 
-/// The least value that begins with the bits of an entry.
+/// Returns the least value that begins with the bits of an entry.
 fn least_of(entry: MatchEntry) -> u128
     requires { IsEntry entry }
     ensures { result ≡ overlaps.entry_low entry }
@@ -110,7 +111,7 @@ fn least_of(entry: MatchEntry) -> u128
     entry.value * span(entry)
 }
 
-/// The greatest value that begins with the bits of an entry.
+/// Returns the greatest value that begins with the bits of an entry.
 fn most_of(entry: MatchEntry) -> u128
     requires { IsEntry entry }
     ensures { result ≡ overlaps.entry_high entry }
@@ -121,7 +122,7 @@ fn most_of(entry: MatchEntry) -> u128
     least_of(entry) + (span(entry) - 1)
 }
 
-/// The fields of the region that begin with the bits of an entry, if there are any.
+/// Returns the fields of the region that begin with the bits of an entry, if there are any.
 fn entry_part(region: &Region, entry: MatchEntry) -> Option<Region>
     requires { IsEntry entry }
     ensures some { IfSome result (λ r. (f : List ℕ)
@@ -135,7 +136,7 @@ fn entry_part(region: &Region, entry: MatchEntry) -> Option<Region>
     }
 }
 
-/// The fields of the region for which all entries hold, if there are any.
+/// Returns the fields of the region for which all entries hold, if there are any.
 pub(crate) fn match_part(region: &Region, entries: &[MatchEntry]) -> Option<Region>
     requires { AllByRecursion IsEntry entries.now }
     ensures some { IfSome result (λ r. (f : List ℕ)
@@ -153,12 +154,12 @@ pub(crate) fn match_part(region: &Region, entries: &[MatchEntry]) -> Option<Regi
     }
 }
 
-/// How much of the region a match holds of, all of its entries together.
+/// Returns how much of the region a match holds for, all of its entries together.
 pub fn match_overlap(region: &Region, entries: &[MatchEntry]) -> Overlap
     requires { AllByRecursion IsEntry entries.now }
     ensures { result ≡ overlaps.region_overlap region.now (overlaps.match_fields entries.now) }
 {
-    // For the prover alone: the bounds of a region hold.
+    // Only for the prover: the bounds of a region hold.
     bounds_hold(region);
     match match_part(region, entries) {
         None => Overlap::Nothing,

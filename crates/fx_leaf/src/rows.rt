@@ -1,4 +1,4 @@
-//! Rows are filled where they are marked, from the collecting processes of highest rank on.
+//! Filling the marked rows, starting at the collecting processes of highest rank.
 ghost use Rattle.std.specs.Prelude.{◌≡◌, ◌≢◌, ◌<◌, ℕ, length, slice_get};
 ghost use Rattle.std.specs.Int.{bit_at};
 ghost use Rattle.fx_leaf.specs.Reach as reach;
@@ -11,7 +11,7 @@ use crate::verdict::Fate;
 use fx_boxes::Region;
 use fx_tables::{Crossing, LAYOUTS};
 
-/// Another entry for the collecting process at this place and the layout of this number.
+/// Sets the entry for the collecting process at this index and the layout with this number.
 fn set_entry(rows: &mut [VerdictRow], process: usize, number: usize, verdict: Option<Fate>)
     requires there { process < length rows.old }
     requires within { number < LAYOUTS }
@@ -22,7 +22,7 @@ fn set_entry(rows: &mut [VerdictRow], process: usize, number: usize, verdict: Op
     rows[process].set(number, verdict);
 }
 
-/// The entries for these layouts, from the rows of the processes that this one feeds.
+/// Fills the entries for these layouts, from the rows of the processes that this one feeds.
 fn fill_row(
     rows: &mut [VerdictRow],
     layouts: u64,
@@ -57,7 +57,7 @@ fn fill_row(
     }
 }
 
-/// Each marked entry is filled, behind those of the processes that its own feeds.
+/// Fills each marked entry after those of the processes that its own process feeds.
 pub(crate) fn fill(rows: &mut [VerdictRow], marks: &[u64], tables: &Tables<'_>, region: &Region)
     requires tables { by_table.AreTables tables.now }
     requires size { length rows.old ≡ length tables.now.net.processes }
@@ -74,7 +74,7 @@ pub(crate) fn fill(rows: &mut [VerdictRow], marks: &[u64], tables: &Tables<'_>, 
     }
 }
 
-/// What the verdict on the packets that take a path is worked out from is marked, and filled.
+/// Marks and fills what the verdict on the packets that take a path is computed from.
 pub(crate) fn prepare(
     rows: &mut [VerdictRow],
     marks: &mut [u64],

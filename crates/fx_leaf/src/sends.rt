@@ -1,4 +1,4 @@
-//! The verdict on records that are sent, from those at the processes to which they come.
+//! The verdict on records that are sent, from the verdicts at the processes that they reach.
 ghost use Rattle.std.specs.Prelude.{◌≡◌, map, slice_get, [], ◌∷◌};
 ghost use Rattle.fx_tables.specs.Network as network;
 ghost use Rattle.fx_leaf.specs.Tables as by_table;
@@ -9,7 +9,7 @@ use crate::verdict::{Fate, verdict_of_both, verdict_of_either};
 use fx_tables::Exporter;
 
 impl Verdicts<'_, '_> {
-    /// The verdict on what is sent to a destination: never, where it leads outside the network.
+    /// Returns the verdict on what is sent to a destination: never, if it leads outside the network.
     fn destination_verdict(&self, layout: usize, destination: Option<usize>) -> Option<Fate>
         ensures { let net = self.now.tables.now.net in
             let table = self.now.rows.now in
@@ -24,7 +24,7 @@ impl Verdicts<'_, '_> {
         }
     }
 
-    /// The verdict on what is sent to all of these destinations.
+    /// Returns the verdict on what is sent to all of these destinations.
     fn all_destinations_verdict(
         &self,
         layout: usize,
@@ -43,7 +43,7 @@ impl Verdicts<'_, '_> {
         joined
     }
 
-    /// The verdict on what is sent to the first destination or to one of the others.
+    /// Returns the verdict on what is sent to the first destination or to one of the others.
     fn first_or_other_verdict(
         &self,
         layout: usize,
@@ -63,7 +63,7 @@ impl Verdicts<'_, '_> {
         joined
     }
 
-    /// The verdict on what is sent to one of these destinations.
+    /// Returns the verdict on what is sent to one of these destinations.
     fn one_destination_verdict(&self, layout: usize, destinations: &[Option<usize>]) -> Option<Fate>
         ensures { let net = self.now.tables.now.net in
             let table = self.now.rows.now in
@@ -77,7 +77,7 @@ impl Verdicts<'_, '_> {
         }
     }
 
-    /// The verdict on what an exporting process sends.
+    /// Returns the verdict on what an exporting process sends.
     fn send_verdict(&self, layout: usize, exporter: &Exporter) -> Option<Fate>
         ensures { let net = self.now.tables.now.net in
             let table = self.now.rows.now in
@@ -90,7 +90,8 @@ impl Verdicts<'_, '_> {
         }
     }
 
-    /// The verdict on what the exporting process at a place of the network's table sends; never, where there is none.
+    /// Returns the verdict on what the exporting process at an index of the network's table sends: never, if there is
+    /// no such process.
     fn send_verdict_at(&self, layout: usize, place: usize) -> Option<Fate>
         ensures { let net = self.now.tables.now.net in
             let table = self.now.rows.now in
@@ -103,8 +104,8 @@ impl Verdicts<'_, '_> {
         }
     }
 
-    /// The verdict on records of the layout of this number, from 0, that each of the exporting processes at these
-    /// places sends.
+    /// Returns the verdict on records of the layout with this 0-based number that each of the exporting processes at
+    /// these indices sends.
     pub(crate) fn sent_verdict(&self, layout: usize, places: &[usize]) -> Option<Fate>
         ensures { let net = self.now.tables.now.net in
             let table = self.now.rows.now in

@@ -1,4 +1,4 @@
-//! Where a region that is cut may be split.
+//! Splits of a region that is cut.
 ghost use Rattle.std.specs.Prelude.{◌≡◌, ◌≤◌, ◌↔◌, ℕ, List, length, None, Err, IsSome, IfSome, IfNone};
 ghost use Rattle.fx_base.specs.Fault.{fault_at};
 ghost use Rattle.fx_base.specs.declared.fault.Place.TheVariants as places;
@@ -28,9 +28,9 @@ use fx_tables::{Crossing, Selection};
 /// A match that cuts a region.
 #[derive(Clone, Copy)]
 pub(crate) struct MatchCut {
-    /// The place of its collecting process, from 0.
+    /// The 0-based index of its collecting process.
     pub(crate) process: usize,
-    /// The number of the layout of the records that come there, from 0.
+    /// The 0-based number of the layout of the records that arrive there.
     pub(crate) number: usize,
     /// The axis of a bound of the match that is strictly inside the region.
     pub(crate) axis: Axis,
@@ -39,7 +39,7 @@ pub(crate) struct MatchCut {
 }
 
 impl PathReader<'_, '_> {
-    /// The match that cuts the region behind a collecting process.
+    /// Returns the match that cuts the region downstream of a collecting process.
     pub(crate) fn cut_behind(&self, process: usize, number: usize) -> Option<MatchCut>
         requires tables { by_table.AreTables self.now.verdicts.tables.now }
         requires marked { reach.IsMarked self.now.marks.now process number }
@@ -73,7 +73,7 @@ impl PathReader<'_, '_> {
         None
     }
 
-    /// The match that cuts the region behind a cache.
+    /// Returns the match that cuts the region downstream of a cache.
     fn cut_behind_holder(&self, holder: usize) -> Option<MatchCut>
         requires tables { by_table.AreTables self.now.verdicts.tables.now }
         requires along { let t = self.now.verdicts.tables.now in
@@ -94,7 +94,7 @@ impl PathReader<'_, '_> {
         }
     }
 
-    /// Where a selection process, or what cuts the region behind its cache, splits it.
+    /// Returns where a selection process, or what cuts the region downstream of its cache, splits it.
     fn split_at(&self, selection: &Selection) -> Option<(Axis, u128)>
         requires tables { by_table.AreTables self.now.verdicts.tables.now }
         requires along { let t = self.now.verdicts.tables.now in
@@ -127,7 +127,7 @@ impl PathReader<'_, '_> {
         }
     }
 
-    /// A bound of what cuts the region there, where there is no verdict.
+    /// Returns a bound of what cuts the region there, given that there is no verdict.
     pub(crate) fn bound_at(&self, selection: &Selection) -> (Axis, u128)
         requires tables { by_table.AreTables self.now.verdicts.tables.now }
         requires along { let t = self.now.verdicts.tables.now in
@@ -151,10 +151,10 @@ impl PathReader<'_, '_> {
     }
 }
 
-/// Where to split a region that is cut on a path: the values of the axis below this one, and those from it on. It is
-/// strictly inside the region, and a bound of what cuts it: a low, or one above a high, of a selection process's
-/// region, or of the match of an aggregation that records of the packets reach. None exactly where `fate` doesn't
-/// answer 406. It takes no memory.
+/// Returns where to split a region that is cut on a path: into the values of the axis below this one, and those from it
+/// on. It is strictly inside the region, and a bound of what cuts it: a low, or one above a high, of the region of a
+/// selection process, or of the match of an aggregation that records of the packets reach. Returns None exactly if
+/// `fate` doesn't fail with 406. It allocates nothing.
 pub fn cut(
     scratch: &mut Scratch,
     tables: &Tables<'_>,
@@ -163,7 +163,7 @@ pub fn cut(
 ) -> Option<(Axis, u128)>
     requires tables { by_table.AreTables tables.now }
     requires room { length tables.now.net.processes ≤ length scratch.old }
-    // It is there exactly where `fate` answers 406, and so where something cuts the region.
+    // There is a split exactly if `fate` fails with 406, and so if something cuts the region.
     ensures exact { IsSome result ↔ (leaves.path_leaf tables.now.net path.now region.now
         ≡ Err (fault_at cut_region places.None)) }
     ensures cuts { IsSome result ↔ (answers.NothingCuts tables.now.net path.now region.now → ⊥) }
@@ -172,7 +172,7 @@ pub fn cut(
     ensures bound { IfSome result (λ s. splits.IsSplit tables.now.net path.now region.now s.0 s.1) }
     ensures size { length scratch.new ≡ length scratch.old }
 {
-    // For the prover alone: the bounds of a region hold.
+    // Only for the prover: the bounds of a region hold.
     bounds_hold(region);
     path_verdict(scratch, tables, path, region).err()
 }

@@ -1,4 +1,4 @@
-//! Room for the verdicts on records that come to the collecting processes.
+//! Room for the verdicts on records that reach the collecting processes.
 ghost use Rattle.std.specs.Prelude.{◌≡◌, ◌≢◌, ◌<◌, ℕ, length, slice_get, Some, IfOk, IfErr};
 ghost use Rattle.fx_base.specs.Fault.{IsMemory};
 ghost use Rattle.fx_leaf.specs.Tables as by_table;
@@ -11,7 +11,7 @@ use fx_tables::LAYOUTS;
 use std::alloc::{AllocError, Global};
 use std::marker::Model;
 
-/// The verdicts on records that come to a collecting process, by the number of their layout.
+/// The verdicts on records that reach a collecting process, by the number of their layout.
 #[derive(Debug, Drop)]
 pub(crate) struct VerdictRow {
     entries: [Option<Fate>; LAYOUTS],
@@ -27,14 +27,14 @@ impl Model for VerdictRow {
 }
 
 impl VerdictRow {
-    /// A row, each of whose entries is yet to be set.
+    /// Returns a row without any entries set.
     pub(crate) fn new() -> VerdictRow {
         VerdictRow {
             entries: [Some(Fate::Never); LAYOUTS],
         }
     }
 
-    /// Another entry for the layout of this number, from 0.
+    /// Sets the entry for the layout with this 0-based number.
     pub(crate) fn set(&mut self, layout: usize, verdict: Option<Fate>)
         requires { layout < LAYOUTS }
         ensures set { by_table.entry_in (Some self.new) layout ≡ verdict }
@@ -44,7 +44,7 @@ impl VerdictRow {
         self.entries[layout] = verdict;
     }
 
-    /// The entry for the layout of this number, from 0.
+    /// Returns the entry for the layout with this 0-based number.
     pub(crate) fn at(&self, layout: usize) -> Option<Fate>
         ensures { result ≡ by_table.or_never (slice_get self.now layout) }
     {
@@ -55,7 +55,7 @@ impl VerdictRow {
     }
 }
 
-/// The verdicts on a region's packets by table: what a plan lends, and for each collecting process a row.
+/// The verdicts on a region's packets by table: the borrowed tables of a plan, and a row for each collecting process.
 #[derive(Drop)]
 pub(crate) struct Verdicts<'a, 't> {
     pub(crate) tables: &'a Tables<'t>,
@@ -64,7 +64,7 @@ pub(crate) struct Verdicts<'a, 't> {
 }
 
 impl Verdicts<'_, '_> {
-    /// The entry for a collecting process and the layout of this number, from 0 each.
+    /// Returns the entry for a collecting process and the layout with this number, each 0-based.
     pub(crate) fn entry(&self, process: usize, layout: usize) -> Option<Fate>
         ensures { result ≡ by_table.entry self.now.rows.now process layout }
     {
@@ -75,8 +75,8 @@ impl Verdicts<'_, '_> {
     }
 }
 
-/// Room for what a leaf's fate is worked out from: a verdict for each collecting process and each layout, and marks of
-/// those that are needed.
+/// Room for what the fate of a leaf is computed from: a verdict for each collecting process and each layout, and marks
+/// of those that are needed.
 #[derive(Debug, Drop)]
 pub struct Scratch {
     pub(crate) rows: Vec<VerdictRow>,
@@ -92,9 +92,9 @@ impl Model for Scratch {
     ghost view = { λ s. s.rows.items };
 }
 
-/// Returns `count` rows, whose entries are yet to be set.
+/// Returns `count` rows without any entries set.
 ///
-/// Fails where memory runs out.
+/// Fails if out of memory.
 pub(crate) fn empty_rows(alloc: Global, count: usize) -> Result<Vec<VerdictRow>, AllocError>
     ensures { IfOk result (λ rows. length rows.items ≡ count) }
 {
@@ -105,9 +105,9 @@ pub(crate) fn empty_rows(alloc: Global, count: usize) -> Result<Vec<VerdictRow>,
     Ok(rows)
 }
 
-/// Returns marks of `count` processes, none of which has one.
+/// Returns marks of `count` processes, all empty.
 ///
-/// Fails where memory runs out.
+/// Fails if out of memory.
 pub(crate) fn no_marks(alloc: Global, count: usize) -> Result<Vec<u64>, AllocError>
     ensures { IfOk result (λ marks. length marks.items ≡ count) }
 {
@@ -119,9 +119,9 @@ pub(crate) fn no_marks(alloc: Global, count: usize) -> Result<Vec<u64>, AllocErr
 }
 
 impl Scratch {
-    /// Room for the collecting processes of these tables.
+    /// Returns room for the collecting processes of these tables.
     ///
-    /// Fails with 900, at no place, where memory runs out.
+    /// Fails with 900, at no place, if out of memory.
     pub fn new(alloc: Global, tables: &Tables<'_>) -> Result<Scratch, Fault>
         ensures ok { IfOk result (λ scratch. length scratch ≡ length tables.now.net.processes) }
         ensures err { IfErr result IsMemory }

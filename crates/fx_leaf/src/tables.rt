@@ -1,4 +1,4 @@
-//! The tables that a plan lends, to decide leaves by.
+//! The tables of a plan by which leaves are decided.
 ghost use Rattle.std.specs.Prelude.{◌≡◌};
 ghost use Rattle.fx_leaf.specs.Tables as by_table;
 
@@ -28,8 +28,8 @@ impl<'a> Model for Tables<'a> {
 }
 
 impl<'a> Tables<'a> {
-    /// The tables of a network: the places of its collecting processes, from 0, each behind all of higher rank; its
-    /// different layouts; and for each holder the place of its layout among them, from 0.
+    /// Returns the tables of a network: the 0-based indices of its collecting processes, each after all of higher rank;
+    /// its different layouts; and for each holder the 0-based index of its layout among them.
     pub fn new(
         net: &'a Net,
         order: &'a [usize],
@@ -50,28 +50,28 @@ impl<'a> Tables<'a> {
         }
     }
 
-    /// The network.
+    /// Returns the network.
     pub fn net(&self) -> &'a Net
         ensures { result.now ≡ self.now.net }
     {
         self.net
     }
 
-    /// Its collecting processes, each behind all of higher rank.
+    /// Returns its collecting processes, each after all of higher rank.
     pub fn order(&self) -> &'a [usize]
         ensures { result.now ≡ self.now.order }
     {
         self.order
     }
 
-    /// Its layouts.
+    /// Returns its layouts.
     pub fn layouts(&self) -> &'a [Layout]
         ensures { result.now ≡ self.now.numbering.layouts }
     {
         self.layouts
     }
 
-    /// The number of the layout of the holder at this place, from 0 each.
+    /// Returns the number of the layout of the holder at this index, each 0-based.
     pub fn number_of_layout(&self, holder: usize) -> usize
         ensures { result ≡ by_table.number_of_layout self.now.numbering holder }
     {

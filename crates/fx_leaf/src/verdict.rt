@@ -5,7 +5,7 @@ ghost use Rattle.fx_leaf.specs.Verdicts as verdicts;
 
 use crate::regions::Overlap;
 
-/// How often a packet, or a record with some key, comes to be counted.
+/// How often a packet, or a record with some key, is counted.
 #[derive(Clone, Copy, Debug, PartialEq, Eq)]
 pub enum Fate {
     /// It isn't counted.
@@ -14,14 +14,14 @@ pub enum Fate {
     Once,
     /// It is counted more than once.
     Many,
-    /// How often depends on the destinations that are chosen.
+    /// How often depends on the chosen destinations.
     Differing,
-    /// It can come to the report with a layout that doesn't refine the report's.
+    /// It can reach the report with a layout that doesn't refine the report's.
     Unassigned,
 }
 
 impl Fate {
-    /// Both happen.
+    /// Returns the fate if both happen.
     pub fn both(self, other: Fate) -> Fate
         ensures { result ≡ fates.both self other }
     {
@@ -33,7 +33,7 @@ impl Fate {
         }
     }
 
-    /// One of both happens.
+    /// Returns the fate if one of the two happens.
     pub fn either(self, other: Fate) -> Fate
         ensures { result ≡ fates.either self other }
     {
@@ -47,7 +47,7 @@ impl Fate {
     }
 }
 
-/// The verdict where both happen: none where either is cut.
+/// Returns the verdict if both happen: none if either is cut.
 pub fn verdict_of_both(one: Option<Fate>, other: Option<Fate>) -> Option<Fate>
     ensures { result ≡ verdicts.verdict_of_both one other }
 {
@@ -56,7 +56,7 @@ pub fn verdict_of_both(one: Option<Fate>, other: Option<Fate>) -> Option<Fate>
     Some(one.both(other))
 }
 
-/// The verdict where one of both happens: none where either is cut.
+/// Returns the verdict if one of the two happens: none if either is cut.
 pub fn verdict_of_either(one: Option<Fate>, other: Option<Fate>) -> Option<Fate>
     ensures { result ≡ verdicts.verdict_of_either one other }
 {
@@ -65,8 +65,7 @@ pub fn verdict_of_either(one: Option<Fate>, other: Option<Fate>) -> Option<Fate>
     Some(one.either(other))
 }
 
-/// The verdict on what happens where a test passes, by how much of a region it passes for: none where it cuts the
-/// region.
+/// Returns the verdict on what happens if a test passes, by how much of a region passes it: none if it cuts the region.
 pub fn overlap_verdict(overlap: Overlap, verdict: Option<Fate>) -> Option<Fate>
     ensures { result ≡ verdicts.overlap_verdict overlap verdict }
 {
