@@ -1,4 +1,4 @@
-//! The lines of a certificate: one spelling for each item, read and written. Nothing here takes memory.
+//! The lines of a certificate: reading and writing of the one spelling of each item. Nothing here allocates.
 #![tactic(auto)]
 
 mod item;

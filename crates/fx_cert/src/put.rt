@@ -1,4 +1,4 @@
-//! Writing a line of a certificate.
+//! Output of a line of a certificate.
 ghost use Rattle.std.specs.Prelude.{◌≡◌, ◌++◌, ◌∷◌, [], OnOk, IfErr};
 ghost use Rattle.fx_base.specs.Device.{Writes, IsWriteFault, KeepsGoing};
 ghost use Rattle.fx_cert.specs.ItemText.{axis_word, item_text};
@@ -8,7 +8,7 @@ use crate::item::{Item, Version};
 use fx_base::{Fault, Sink, put_number, put_number_wide, put_text};
 use fx_elements::Axis;
 
-/// The word of an axis.
+/// Returns the word of an axis.
 pub(crate) fn word(axis: Axis) -> &'static [u8]
     ensures { result.now ≡ axis_word axis }
 {
@@ -83,9 +83,9 @@ fn put_words<S: Sink>(sink: &mut S, item: &Item) -> Result<(), Fault>
     }
 }
 
-/// Writes an item's text and the line feed that ends its line.
+/// Writes the text of an item and the line feed that ends its line.
 ///
-/// Fails with 902, at no place, where a write fails. How much the sink has taken then is open.
+/// Fails with 902, at no place, if a write fails. How much the sink has taken is then unspecified.
 pub fn put_item<S: Sink>(sink: &mut S, item: &Item) -> Result<(), Fault>
     ensures ok { OnOk result (Writes (S.taken sink.old) (S.taken sink.new) (item_text item.now
         ++ 10 ∷ [])) }

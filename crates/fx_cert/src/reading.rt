@@ -12,7 +12,7 @@ use crate::put::word;
 use fx_base::{Fault, Line, refusals};
 use fx_elements::{Axis, EVERY_AXIS, is_word, read_number, read_u64, split_at_byte, top};
 
-/// The axis with this word.
+/// Returns the axis with this word.
 fn read_axis(text: &[u8]) -> Option<Axis>
     ensures { result ≡ axis_of text.now }
 {
@@ -24,7 +24,7 @@ fn read_axis(text: &[u8]) -> Option<Axis>
     None
 }
 
-/// What stands behind the word of a class.
+/// Reads what follows the word of a class.
 #[tactic(auto, unfolding(crate::specs::ItemReading::class_of))]
 fn read_class(text: &[u8]) -> Option<Item>
     ensures { result ≡ class_of text.now }
@@ -39,7 +39,7 @@ fn read_class(text: &[u8]) -> Option<Item>
     Some(Item::Class { class, path })
 }
 
-/// What stands behind the word of a split.
+/// Reads what follows the word of a split.
 #[tactic(auto, unfolding(crate::specs::ItemReading::split_of))]
 fn read_split(text: &[u8]) -> Option<Item>
     ensures { result ≡ split_of text.now }
@@ -50,7 +50,7 @@ fn read_split(text: &[u8]) -> Option<Item>
     Some(Item::Split { axis, at })
 }
 
-/// What stands behind the word of a leaf.
+/// Reads what follows the word of a leaf.
 #[tactic(auto, unfolding(crate::specs::ItemReading::leaf_of))]
 fn read_leaf(text: &[u8]) -> Option<Item>
     ensures { result ≡ leaf_of text.now }
@@ -67,7 +67,7 @@ fn read_leaf(text: &[u8]) -> Option<Item>
     })
 }
 
-/// The item that has this text, if one has.
+/// Returns the item with this text, if there is one.
 #[tactic(auto, unfolding(crate::specs::ItemReading::item_of))]
 fn read_text(text: &[u8]) -> Option<Item>
     ensures { result ≡ item_of text.now }
@@ -96,12 +96,12 @@ fn read_text(text: &[u8]) -> Option<Item>
     }
 }
 
-/// The item whose text the line's bytes are. Whether a line feed ended the line is left to the caller.
+/// Returns the item with the bytes of the line as its text. Whether a line feed ended the line is left to the caller.
 ///
-/// One space stands between two words; numbers are decimal without leading zeros, below 2 to the 64 or, of a
-/// split, within the axis.
+/// One space separates two words; numbers are decimal without leading zeros, below 2 to the 64 or, in a split, within
+/// the axis.
 ///
-/// Fails with 402, at the line, where the bytes are no item's text.
+/// Fails with 402, at the line, if the bytes are no item's text.
 pub fn read_item(line: &Line<'_>) -> Result<Item, Fault>
     ensures ok { IfOk result (λ item. IsItemText line.now.bytes.now item) }
     ensures err { IfErr result (λ e. (e ≡ fault_at certificate_line (places.Line line.now.number))
