@@ -12,18 +12,18 @@ use std::marker::Model;
 /// A field of a template (RFC 7011, section 3.2).
 #[derive(Clone, Copy, Debug, PartialEq, Eq)]
 pub struct FieldSpecifier {
-    /// The element's number, below 32768.
+    /// The number of the element, below 32768.
     pub element: u16,
-    /// How many octets a value has; 65535 where each value tells it.
+    /// The number of octets of a value, or 65535 if each value gives its own length.
     pub field_length: u16,
-    /// The element's enterprise where the first bit says that it has one. The IANA registry is 0.
+    /// The enterprise of the element, if the first bit says that it has one. The IANA registry is 0.
     pub enterprise: Option<u32>,
 }
 
-/// Whether the values of an element may have this length, where 65535 stands for one that each value tells.
+/// Returns whether the values of an element may have this length, where 65535 means that each value gives its own.
 ///
-/// No value is empty. Addresses and prefixes have four octets, of IPv6 sixteen, prefix lengths one; what else packets
-/// carry may have fewer octets than it is wide.
+/// No value is empty. IPv4 addresses and prefixes have four octets, those of IPv6 sixteen, and prefix lengths one;
+/// other fields of packets may have fewer octets than their full width.
 #[tactic(auto, unfolding(crate::specs::Fields::element_of))]
 pub fn can_have(element: Element, field_length: u16) -> bool
     ensures { result ≡ fields.can_have element field_length }
@@ -43,7 +43,7 @@ pub fn can_have(element: Element, field_length: u16) -> bool
 }
 
 impl FieldSpecifier {
-    /// The element.
+    /// Returns the element.
     #[tactic(auto, unfolding(crate::specs::Fields::element_of))]
     pub fn element(&self) -> Element
         ensures { result ≡ fields.element_of self.now }
@@ -55,7 +55,7 @@ impl FieldSpecifier {
     }
 }
 
-/// The specifier at the front and the octets behind it; None where it is cut.
+/// Returns the specifier at the front and the octets after it, or None if it is cut.
 fn read_specifier(octets: &[u8]) -> Option<(FieldSpecifier, &[u8])>
     ensures { reading.with_rest result ≡ fields.specifier_at octets.now }
 {
@@ -83,9 +83,9 @@ fn read_specifier(octets: &[u8]) -> Option<(FieldSpecifier, &[u8])>
     Some((field, octets.split_at(8).1))
 }
 
-/// The field at the front and the octets behind it.
+/// Returns the field at the front and the octets after it.
 ///
-/// Fails with [`Malformed::Template`] where it is cut or its element can't have its length.
+/// Fails with [`Malformed::Template`] if it is cut or its element can't have its length.
 fn read_field(octets: &[u8]) -> Result<(FieldSpecifier, &[u8]), Malformed>
     ensures { reading.field_with_rest result ≡ fields.field_at octets.now }
 {
@@ -97,7 +97,7 @@ fn read_field(octets: &[u8]) -> Result<(FieldSpecifier, &[u8]), Malformed>
     }
 }
 
-/// The fields of a template, in order. It ends after the first that is refused.
+/// The fields of a template, in order. The iteration ends after the first that is refused.
 #[derive(Drop)]
 pub struct FieldSpecifiers<'a> {
     left: u16,
@@ -113,7 +113,7 @@ impl<'a> Model for FieldSpecifiers<'a> {
 }
 
 impl<'a> FieldSpecifiers<'a> {
-    /// So many fields from the front of the octets.
+    /// Returns this many fields from the front of the octets.
     pub fn new(count: u16, octets: &'a [u8]) -> FieldSpecifiers<'a>
         ensures { result ≡ record { count = count; octets = octets.now } }
     {
@@ -123,7 +123,7 @@ impl<'a> FieldSpecifiers<'a> {
         }
     }
 
-    /// The octets behind the fields that were given.
+    /// Returns the octets after the fields that were returned.
     pub fn rest(&self) -> &'a [u8]
         ensures { result.now ≡ self.now.octets }
     {
@@ -138,8 +138,8 @@ impl Iterator for FieldSpecifiers<'_> {
 
     ghost remaining = { λ f. at_most f.count };
 
-    /// The next field; [`Malformed::Template`] (614) where it is cut or its element can't have its length, and then
-    /// none follows.
+    /// Returns the next field. Fails with [`Malformed::Template`] (614) if it is cut or its element can't have its
+    /// length, and then no field follows.
     fn next(&mut self) -> Option<Result<FieldSpecifier, Malformed>> {
         if self.left == 0 {
             return None;

@@ -1,5 +1,5 @@
-//! IPFIX messages in octets (RFC 7011): headers, sets, templates and data records, lent from the octets, and
-//! messages written out. Nothing here takes memory.
+//! IPFIX messages in octets (RFC 7011): headers, sets, templates and data records, borrowed from the octets, and output
+//! of messages. Nothing here allocates.
 #![tactic(auto)]
 
 mod field;

@@ -1,4 +1,4 @@
-//! Messages, lent from their octets.
+//! Messages, borrowed from their octets.
 ghost use Rattle.std.specs.Prelude.{◌≡◌, ◌+◌, ◌≤◌, length, true, is_ok};
 ghost use Rattle.fx_wire.specs.Sets.{sets_of, sets_or_none};
 ghost use Rattle.fx_wire.specs.Messages as messages;
@@ -10,7 +10,7 @@ use crate::number::u16_at;
 use crate::set::{Sets, check_sets};
 use std::marker::Model;
 
-/// A message, lent from its octets (RFC 7011, section 3). Its sets are well formed.
+/// A message, borrowed from its octets (RFC 7011, section 3). Its sets are well formed.
 #[derive(Drop)]
 pub struct Message<'a> {
     header: Header,
@@ -34,33 +34,33 @@ impl<'a> Model for Message<'a> {
     ghost invariant = { λ m. is_ok (sets_of m.body.now) ≡ true };
 }
 
-/// What stands at the front of a stream.
+/// The result of parsing the front of a stream.
 #[derive(Drop)]
 pub enum Parsed<'a> {
-    /// The octets are no whole message yet.
+    /// The octets are not yet a whole message.
     NeedsMore,
     /// A whole message.
     Message(Message<'a>),
-    /// Why there is no message: its version, its length, a set's length or a set's id.
+    /// The reason why there is no message: its version, its length, a set's length or a set's id.
     Refused(Malformed),
 }
 
 impl<'a> Message<'a> {
-    /// What the header tells.
+    /// Returns the header.
     pub fn header(&self) -> Header
         ensures { result ≡ self.now.header }
     {
         self.header
     }
 
-    /// How many octets the message has, at least 16.
+    /// Returns the number of octets of the message, at least 16.
     pub fn octets(&self) -> usize
         ensures { result ≡ self.now.octets }
     {
         16 + self.body.len()
     }
 
-    /// The sets, in order.
+    /// Returns the sets, in order.
     pub fn sets(&self) -> Sets<'a>
         ensures { result ≡ self.now.sets }
     {
@@ -68,11 +68,11 @@ impl<'a> Message<'a> {
     }
 }
 
-/// The message at the front of the octets.
+/// Parses the message at the front of the octets.
 ///
-/// Needs more octets where they are fewer than 16, or fewer than the length that a right header tells.
-/// Refuses, in this order: 611 a version other than 10, 612 a length below 16; then along the sets 613 a set's
-/// length below four or past the message, or fewer than four octets left, and 615 a reserved set id.
+/// Needs more octets if there are fewer than 16, or fewer than the length given by a correct header. Refuses, in this
+/// order, with 611 a version other than 10 and with 612 a length below 16; then along the sets with 613 a set's length
+/// below four or past the message, or fewer than four octets left, and with 615 a reserved set id.
 pub fn parse(octets: &[u8]) -> Parsed<'_>
     ensures { reading.front_of result ≡ messages.front octets.now }
 {

@@ -1,9 +1,9 @@
-//! Numbers in octets, the highest octet first.
+//! Numbers in octets, highest octet first.
 ghost use Rattle.std.specs.Prelude.{◌≡◌, ◌+◌, ◌≤◌, length};
 ghost use Rattle.std.specs.Int.{w16, w32};
 ghost use Rattle.fx_wire.specs.Numbers.{number_at};
 
-/// The number in the two octets from `place` on.
+/// Returns the number in the two octets from `place` on.
 pub(crate) fn u16_at(octets: &[u8], place: usize) -> u16
     requires { place + 2 ≤ length octets.now }
     ensures { result ≡ number_at w16 place octets.now }
@@ -11,7 +11,7 @@ pub(crate) fn u16_at(octets: &[u8], place: usize) -> u16
     u16::from_be_bytes([octets[place], octets[place + 1]])
 }
 
-/// The number in the four octets from `place` on.
+/// Returns the number in the four octets from `place` on.
 pub(crate) fn u32_at(octets: &[u8], place: usize) -> u32
     requires { place + 4 ≤ length octets.now }
     ensures { result ≡ number_at w32 place octets.now }

@@ -1,4 +1,4 @@
-//! Messages written into a sink.
+//! Output of messages to a sink.
 ghost use Rattle.std.specs.Prelude.{◌≡◌, ◌≤◌, ◌<◌, List, map, OnOk, IfErr, IfSome, IfNone};
 ghost use Rattle.fx_base.specs.Device.{Writes, IsWriteFault, KeepsGoing};
 ghost use Rattle.fx_wire.specs.Messages.{front, complete};
@@ -10,8 +10,8 @@ use crate::header::Header;
 use crate::set::Set;
 use fx_base::{Fault, Sink, put_text};
 
-/// How many octets a message with these sets has, or none where they are more than its length can tell: 65,535
-/// (RFC 7011, section 3.1).
+/// Returns the number of octets of a message with these sets, or none if it exceeds the greatest length of a message:
+/// 65,535 (RFC 7011, section 3.1).
 pub fn message_length(sets: &[Set<'_>]) -> Option<u16>
     ensures some { IfSome result (λ n. n ≡ writing.message_length (map set_parts sets.now)) }
     ensures none { IfNone result (65535 < writing.message_length (map set_parts sets.now)) }
@@ -36,7 +36,7 @@ fn put_version<S: Sink>(sink: &mut S, length: u16) -> Result<(), Fault>
     put_text(sink, &length.to_be_bytes())
 }
 
-/// Writes what a header tells.
+/// Writes the content of a header.
 #[tactic(auto, unfolding(crate::specs::Writing::origin_octets))]
 fn put_origin<S: Sink>(sink: &mut S, header: &Header) -> Result<(), Fault>
     ensures ok { OnOk result (Writes (S.taken sink.old) (S.taken sink.new)
@@ -78,10 +78,10 @@ fn put_sets<S: Sink>(sink: &mut S, sets: &[Set<'_>]) -> Result<(), Fault>
     Ok(())
 }
 
-/// Writes a message with this header and these sets. That its length can be told, as [`message_length`] answers, is the
-/// caller's condition.
+/// Writes a message with this header and these sets. The caller must ensure that it isn't too long, so that
+/// [`message_length`] returns its length.
 ///
-/// Fails with 902, at no place, where a write fails. How much the sink has taken then is open.
+/// Fails with 902, at no place, if a write fails. How much the sink has taken is then unspecified.
 pub fn put_message<S: Sink>(sink: &mut S, header: &Header, sets: &[Set<'_>]) -> Result<(), Fault>
     requires { writing.message_length (map set_parts sets.now) ≤ 65535 }
     ensures ok { OnOk result (Writes (S.taken sink.old) (S.taken sink.new)
@@ -97,7 +97,7 @@ pub fn put_message<S: Sink>(sink: &mut S, header: &Header, sets: &[Set<'_>]) -> 
     put_sets(sink, sets)
 }
 
-/// What is written is that message: it is read back with its header and its sets.
+/// A written message is read back with its header and its sets.
 pub fn messages_are_read()
     ensures { (header : Header) (sets : List SetParts) → writing.IsMessage header sets
         → front (writing.message_octets header sets)

@@ -8,26 +8,26 @@ use crate::malformed::Malformed;
 use crate::number::u16_at;
 use std::marker::Model;
 
-/// A set, lent from its message (RFC 7011, section 3.3).
+/// A set, borrowed from its message (RFC 7011, section 3.3).
 #[derive(Clone, Copy, Debug, Drop)]
 pub struct Set<'a> {
-    /// 2 for template sets, 3 for options template sets, from 256 on the id of a template.
+    /// 2 for template sets, 3 for options template sets, and from 256 on the id of a template.
     pub id: u16,
-    /// The records, and octets of padding behind them.
+    /// The records, followed by octets of padding.
     pub content: &'a [u8],
 }
 
-/// Whether no set may have this id.
+/// Returns whether no set may have this id.
 fn is_reserved_id(id: u16) -> bool
     ensures { result ≡ is_reserved id }
 {
     id < 256 && id != 2 && id != 3
 }
 
-/// The set at the front and the octets behind it.
+/// Returns the set at the front and the octets after it.
 ///
-/// Fails with [`Malformed::SetLength`] where the octets are fewer than four, or the set's length is below four or past
-/// them, and otherwise with [`Malformed::SetId`] where its id is reserved.
+/// Fails with [`Malformed::SetLength`] if there are fewer than four octets, or the set's length is below four or past
+/// them, and otherwise with [`Malformed::SetId`] if its id is reserved.
 pub(crate) fn read_set(octets: &[u8]) -> Result<(Set<'_>, &[u8]), Malformed>
     ensures { IsSetAt octets.now result }
 {
@@ -47,7 +47,7 @@ pub(crate) fn read_set(octets: &[u8]) -> Result<(Set<'_>, &[u8]), Malformed>
     Ok((Set { id, content }, rest))
 }
 
-/// Whether the octets are sets, or the refusal of the first that isn't.
+/// Checks whether the octets are sets, and fails at the first that isn't.
 pub(crate) fn check_sets(octets: &[u8]) -> Result<(), Malformed>
     ensures { SetsStand octets.now result }
 {
@@ -76,7 +76,7 @@ impl<'a> Model for Sets<'a> {
 }
 
 impl<'a> Sets<'a> {
-    /// The sets in these octets, which are sets.
+    /// Returns the sets in these octets, which are well formed.
     pub(crate) fn new(octets: &'a [u8]) -> Sets<'a>
         requires { is_ok (sets_of octets.now) ≡ true }
         ensures { result ≡ sets_or_none (sets_of octets.now) }

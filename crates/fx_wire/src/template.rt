@@ -1,4 +1,4 @@
-//! What template records begin with.
+//! Headings of template records.
 ghost use Rattle.std.specs.Prelude.{◌≡◌, ◌≤◌, length};
 ghost use Rattle.fx_wire.specs.Templates as templates;
 ghost use Rattle.fx_wire.specs.TemplateReading as reading;
@@ -6,7 +6,7 @@ ghost use Rattle.fx_wire.specs.TemplateReading as reading;
 use crate::malformed::Malformed;
 use crate::number::u16_at;
 
-/// What the records of a template are of.
+/// The kind of records of a template.
 #[derive(Clone, Copy, Debug, PartialEq, Eq)]
 pub enum TemplateKind {
     /// Records of flows, declared in template sets (id 2).
@@ -15,8 +15,8 @@ pub enum TemplateKind {
     Options,
 }
 
-/// A template that is declared: its id from 256 on, how many of its fields are scope fields (none but in an options
-/// template), and how many fields it has, at least one.
+/// A declared template: its id, from 256 on, its number of scope fields (0 except in an options template), and its
+/// number of fields, at least one.
 #[derive(Clone, Copy, Debug, PartialEq, Eq)]
 pub struct NewTemplate {
     pub id: u16,
@@ -24,10 +24,10 @@ pub struct NewTemplate {
     pub count: u16,
 }
 
-/// What a template record says, but for the fields of a template.
+/// The content of a template record, without the fields of a template.
 #[derive(Clone, Copy, Debug, PartialEq, Eq)]
 pub enum TemplateHeading {
-    /// The template of this id is withdrawn (RFC 7011, section 8.1).
+    /// The template with this id is withdrawn (RFC 7011, section 8.1).
     Withdrawal(u16),
     /// All templates of the set's kind are withdrawn.
     WithdrawalOfAll,
@@ -35,7 +35,7 @@ pub enum TemplateHeading {
     Declaration(NewTemplate),
 }
 
-/// What a withdrawal of this id says.
+/// Returns the withdrawal with this id.
 fn withdrawal(kind: TemplateKind, id: u16) -> Result<TemplateHeading, Malformed>
     ensures { result ≡ templates.withdrawal kind id }
 {
@@ -53,7 +53,7 @@ fn withdrawal(kind: TemplateKind, id: u16) -> Result<TemplateHeading, Malformed>
     }
 }
 
-/// What a template of this id and field count begins with, and the octets behind that.
+/// Returns the heading of a template with this id and field count, and the octets after it.
 fn declaration(
     kind: TemplateKind,
     id: u16,
@@ -86,12 +86,11 @@ fn declaration(
     }
 }
 
-/// What the template record at the front begins with, and the octets behind that: those of its fields where it is a
-/// template, else the next record's.
+/// Reads the heading of the template record at the front, and returns it and the octets after it: those of its fields
+/// if it is a template, else those of the next record.
 ///
-/// Fails with [`Malformed::Template`] (614) where an id below 256 doesn't stand for the withdrawal of all templates of
-/// the kind, where the octets end before the fields, or where the number of scope fields is none or more than that of
-/// the fields.
+/// Fails with [`Malformed::Template`] (614) if an id below 256 isn't the withdrawal of all templates of the kind, if
+/// the octets end before the fields, or if the number of scope fields is 0 or greater than that of the fields.
 pub fn read_heading(
     kind: TemplateKind,
     octets: &[u8],

@@ -1,4 +1,4 @@
-//! Values of data records, and records as wholes.
+//! Values of data records, and whole records.
 ghost use Rattle.std.specs.Prelude.{◌≡◌, ◌+◌, ◌≤◌, ◌++◌, length};
 ghost use Rattle.fx_wire.specs.Values as values;
 ghost use Rattle.fx_wire.specs.ValueReading as reading;
@@ -6,10 +6,10 @@ ghost use Rattle.fx_wire.specs.ValueReading as reading;
 use crate::field::FieldSpecifier;
 use crate::number::u16_at;
 
-/// The field length that says that each value tells its own (RFC 7011, section 7).
+/// The field length which means that each value gives its own (RFC 7011, section 7).
 pub const VARIABLE: u16 = 65535;
 
-/// So many octets and those behind them; None where there aren't so many.
+/// Returns this many octets and those after them, or None if there are fewer.
 fn cut_octets(count: usize, octets: &[u8]) -> Option<(&[u8], &[u8])>
     ensures { reading.both result ≡ values.octets_at count octets.now }
 {
@@ -19,7 +19,7 @@ fn cut_octets(count: usize, octets: &[u8]) -> Option<(&[u8], &[u8])>
     Some(octets.split_at(count))
 }
 
-/// A value that tells its length, and the octets behind it; None where it is cut.
+/// Returns a value that gives its own length, and the octets after it, or None if it is cut.
 fn cut_variable(octets: &[u8]) -> Option<(&[u8], &[u8])>
     ensures { reading.both result ≡ values.variable_at octets.now }
 {
@@ -36,8 +36,8 @@ fn cut_variable(octets: &[u8]) -> Option<(&[u8], &[u8])>
     cut_octets(u16_at(octets, 1) as usize, octets.split_at(3).1)
 }
 
-/// The value of a field with this length, 65535 where the value tells its own, and the octets behind it; None where
-/// it is cut.
+/// Returns the value of a field with this length, where 65535 means that the value gives its own, and the octets after
+/// it, or None if it is cut.
 pub fn cut_value(field_length: u16, octets: &[u8]) -> Option<(&[u8], &[u8])>
     ensures { reading.both result ≡ values.value_at field_length octets.now }
 {
@@ -48,7 +48,7 @@ pub fn cut_value(field_length: u16, octets: &[u8]) -> Option<(&[u8], &[u8])>
     }
 }
 
-/// The octets behind the record at the front under a template's fields; None where it is cut.
+/// Returns the octets after the record at the front under a template's fields, or None if it is cut.
 pub fn cut_record<'a>(fields: &[FieldSpecifier], octets: &'a [u8]) -> Option<&'a [u8]>
     ensures { reading.behind result ≡ values.after_record fields.now octets.now }
 {
@@ -62,7 +62,7 @@ pub fn cut_record<'a>(fields: &[FieldSpecifier], octets: &'a [u8]) -> Option<&'a
     Some(rest)
 }
 
-/// How few octets a record can have under a template's fields.
+/// Returns the least number of octets of a record under a template's fields.
 pub fn shortest_record(fields: &[FieldSpecifier]) -> usize
     requires { length fields.now ≤ 65535 }
     ensures { result ≡ values.shortest_record fields.now }
@@ -74,7 +74,7 @@ pub fn shortest_record(fields: &[FieldSpecifier]) -> usize
     sum
 }
 
-/// How few octets a field's value can have.
+/// Returns the least number of octets of a field's value.
 fn shortest_value(field: &FieldSpecifier) -> usize
     ensures value { result ≡ values.shortest_value field.now }
     ensures bound { result ≤ 65535 }
