@@ -15,7 +15,7 @@ use fx_elements::AXES;
 use std::alloc::Global;
 use std::marker::Model;
 
-/// What a record was.
+/// The kind of a record.
 #[derive(Clone, Copy)]
 pub(crate) enum RecordKind {
     Frame,
@@ -23,7 +23,7 @@ pub(crate) enum RecordKind {
     End,
 }
 
-/// What a reader at that place answers once it has stopped.
+/// Returns the fault of a reader that stopped at this octet.
 fn fault_of_stop(place: u64, stop: CaptureStop) -> Fault
     ensures value { result ≡ fault_of place stop }
     ensures told { IsToldByCapture result }
@@ -37,10 +37,10 @@ fn fault_of_stop(place: u64, stop: CaptureStop) -> Fault
 
 /// Lends the frames of a capture one at a time.
 ///
-/// A capture is of version 2.4, with microseconds or nanoseconds, its header numbers in either order.
-/// Its link type is Ethernet (1), with any number of tags, or raw IP (101). Frames that are neither
-/// IPv4 (RFC 791) nor IPv6 (RFC 8200), and those that are malformed, are passed over and counted. After
-/// a fault the reader answers that fault from then on. It takes memory only when it is made.
+/// A capture is of version 2.4, with microseconds or nanoseconds, and with its header numbers in either byte order. Its
+/// link type is Ethernet (1), with any number of tags, or raw IP (101). Frames that are neither IPv4 (RFC 791) nor IPv6
+/// (RFC 8200), and malformed frames, are skipped and counted. After a fault the reader keeps returning that fault. It
+/// allocates only when it is made.
 #[derive(Drop)]
 pub struct Capture<R: Source> {
     window: Window<R>,
@@ -81,11 +81,10 @@ impl<R: Source> Capture<R> {
     ghost use Rattle.fx_pcap.specs.Captures.{AdvancesToFrame, NextFrameIs, IsOpened, IsRefusedCapture, IsUnreadable};
     ghost use Rattle.fx_pcap.specs.Kept.{Takes, GoesOnToFrame};
 
-    /// A reader of the capture that a source has.
+    /// Returns a reader of the capture from a source.
     ///
-    /// Fails with 900 for want of memory, with 901 where a read fails, with 701 at octet 0 where the
-    /// file header is cut or has another magic or version, and with 702 for another link type; 900,
-    /// 901 and 702 at no place.
+    /// Fails with 900 if out of memory, with 901 if a read fails, with 701 at octet 0 if the file header is cut or has
+    /// another magic or version, and with 702 for another link type; 900, 901 and 702 at no place.
     pub fn new(alloc: Global, source: R) -> Result<Capture<R>, Fault>
         ensures ok { IfOk result (IsOpened (R.left source) (R.calls source)) }
         ensures err { IfErr result (IsRefusedCapture (R.left source)
@@ -93,7 +92,7 @@ impl<R: Source> Capture<R> {
     {
         let mut window = Window::new(alloc, source, ROOM)?;
         let Ok(()) = window.fill(FILE_HEADER) else {
-            // So that the contract can speak of the source as it is now.
+            // This lets the contract mention the current source.
             window.get_ref();
             return Err(Fault::bare(refusals::FAILED_READ));
         };
@@ -115,7 +114,7 @@ impl<R: Source> Capture<R> {
         })
     }
 
-    /// Takes the next record.
+    /// Reads the next record.
     fn take_record(&mut self) -> Result<RecordKind, CaptureStop>
         requires { self.old.stopped ≡ None }
         ensures { Takes self.old self.new result }
@@ -143,7 +142,7 @@ impl<R: Source> Capture<R> {
         Ok(RecordKind::Skipped)
     }
 
-    /// Takes records up to the next frame, and answers whether there is one.
+    /// Reads records up to the next frame, and returns whether there is one.
     fn find_frame(&mut self) -> Result<bool, CaptureStop>
         requires { self.old.stopped ≡ None }
         ensures { GoesOnToFrame self.old self.new result }
@@ -157,14 +156,14 @@ impl<R: Source> Capture<R> {
         }
     }
 
-    /// Goes on to the next frame, and answers whether there is one.
+    /// Advances to the next frame and returns whether there is one.
     ///
-    /// Fails with 901, at no place, where a read fails or the source hasn't ended after 4,294,967,296
-    /// calls, with 703 where the capture ends inside a record and with 704 where a record has more
-    /// than 262,144 captured octets, both at the record's first octet.
+    /// Fails with 901, at no place, if a read fails or the source hasn't ended after 4,294,967,296 calls, with 703 if
+    /// the capture ends inside a record, and with 704 if a record has more than 262,144 captured octets, both at the
+    /// first octet of the record.
     pub fn advance(&mut self) -> Result<bool, Fault>
         ensures advances { AdvancesToFrame self.old self.new result }
-        // Whatever the source tells.
+        // This holds whether the source is known or opaque.
         ensures told { IfErr result IsToldByCapture }
     {
         if let Some(stop) = self.stopped {
@@ -179,7 +178,7 @@ impl<R: Source> Capture<R> {
         }
     }
 
-    /// The frame that it is at, after [`advance`](Capture::advance) answered that there is one.
+    /// Returns the current frame, after [`advance`](Capture::advance) returned true.
     pub fn frame(&self) -> Frame<'_>
         ensures captured { result.captured.now ≡ self.now.seen.captured }
         ensures fields { result.fields ≡ self.now.seen.fields }
@@ -194,19 +193,19 @@ impl<R: Source> Capture<R> {
         }
     }
 
-    /// Returns how many frames it has lent, modulo 2 to the 64.
+    /// Returns the number of frames that it has lent, modulo 2 to the 64.
     pub fn packets(&self) -> u64 {
         self.packets
     }
 
-    /// How many frames were passed over so far.
+    /// Returns the numbers of frames skipped so far.
     pub fn skipped(&self) -> Skipped
         ensures { result ≡ self.now.skipped }
     {
         self.skipped
     }
 
-    /// The source, which stands behind the octets that the reader holds.
+    /// Returns the source, which is past the octets that the reader holds.
     pub fn get_ref(&self) -> &R
         ensures failed { R.failed result.now ≡ self.now.failed }
         ensures calls { R.calls result.now ≡ self.now.asked }
@@ -214,9 +213,9 @@ impl<R: Source> Capture<R> {
         self.window.get_ref()
     }
 
-    /// The next frame, or none at the capture's end.
+    /// Returns the next frame, or none at the end of the capture.
     ///
-    /// Fails as [`advance`](Capture::advance), whose contract also says what it leaves.
+    /// Fails like [`advance`](Capture::advance), whose contract also describes the state that it leaves.
     pub fn next_packet(&mut self) -> Result<Option<Frame<'_>>, Fault>
         ensures { NextFrameIs self.old result }
     {

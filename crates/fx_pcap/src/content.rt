@@ -1,4 +1,4 @@
-//! What the captured octets of a frame hold.
+//! The content of the captured octets of a frame.
 ghost use Rattle.std.specs.Prelude.{◌≡◌};
 ghost use Rattle.fx_pcap.specs.Frames.{content_of};
 
@@ -7,23 +7,23 @@ use crate::ipv4::read_ipv4;
 use crate::ipv6::read_ipv6;
 use fx_boxes::Fields;
 
-/// What a capture's octets begin with, by its link type.
+/// The first header of a capture's octets, by its link type.
 #[derive(Clone, Copy)]
 pub(crate) enum LinkType {
     Ethernet,
     Ip,
 }
 
-/// What a frame holds.
+/// The content of a frame.
 #[derive(Clone, Copy)]
 pub(crate) enum Content {
-    /// A packet: its value on each axis, and how many octets it has.
+    /// A packet: its value on each axis, and its number of octets.
     Packet(Fields, u32),
     Other,
     Malformed,
 }
 
-/// What the captured octets of a frame hold.
+/// Reads the content of the captured octets of a frame.
 pub(crate) fn read_content(link: LinkType, octets: &[u8]) -> Content
     ensures { result ≡ content_of link octets.now }
 {

@@ -20,14 +20,14 @@ const IPV4: u16 = 0x0800;
 /// The EtherType of IPv6.
 const IPV6: u16 = 0x86dd;
 
-/// Whether the EtherType is that of a tag: of a customer's network, or of a provider's.
+/// Returns whether the EtherType is that of a tag, of a customer's or of a provider's network.
 fn is_tag(ether_type: u16) -> bool
     ensures { result ≡ frames.is_tag ether_type }
 {
     ether_type == 0x8100 || ether_type == 0x88a8
 }
 
-/// Where the first EtherType stands that isn't a tag's, or the octets of a tag end.
+/// Returns the index of the first EtherType that isn't a tag's, or of the end of the tags' octets.
 fn place_after_tags(octets: &[u8]) -> usize
     requires { 12 ≤ length octets.now }
     ensures bound { result ≤ length octets.now }
@@ -40,7 +40,7 @@ fn place_after_tags(octets: &[u8]) -> usize
     at
 }
 
-/// What is behind all tags: an EtherType, and what it names.
+/// Reads what follows all tags: an EtherType, and what it names.
 fn read_typed(octets: &[u8]) -> Content
     ensures { result ≡ frames.content_by_type octets.now }
 {
@@ -58,7 +58,7 @@ fn read_typed(octets: &[u8]) -> Content
     }
 }
 
-/// What an Ethernet frame holds.
+/// Reads the content of an Ethernet frame.
 pub(crate) fn read_ethernet(octets: &[u8]) -> Content
     ensures { result ≡ frames.content_by_type (after_tags (drop 12 octets.now)) }
 {

@@ -8,22 +8,22 @@ use crate::transport::{TransportHeader, read_transport};
 /// The type of the fragment header.
 const FRAGMENT: u8 = 44;
 
-/// Whether a header of the type is an extension header: hop-by-hop options, routing, fragment or
-/// destination options.
+/// Returns whether a header of the type is an extension header: hop-by-hop options, routing, fragment or destination
+/// options.
 fn is_extension(header: u8) -> bool
     ensures { result ≡ rfc8200.is_extension header }
 {
     header == FRAGMENT || header == 0 || header == 43 || header == 60
 }
 
-/// How many of its octets are read; the others are passed over.
+/// Returns how many octets of the header are read; the others are skipped.
 fn octets_read(header: u8) -> usize
     ensures { result ≡ rfc8200.octets_read header }
 {
     if header == FRAGMENT { 4 } else { 2 }
 }
 
-/// How many octets it has.
+/// Returns the number of octets of the header.
 fn header_length(header: u8, octets: &[u8]) -> usize
     requires { rfc8200.octets_read header ≤ length octets.now }
     ensures { result ≡ rfc8200.header_length header octets.now }
@@ -35,7 +35,7 @@ fn header_length(header: u8, octets: &[u8]) -> usize
     }
 }
 
-/// Whether it is the header of a fragment that isn't its packet's first.
+/// Returns whether the header is that of a fragment that isn't the first of its packet.
 fn is_later_fragment(header: u8, octets: &[u8]) -> bool
     requires { rfc8200.octets_read header ≤ length octets.now }
     ensures { result ≡ rfc8200.is_later_fragment header octets.now }
@@ -43,8 +43,8 @@ fn is_later_fragment(header: u8, octets: &[u8]) -> bool
     header == FRAGMENT && network16(octets, 2) / 8 > 0
 }
 
-/// The protocol behind the extension headers of a payload, whose first header has this type; none
-/// where the octets end before what is read.
+/// Returns the protocol after the extension headers of a payload whose first header has this type, or none if the
+/// octets end before what is read.
 pub(crate) fn read_payload(first: u8, octets: &[u8]) -> Option<TransportHeader>
     ensures { result ≡ rfc8200.transport_of first octets.now }
 {

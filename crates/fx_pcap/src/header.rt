@@ -9,21 +9,21 @@ use fx_base::{Fault, refusals};
 /// The number of octets of the file header.
 pub(crate) const FILE_HEADER: usize = 24;
 
-/// How a capture is written.
+/// The format of a capture.
 #[derive(Clone, Copy)]
 pub(crate) struct Format {
     pub(crate) order: Order,
     pub(crate) link: LinkType,
 }
 
-/// Whether the number begins a capture, with microseconds or with nanoseconds.
+/// Returns whether the number is the magic of a capture, with microseconds or with nanoseconds.
 fn is_magic(number: u32) -> bool
     ensures { result ≡ records.is_magic number }
 {
     number == 0xa1b2_c3d4 || number == 0xa1b2_3c4d
 }
 
-/// The order of the numbers of a capture.
+/// Returns the byte order of the numbers of a capture.
 fn order_of(octets: &[u8]) -> Option<Order>
     requires { 24 ≤ length octets.now }
     ensures { result ≡ records.order_of octets.now }
@@ -37,7 +37,7 @@ fn order_of(octets: &[u8]) -> Option<Order>
     None
 }
 
-/// The link type of that number, if it is one that is read.
+/// Returns the link type with this number, if it is supported.
 fn link_of(number: u32) -> Option<LinkType>
     ensures { result ≡ records.link_of number }
 {
@@ -48,10 +48,10 @@ fn link_of(number: u32) -> Option<LinkType>
     }
 }
 
-/// How the capture is written whose octets begin so.
+/// Reads the format of a capture that begins with these octets.
 ///
-/// Fails with 701 at octet 0 where the header is cut, or has another magic or version, and with 702,
-/// at no place, for another link type.
+/// Fails with 701 at octet 0 if the header is cut, or has another magic or version, and with 702, at no place, for
+/// another link type.
 pub(crate) fn read_format(octets: &[u8]) -> Result<Format, Fault>
     ensures { result ≡ records.format_of octets.now }
 {

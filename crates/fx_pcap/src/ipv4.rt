@@ -10,7 +10,7 @@ use fx_boxes::Fields;
 /// The least number of octets of a header.
 const LEAST_HEADER: usize = 20;
 
-/// The fields of a packet whose header these octets begin with.
+/// Returns the fields of a packet with its header at the front of these octets.
 fn fields_with(octets: &[u8], source_port: u16, destination_port: u16) -> Fields
     requires { 20 ≤ length octets.now }
     ensures { result ≡ rfc791.fields_with octets.now source_port destination_port }
@@ -28,7 +28,7 @@ fn fields_with(octets: &[u8], source_port: u16, destination_port: u16) -> Fields
     ])
 }
 
-/// Whether the header is there, and can be one of IPv4.
+/// Returns whether the header is complete and can be one of IPv4.
 fn is_header(octets: &[u8]) -> bool
     ensures { result ≡ rfc791.is_header octets.now }
 {
@@ -39,7 +39,7 @@ fn is_header(octets: &[u8]) -> bool
     octets[0] / 16 == 4 && LEAST_HEADER <= header && header <= usize::from(network16(octets, 2))
 }
 
-/// Whether ports are behind the header: of a protocol that has them, in a first fragment.
+/// Returns whether ports follow the header, because the protocol has them and it is a first fragment.
 fn has_ports(octets: &[u8]) -> bool
     requires { 20 ≤ length octets.now }
     ensures { result ≡ rfc791.has_ports octets.now }
@@ -47,7 +47,7 @@ fn has_ports(octets: &[u8]) -> bool
     begins_with_ports(octets[9]) && network16(octets, 6) % 8192 == 0
 }
 
-/// The packet that these octets begin with.
+/// Reads the packet at the front of these octets.
 pub(crate) fn read_ipv4(octets: &[u8]) -> Content
     ensures { result ≡ rfc791.ipv4 octets.now }
 {

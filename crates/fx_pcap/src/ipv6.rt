@@ -11,7 +11,7 @@ use fx_boxes::Fields;
 /// The number of octets of the fixed header.
 const HEADER: usize = 40;
 
-/// The fields of a packet whose fixed header these octets begin with.
+/// Returns the fields of a packet with its fixed header at the front of these octets.
 fn fields_with(octets: &[u8], transport: TransportHeader) -> Fields
     requires { 40 ≤ length octets.now }
     ensures { result ≡ rfc8200.fields_with octets.now transport }
@@ -29,14 +29,14 @@ fn fields_with(octets: &[u8], transport: TransportHeader) -> Fields
     ])
 }
 
-/// Whether the fixed header is there, and is one of IPv6.
+/// Returns whether the fixed header is complete and is one of IPv6.
 fn is_header(octets: &[u8]) -> bool
     ensures { result ≡ rfc8200.is_header octets.now }
 {
     octets.len() >= HEADER && octets[0] / 16 == 6
 }
 
-/// What was captured of the payload.
+/// Returns the captured part of the payload.
 fn payload(octets: &[u8]) -> &[u8]
     requires { 40 ≤ length octets.now }
     ensures { result.now ≡ rfc8200.payload octets.now }
@@ -45,7 +45,7 @@ fn payload(octets: &[u8]) -> &[u8]
     &behind[..usize::from(network16(octets, 4)).min(behind.len())]
 }
 
-/// The packet that these octets begin with.
+/// Reads the packet at the front of these octets.
 pub(crate) fn read_ipv6(octets: &[u8]) -> Content
     ensures { result ≡ rfc8200.ipv6 octets.now }
 {

@@ -1,4 +1,4 @@
-//! Captures: the classic pcap format, read into frames that lend the reader's buffer.
+//! Captures in the classic pcap format, read into frames that borrow the reader's buffer.
 #![tactic(auto)]
 
 mod capture;

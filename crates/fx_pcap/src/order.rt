@@ -1,10 +1,10 @@
-//! Numbers in octets, in either order.
+//! Numbers in octets, in either byte order.
 ghost use Rattle.std.specs.Prelude.{◌≡◌, ◌+◌, ◌≤◌, length};
 ghost use Rattle.fx_pcap.specs.Numbers.{number_in, network};
 
 use byteorder::{BigEndian, ByteOrder, LittleEndian};
 
-/// Which octet of a number comes first: the most significant or the least.
+/// The byte order of a number: most significant or least significant octet first.
 #[derive(Clone, Copy)]
 pub(crate) enum Order {
     Big,
@@ -12,7 +12,7 @@ pub(crate) enum Order {
 }
 
 impl Order {
-    /// The number in two octets from a place on.
+    /// Returns the number in two octets from an index on.
     pub(crate) fn read16(self, octets: &[u8], at: usize) -> u16
         requires { at + 2 ≤ length octets.now }
         ensures { result ≡ number_in self 2 at octets.now }
@@ -23,7 +23,7 @@ impl Order {
         }
     }
 
-    /// The number in four octets from a place on.
+    /// Returns the number in four octets from an index on.
     pub(crate) fn read32(self, octets: &[u8], at: usize) -> u32
         requires { at + 4 ≤ length octets.now }
         ensures { result ≡ number_in self 4 at octets.now }
@@ -35,7 +35,7 @@ impl Order {
     }
 }
 
-/// The number in two octets from a place on, in network order.
+/// Returns the number in two octets from an index on, in network order.
 pub(crate) fn network16(octets: &[u8], at: usize) -> u16
     requires { at + 2 ≤ length octets.now }
     ensures { result ≡ network 2 at octets.now }
@@ -43,7 +43,7 @@ pub(crate) fn network16(octets: &[u8], at: usize) -> u16
     Order::Big.read16(octets, at)
 }
 
-/// The number in four octets from a place on, in network order.
+/// Returns the number in four octets from an index on, in network order.
 pub(crate) fn network32(octets: &[u8], at: usize) -> u32
     requires { at + 4 ≤ length octets.now }
     ensures { result ≡ network 4 at octets.now }
@@ -51,7 +51,7 @@ pub(crate) fn network32(octets: &[u8], at: usize) -> u32
     Order::Big.read32(octets, at)
 }
 
-/// The number in sixteen octets from a place on, in network order.
+/// Returns the number in sixteen octets from an index on, in network order.
 pub(crate) fn network128(octets: &[u8], at: usize) -> u128
     requires { at + 16 ≤ length octets.now }
     ensures { result ≡ network 16 at octets.now }

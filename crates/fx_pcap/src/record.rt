@@ -15,10 +15,10 @@ pub(crate) const RECORD_HEADER: usize = 16;
 /// The greatest number of captured octets of a record.
 const LONGEST: u32 = 262_144;
 
-/// The number of octets that are held at once: two of the longest records.
+/// The number of octets that can be held at once: two of the longest records.
 pub(crate) const ROOM: usize = 524_288;
 
-/// Has the next record held, whole, and answers its number of octets; none at the end.
+/// Reads until the next record is held whole, and returns its number of octets, or none at the end.
 pub(crate) fn find_record<R: Source>(
     window: &mut Window<R>,
     order: Order,

@@ -1,4 +1,4 @@
-/// Why a reader stops.
+/// The reason why a reader stops.
 #[derive(Clone, Copy)]
 pub(crate) enum CaptureStop {
     Device,

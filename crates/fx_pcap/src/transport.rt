@@ -1,11 +1,11 @@
-//! The protocol behind the headers of IPv6, and its ports.
+//! The protocol after the headers of IPv6, and its ports.
 ghost use Rattle.std.specs.Prelude.{◌≡◌};
 ghost use Rattle.fx_pcap.specs.Headers as rfc8200;
 
 use crate::order::network16;
 use crate::ports::{PORTS, begins_with_ports};
 
-/// A protocol and its ports, which are 0 where it has none and in a later fragment.
+/// A protocol and its ports, which are 0 if it has none and in later fragments.
 #[derive(Clone, Copy)]
 pub(crate) struct TransportHeader {
     pub(crate) protocol: u8,
@@ -14,7 +14,7 @@ pub(crate) struct TransportHeader {
 }
 
 impl TransportHeader {
-    /// The protocol alone.
+    /// Returns the protocol without ports.
     pub(crate) fn without_ports(protocol: u8) -> TransportHeader
         ensures { result ≡ rfc8200.without_ports protocol }
     {
@@ -26,7 +26,7 @@ impl TransportHeader {
     }
 }
 
-/// The protocol whose octets these are; none where they end before its ports.
+/// Returns the protocol with these octets, or none if they end before its ports.
 pub(crate) fn read_transport(protocol: u8, octets: &[u8]) -> Option<TransportHeader>
     ensures { result ≡ rfc8200.transport_in protocol octets.now }
 {
