@@ -1,4 +1,4 @@
-//! Totals: what a collector has counted under each key, and their text.
+//! Totals: the counts of a collector under each key, and their text.
 #![tactic(auto)]
 
 mod laws;

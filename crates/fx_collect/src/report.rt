@@ -9,7 +9,7 @@ use fx_base::{Counts, Fault, Sink, put_number, put_text};
 use fx_elements::put_value;
 use fx_layout::{Layout, Part, Values};
 
-/// Writes a value for each part, with single spaces between them.
+/// Writes a value for each part, separated by single spaces.
 fn put_parts<S: Sink>(sink: &mut S, parts: &[Part], values: &[u128]) -> Result<(), Fault>
     requires fits { Fits parts.now }
     requires bits { HasBits parts.now values.now }
@@ -75,7 +75,7 @@ fn put_line<S: Sink>(
 
 /// Writes a line of a text and a number in decimal.
 ///
-/// Fails with 902, at no place, where a write fails; how much the sink has taken then is open.
+/// Fails with 902, at no place, if a write fails; how much the sink has taken is then unspecified.
 pub fn put_number_line<S: Sink>(sink: &mut S, word: &[u8], number: u64) -> Result<(), Fault>
     ensures ok { OnOk result (Writes (S.taken sink.old) (S.taken sink.new)
         (number_line word.now number)) }
@@ -102,12 +102,12 @@ impl Totals {
     }
 
     /// Writes the text of these totals: `keys n`; for each key its values in axis order, `packets P octets O`;
-    /// `unassigned u`. Addresses are dotted quads, those of IPv6 eight groups of hexadecimal digits, followed by a slash
-    /// and the number of bits where a key has fewer than all; a key without values is `all`. Each line ends with a
-    /// line feed.
+    /// `unassigned u`. Addresses are dotted quads, or eight groups of hexadecimal digits for IPv6, followed by a slash
+    /// and the number of bits if a key has fewer than all; a key without values is `all`. Each line ends with a line
+    /// feed.
     ///
-    /// The keys are to ascend, as after [`Totals::sort`]. Fails with 902, at no place, where a write fails; how
-    /// much the sink has taken then is open.
+    /// The keys must be in ascending order, as after [`Totals::sort`]. Fails with 902, at no place, if a write fails;
+    /// how much the sink has taken is then unspecified.
     pub fn put_report<S: Sink>(&self, sink: &mut S) -> Result<(), Fault>
         requires { KeysAscend self.now.entries }
         ensures ok { OnOk result (Writes (S.taken sink.old) (S.taken sink.new)

@@ -1,4 +1,4 @@
-//! What a collector has counted under each key.
+//! The counts of a collector under each key.
 ghost use Rattle.std.specs.Prelude.{◌≡◌, ℕ, ◌+◌, ◌%◌, ◌^◌, None, Some, IsPermutation, IfOk, IfErr, OnOk, length};
 ghost use Rattle.fx_base.specs.Fault.{IsMemory};
 ghost use Rattle.fx_layout.specs.Keys.{HasBits};
@@ -23,7 +23,7 @@ pub struct Totals {
 }
 
 impl Drop for Totals {
-    /// Lets its parts go: proved once, and one call wherever one is let go.
+    /// Drops its parts here, so that each drop elsewhere is one call.
     fn drop(self) {
         let Self {
             layout: _,
@@ -49,9 +49,9 @@ impl Model for Totals {
 }
 
 impl Totals {
-    /// Totals under the keys of this layout, of nothing so far, which hash keys by the seed.
+    /// Returns empty totals under the keys of this layout, which hash keys by the seed.
     ///
-    /// Fails with 900, at no place, for want of memory.
+    /// Fails with 900, at no place, if out of memory.
     pub fn new(alloc: Global, seed: Seed, layout: Layout) -> Result<Totals, Fault>
         ensures ok { IfOk result (λ totals. totals ≡ nothing layout) }
         ensures err { IfErr result IsMemory }
@@ -65,7 +65,7 @@ impl Totals {
 
     /// Adds the counts at these values under the layout of these totals.
     ///
-    /// Fails for want of memory; the totals are as before then.
+    /// Fails if out of memory; the totals are then unchanged.
     fn add_counts_at(&mut self, values: &Values, counts: &Counts) -> Result<(), Fault>
         requires { HasBits self.old.layout values.now }
         ensures ok { OnOk result (self.new ≡ record self.old {
@@ -86,13 +86,13 @@ impl Totals {
         Ok(())
     }
 
-    /// Adds the record's counts as [`tally`](Totals::tally) does. The values of its key are put together in `values`
-    /// where it has another layout.
+    /// Adds the counts of the record like [`tally`](Totals::tally). The values of its key are assembled in `values` if
+    /// it has another layout.
     fn tally_by(&mut self, entry: &Record, values: &mut Values) -> Result<(), Fault>
         ensures ok { OnOk result (self.new ≡ with_record self.old entry.now) }
         ensures err { IfErr result (λ e. IsMemory e × (self.new ≡ self.old)) }
     {
-        // For the prover alone: the axes of the layout come in order.
+        // Only for the prover: the axes of the layout are in order.
         let _parts = self.layout.parts();
         if self.layout.same(entry.key.layout()) {
             return self.add_counts_at(entry.key.own_values(), &entry.counts);
@@ -104,10 +104,10 @@ impl Totals {
         self.add_counts_at(values, &entry.counts)
     }
 
-    /// Adds the record's counts at its key under the layout of these totals. A record whose layout doesn't
-    /// refine that is counted as unassigned, modulo 2 to the 64.
+    /// Adds the counts of the record at its key under the layout of these totals. A record whose layout doesn't refine
+    /// that layout is counted as unassigned, modulo 2 to the 64.
     ///
-    /// Fails with 900, at no place, for want of memory; the totals are as before then.
+    /// Fails with 900, at no place, if out of memory; the totals are then unchanged.
     pub fn tally(&mut self, entry: &Record) -> Result<(), Fault>
         ensures ok { OnOk result (self.new ≡ with_record self.old entry.now) }
         ensures err { IfErr result (λ e. IsMemory e × (self.new ≡ self.old)) }
@@ -115,17 +115,17 @@ impl Totals {
         self.tally_by(entry, &mut Values::new())
     }
 
-    /// Counts so many records more that had no key under the layout, modulo 2 to the 64.
+    /// Adds to the number of records without a key under the layout, modulo 2 to the 64.
     pub fn add_unassigned(&mut self, records: u64)
         ensures { self.new ≡ with_unassigned self.old records }
     {
         self.unassigned = self.unassigned.wrapping_add(records);
     }
 
-    /// What a network has counted so far: its totals under the keys of its report, and the number of its
-    /// records that had none.
+    /// Returns what a network has counted so far: its totals under the keys of its report, and the number of its
+    /// records without one.
     ///
-    /// Fails with 900, at no place, for want of memory.
+    /// Fails with 900, at no place, if out of memory.
     pub fn of(alloc: Global, seed: Seed, state: &State<'_>) -> Result<Totals, Fault>
         ensures ok { IfOk result (λ totals. totals
             ≡ totals_of state.now.net.report_layout state.now.state) }
@@ -137,7 +137,7 @@ impl Totals {
         Ok(totals)
     }
 
-    /// Adds one record after another. Fails with 900, at no place, for want of memory.
+    /// Adds one record after another. Fails with 900, at no place, if out of memory.
     pub fn tally_all(&mut self, entries: &[Record]) -> Result<(), Fault>
         ensures ok { OnOk result (self.new ≡ with_records self.old entries.now) }
         ensures err { IfErr result IsMemory }
@@ -149,7 +149,7 @@ impl Totals {
         Ok(())
     }
 
-    /// What was counted under the key, if anything was.
+    /// Returns the counts under the key, if there are any.
     pub fn get(&self, key: &Key) -> Option<Counts>
         ensures { result ≡ total_at self.now.entries key.now }
     {
@@ -159,23 +159,23 @@ impl Totals {
         self.counts.get(&Values::of(key)).copied()
     }
 
-    /// How many keys there are.
+    /// Returns the number of keys.
     pub fn len(&self) -> usize
         ensures { result ≡ length self.now.entries }
     {
         self.counts.len()
     }
 
-    /// The number of records that had no key under the layout, modulo 2 to the 64.
+    /// Returns the number of records without a key under the layout, modulo 2 to the 64.
     pub fn unassigned(&self) -> u64
         ensures { result ≡ self.now.unassigned }
     {
         self.unassigned
     }
 
-    /// Puts the keys in order: by the first value that differs.
+    /// Sorts the keys by the first value that differs.
     ///
-    /// Fails with 900, at no place, for want of memory; the totals are as before then.
+    /// Fails with 900, at no place, if out of memory; the totals are then unchanged.
     pub fn sort(&mut self) -> Result<(), Fault>
         ensures sorted { OnOk result (KeysAscend self.new.entries) }
         ensures same { OnOk result (IsPermutation self.old.entries self.new.entries
