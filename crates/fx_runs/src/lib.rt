@@ -1,5 +1,5 @@
-//! Runs of an abstract network that go on: over more packets and by more steps, and steps made with the destinations
-//! in use.
+//! Runs of an abstract network that are continued over more packets and by more steps, and steps made with the
+//! destinations in use.
 #![tactic(auto)]
 
 mod laws;
