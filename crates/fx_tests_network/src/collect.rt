@@ -8,7 +8,7 @@ use fx_layout::{Key, Layout, Seed};
 use fx_tables::Record;
 use std::process::Abort;
 
-/// The seed of all totals here.
+/// Returns the seed of all totals here.
 fn seed() -> Seed {
     Seed::new(1, 2)
 }
@@ -23,18 +23,18 @@ fn key(rt: &impl Abort, source: u32, protocol: u8) -> Key {
     layout(rt).key_of(&Fields::of([source, 0, protocol, 0, 0, 0, 4, 0, 0]))
 }
 
-/// Tallies a record of this key: whether there was memory.
+/// Tallies a record with this key, and returns whether there was memory.
 fn tallies(totals: &mut Totals, key: Key, packets: u64, octets: u64) -> bool {
     let counts = Counts { packets, octets };
     ends(totals.tally(&Record { key, counts }), 0)
 }
 
-/// The key of all packets.
+/// Returns the key of all packets.
 fn key_of_all() -> Key {
     Layout::new().key_of(&Fields::of([0; AXES]))
 }
 
-/// Whether what is told of totals is this.
+/// Returns whether the text of totals is the given one.
 fn is_text(totals: &mut Totals, text: &[u8]) -> bool {
     let mut octets = [0u8; 256];
     let mut room = Room::new(&mut octets);
@@ -44,7 +44,7 @@ fn is_text(totals: &mut Totals, text: &[u8]) -> bool {
     }
 }
 
-/// Counts records by source and protocol, and one of all packets, which is assigned to none.
+/// Counts records by source and protocol, and one of all packets, which remains unassigned.
 fn counts_keys(totals: &mut Totals, rt: &impl Abort) -> bool {
     tallies(totals, key(rt, 0x0a01_0203, 6), 1, 100)
         & tallies(totals, key(rt, 0x0a01_0103, 17), 1, u64::MAX)
@@ -52,7 +52,7 @@ fn counts_keys(totals: &mut Totals, rt: &impl Abort) -> bool {
         & tallies(totals, key_of_all(), 1, 1)
 }
 
-/// Whether those records are found.
+/// Returns whether those records are found.
 fn finds_keys(totals: &Totals, rt: &impl Abort) -> bool {
     let counts = Counts {
         packets: 2,
@@ -64,7 +64,7 @@ fn finds_keys(totals: &Totals, rt: &impl Abort) -> bool {
         & totals.get(&key(rt, 0x0a01_0200, 7)).is_none()
 }
 
-/// What is told of them.
+/// The text of their totals.
 const KEYS: &[u8] =
     b"keys 2\n10.1.1.0/24 17 packets 1 octets 18446744073709551615\n10.1.2.0/24 6 packets 2 octets 101\nunassigned 1\n";
 
@@ -76,7 +76,7 @@ fn tells_totals(rt: HostRuntime) {
     );
 }
 
-/// Whether the totals of a layout tell this of one record of this key.
+/// Returns whether the totals of one record with this key have this text.
 fn tells_one(mut totals: Totals, key: Key, packets: u64, octets: u64, text: &[u8]) -> bool {
     tallies(&mut totals, key, packets, octets) & is_text(&mut totals, text)
 }
@@ -88,7 +88,7 @@ fn tells_all(rt: HostRuntime) {
     assert!(rt; tells_one(totals, key(&rt, 0x0a01_0203, 6), 3, 9, text));
 }
 
-/// A record of all packets.
+/// Returns a record of all packets.
 fn record_of_all(packets: u64, octets: u64) -> Record {
     let mut record = Record::of_all();
     record.counts = record.counts.add(&Counts { packets, octets });
@@ -103,7 +103,7 @@ fn tallies_records_in_turn(rt: HostRuntime) {
     assert!(rt; ends(totals.tally_all(&records), 0) & is_text(&mut totals, text));
 }
 
-/// The version, 32 bits of the source and the destination.
+/// Returns a layout of the version, and of 32 bits of the source and the destination.
 fn layout_of_ipv6(rt: &impl Abort) -> Layout {
     let layout = Layout::new().with(Axis::Version, 8).expect(rt, "version");
     let layout = layout.with(Axis::Source6, 32).expect(rt, "source");
@@ -115,7 +115,7 @@ fn layout_of_ipv6(rt: &impl Abort) -> Layout {
 /// 2001:db8::.
 const NETWORK: u128 = 0x2001_0db8 << 96;
 
-/// A packet from 2001:db8::1 to 2001:db8::9.
+/// Returns a packet from 2001:db8::1 to 2001:db8::9.
 fn packet_of_ipv6() -> Fields {
     Fields::of([0, 0, 17, 1000, 53, 0, 6, NETWORK + 1, NETWORK + 9])
 }

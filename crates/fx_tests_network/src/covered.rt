@@ -12,14 +12,14 @@ fn plain(alloc: Global) -> DeviceEntry {
     DeviceEntry::new(Vec::new(alloc), Vec::new(alloc), Vec::new(alloc))
 }
 
-/// Returns a collecting process that sends records on by the exporting process at this place.
+/// Returns a collecting process that forwards records by the exporting process at this index.
 fn sends(rt: &impl Abort, alloc: Global, exporter: usize) -> Process {
     let exporters = vec![in alloc; exporter].expect(rt, "memory");
     Process::new(exporters, Vec::new(alloc))
 }
 
-/// Returns a network in which meter 1 exports to process 0, which sends on to process `next`, and meter 3 to the report,
-/// process 1.
+/// Returns a network in which meter 1 exports to process 0, which forwards to process `next`, and meter 3 to the
+/// report, process 1.
 fn whole(rt: &impl Abort, alloc: Global, next: usize) -> Net {
     let layout = by_source(rt, 32);
     let first = meter(rt, alloc, Region::whole(), 0, true);
@@ -44,7 +44,7 @@ fn whole(rt: &impl Abort, alloc: Global, next: usize) -> Net {
     )
 }
 
-/// Returns the part that has the third device's meter, with records of this many bits of the source, and the report.
+/// Returns the part with the third device's meter, whose records have this many bits of the source, and the report.
 fn part(rt: &impl Abort, alloc: Global, bits: u32) -> Net {
     let layout = by_source(rt, bits);
     let meter = meter(rt, alloc, Region::whole(), 0, true);
@@ -59,7 +59,7 @@ fn part(rt: &impl Abort, alloc: Global, bits: u32) -> Net {
     )
 }
 
-/// Returns a class of all packets, whose one path goes into this device.
+/// Returns a class of all packets whose one path enters this device.
 fn class_into(rt: &impl Abort, alloc: Global, device: u64, exempt: bool) -> Class {
     let path = Path::new(vec![in alloc; into(rt, alloc, device)].expect(rt, "memory"));
     let paths = vec![in alloc; path].expect(rt, "memory");
@@ -77,7 +77,8 @@ fn parts_are_compared(rt: HostRuntime) {
     );
 }
 
-/// Returns whether a class of the part with a path into its meter covers one of the whole with a path into this device.
+/// Returns whether a class of the part with a path into its meter covers a class of the whole with a path into this
+/// device.
 fn covers(rt: &impl Abort, alloc: Global, device: u64, exempt: bool) -> bool {
     let whole = whole(rt, alloc, 1);
     let part = part(rt, alloc, 32);
@@ -97,8 +98,8 @@ fn classes_are_compared(rt: HostRuntime) {
     );
 }
 
-/// Returns whether a path into the meter of the part, whose records have this many bits of the source, is metered as these
-/// crossings of the whole.
+/// Returns whether a path into the meter of the part, whose records have this many bits of the source, is metered in
+/// the same way as these crossings of the whole.
 fn is_metered_alike(rt: &impl Abort, alloc: Global, bits: u32, outer: &[Crossing]) -> bool {
     let whole = whole(rt, alloc, 1);
     let part = part(rt, alloc, bits);

@@ -1,4 +1,4 @@
-//! How fates join, and how much of a region is selected, or matches.
+//! How fates are joined, and how much of a region is selected or matches.
 use crate::meters::sources;
 use fx_elements::Axis;
 use fx_leaf::{
@@ -28,7 +28,7 @@ fn joins_fates(rt: HostRuntime) {
     );
 }
 
-/// Whether so much of the sources from one to another is below 128.0.0.0.
+/// Returns whether this much of the sources in a range is below 128.0.0.0.
 fn is_below(rt: &impl Abort, low: u128, high: u128, expected: Overlap) -> bool {
     let region = sources(rt, low, high);
     let half = sources(rt, 0, 0x7fff_ffff);

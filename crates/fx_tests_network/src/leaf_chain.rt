@@ -1,4 +1,4 @@
-//! Two aggregations, one behind the other, of which the second has a match.
+//! Two consecutive aggregations, of which the second has a match.
 ghost use Rattle.std.specs.Prelude.{◌≡◌, ◌≤◌, [], ◌∷◌, true, Some};
 ghost use Rattle.fx_leaf.specs.Tables as by_table;
 ghost use Rattle.fx_elements.specs.declared.axis.Axis.TheVariants as axis;
@@ -45,7 +45,7 @@ fn holders(
     .expect(rt, "memory")
 }
 
-/// Aggregates all records.
+/// Returns a process that aggregates all records.
 fn first(rt: &impl Abort, alloc: Global) -> Process
     ensures { result ≡ record {
       exporters = [];
@@ -60,7 +60,7 @@ fn first(rt: &impl Abort, alloc: Global) -> Process
     )
 }
 
-/// Aggregates those from 10.1.2.0/24.
+/// Returns a process that aggregates the records from 10.1.2.0/24.
 fn second(rt: &impl Abort, alloc: Global) -> Process
     ensures { result ≡ record {
       exporters = [];
@@ -104,7 +104,8 @@ fn processes(rt: &impl Abort, alloc: Global) -> Vec<Process>
     vec![in alloc; first(rt, alloc), second(rt, alloc), process(alloc)].expect(rt, "memory")
 }
 
-/// One meter of all packets, whose cache exports to the first collecting process, that to the second, and so on.
+/// Returns a network with one meter of all packets, whose cache exports to the first collecting process, that to the
+/// second, and so on.
 fn network(rt: &impl Abort, alloc: Global, own: &Layout, middle: &Layout, last: &Layout) -> Net
     ensures exporters { result.exporters
         ≡ record { parallel = true; destinations = Some 0 ∷ [] }
@@ -141,10 +142,10 @@ fn network(rt: &impl Abort, alloc: Global, own: &Layout, middle: &Layout, last: 
     )
 }
 
-/// The leaf, or the number of the fault; and the split.
+/// The leaf or the number of the fault, and the split.
 type Answers = (Result<Counted, u16>, Option<(Axis, u128)>);
 
-/// What is answered for sources from one to another: the leaf, and the split.
+/// Returns the leaf and the split for a range of sources.
 fn asked(
     rt: &impl Abort,
     alloc: Global,
@@ -175,7 +176,7 @@ fn asked(
     (leaf, cut(&mut scratch, &tables, &path, &region))
 }
 
-/// The same where the first aggregation keeps so many bits of the source.
+/// Returns the leaf and the split for a range of sources if the first aggregation keeps this many bits of the source.
 fn answers(rt: &impl Abort, alloc: Global, kept: u32, low: u128, high: u128) -> Answers
     requires { kept ≤ 32 }
 {
@@ -187,14 +188,14 @@ fn answers(rt: &impl Abort, alloc: Global, kept: u32, low: u128, high: u128) -> 
     asked(rt, alloc, &net, &layouts, low, high)
 }
 
-/// Counted at the one crossing.
+/// A leaf at the one crossing.
 const ONCE: Counted = Counted {
     crossing: 1,
     point: 1,
     process: 1,
 };
 
-/// How many bits the first aggregation keeps, the last source, and what is answered.
+/// How many bits the first aggregation keeps, the last source, and the expected answers.
 const CASES: [(u32, u128, Answers); 3] = [
     (24, 0x0a01_02ff, (Ok(ONCE), None)), // inside the match
     (

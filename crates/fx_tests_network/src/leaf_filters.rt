@@ -1,4 +1,4 @@
-//! Two meters on one path, each with a filter of its own.
+//! Two meters on one path, each with its own filter.
 ghost use Rattle.std.specs.Prelude.{◌≡◌, [], ◌∷◌};
 ghost use Rattle.fx_leaf.specs.PathSelections.{IsNarrowed};
 ghost use Rattle.fx_leaf.specs.PathTables.{HasProcessRoom, IsPathBegun};
@@ -17,13 +17,13 @@ use fx_tables::{Crossing, DeviceEntry, Exporter, Holder, Net};
 use std::alloc::Global;
 use std::process::Abort;
 
-/// A meter of the sources from one to another, into the cache at this place.
+/// Returns a meter of a range of sources, into the cache at this index.
 fn half(rt: &impl Abort, alloc: Global, low: u128, high: u128, cache: usize) -> DeviceEntry {
     meter(rt, alloc, sources(rt, low, high), cache, false)
 }
 
-/// A meter of the sources below 128.0.0.0, another of those from there on, and a collector that tallies what both
-/// send.
+/// Returns a meter of the sources below 128.0.0.0, another of the remaining sources, and a collector that tallies what
+/// both send.
 fn devices(rt: &impl Abort, alloc: Global) -> Vec<DeviceEntry> {
     vec![in alloc;
         half(rt, alloc, 0, 0x7fff_ffff, 0),
@@ -45,16 +45,16 @@ fn caches(rt: &impl Abort, alloc: Global) -> Vec<Holder>
     .expect(rt, "memory")
 }
 
-/// Whether the second exporting process sends to all of its destinations, and these.
+/// Whether the second exporting process sends to all of its destinations, and the destinations.
 type Sent = (bool, &'static [Option<usize>]);
 
-/// An exporting process that sends to the first destination, and another that sends to these.
+/// Returns an exporting process that sends to the first destination, and another that sends to these.
 fn exporters(rt: &impl Abort, alloc: Global, sent: Sent) -> Vec<Exporter> {
     let second = Exporter::new(sent.0, sent.1.to_vec(alloc).expect(rt, "memory"));
     vec![in alloc; exporter(rt, alloc, 0), second].expect(rt, "memory")
 }
 
-/// The network of those, in which the report has this layout.
+/// Returns the network of those, whose report has this layout.
 fn network(rt: &impl Abort, alloc: Global, sent: Sent, report: Layout) -> Net
     ensures holders { result.holders
         ≡ record { layout = []; exporters = 0 ∷ [] } ∷ record { layout = []; exporters = 1 ∷ [] }
@@ -73,8 +73,8 @@ fn network(rt: &impl Abort, alloc: Global, sent: Sent, report: Layout) -> Net
     )
 }
 
-/// The leaf, or the number of the fault; whether no packet is counted, in the same way; the split that halves what cuts; and
-/// the judgement. All but the split are asked for twice, alone and along the path.
+/// The leaf or the number of the fault; whether no packet is counted, as success or a number; the split that halves
+/// what cuts; and the judgement. All but the split are requested twice, alone and along the path.
 type Answers = (
     Result<Counted, u16>,
     Result<(), u16>,
@@ -82,7 +82,7 @@ type Answers = (
     Judgement,
 );
 
-/// The bound that halves what cuts the region, where it is cut at this one.
+/// Returns the bound that halves what cuts the region, if it is cut at this split.
 fn halved(
     alloc: Global,
     along: &mut PathScratch<'_>,
@@ -106,7 +106,7 @@ fn halved(
     Ok(Some(along.halving_bound(&mut bounds, tables, path, region, active, first)?))
 }
 
-/// What is answered for the sources from one to another.
+/// Returns the answers for a range of sources.
 fn asked(rt: &impl Abort, alloc: Global, net: &Net, low: u128, high: u128) -> Answers
     requires holders { net.now.holders ≡ record { layout = []; exporters = 0 ∷ [] }
         ∷ record { layout = []; exporters = 1 ∷ [] } ∷ [] }
@@ -144,8 +144,8 @@ fn asked(rt: &impl Abort, alloc: Global, net: &Net, low: u128, high: u128) -> An
     (leaf, uncounted, split, judgement)
 }
 
-/// The same where the second exporting process sends to these destinations, and the report tells the whole source, or
-/// nothing.
+/// Returns the answers for a range of sources if the second exporting process sends to these destinations and the
+/// report has the whole source or nothing.
 fn answers(
     rt: &impl Abort,
     alloc: Global,
@@ -163,14 +163,14 @@ fn answers(
     asked(rt, alloc, &net, low, high)
 }
 
-/// Counted at the first crossing.
+/// A leaf at the first crossing.
 const FIRST: Counted = Counted {
     crossing: 1,
     point: 1,
     process: 1,
 };
 
-/// Counted at the second crossing.
+/// A leaf at the second crossing.
 const SECOND: Counted = Counted {
     crossing: 2,
     point: 1,
@@ -180,7 +180,7 @@ const SECOND: Counted = Counted {
 /// The first source of the second half.
 const MIDDLE: u128 = 0x8000_0000;
 
-/// The first and the last source, and what is answered.
+/// The first and the last source, and the expected answers.
 const HALVES: [(u128, u128, Answers); 3] = [
     (
         0,
@@ -215,8 +215,8 @@ fn each_filter_counts_its_half_and_cuts_a_region(rt: HostRuntime) {
     }
 }
 
-/// What the second exporting process sends to, whether the report tells the source, and why the leaf of the second
-/// meter's half isn't sound, whether none of its packets is counted, and the judgement.
+/// What the second exporting process sends to, whether the report has the source, and, for the second meter's half, why
+/// the leaf isn't sound, whether none of its packets is counted, and the judgement.
 const UNSOUND: [(Sent, bool, u16, Result<(), u16>, Judgement); 4] = [
     ((true, &[None]), false, 407, Ok(()), Judgement::Never),
     (

@@ -1,4 +1,4 @@
-//! Tests of the abstract network and of what is collected from it.
+//! Tests of the abstract network and of what it collects.
 #![tactic(auto)]
 
 #[cfg(test)]

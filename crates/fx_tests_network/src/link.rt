@@ -1,4 +1,4 @@
-//! What is put on links, octet by octet.
+//! What is sent on links, octet by octet.
 ghost use Rattle.std.specs.Prelude.{None, false};
 
 use fx_base::{Counts, Fault, Room, Sink, refusals};
@@ -12,8 +12,8 @@ use fx_tables::Record;
 use std::alloc::Global;
 use std::process::Abort;
 
-/// The template of a source address, and 10.0.0.1 with 2 packets and 300 octets, exported at second 2; behind it, at
-/// second 3, with one packet and 300 octets.
+/// The template of a source address, and 10.0.0.1 with 2 packets and 300 octets, exported at second 2; after it,
+/// exported at second 3, with one packet and 300 octets.
 const ONE_BY_ONE: [u8; 100] = [
     0x00, 0x0a, 0x00, 0x3c, 0, 0, 0, 2, 0, 0, 0, 0, 0, 0, 0, 0, // the first header
     0x00, 0x02, 0x00, 0x14, 0x01, 0x00, 0x00, 0x03, // the template
@@ -41,7 +41,7 @@ const OF_IPV6: [u8; 72] = [
     0, 0, 0, 0, 0, 0, 0, 56, 0, 0, 0, 0, 0, 0, 0, 1,
 ];
 
-/// A record by this many bits of the address on an axis.
+/// Returns a record by this many bits of the address on an axis.
 fn record(
     rt: &impl Abort,
     axis: Axis,
@@ -60,16 +60,16 @@ fn record(
     }
 }
 
-/// Puts a record on a link that has room for it.
+/// Sends a record on a link that has room for it.
 fn put(rt: &impl Abort, link: &mut Link, time: u32, flow: Record) {
     assert!(rt; link.has_room());
     link.put(time, flow).expect(rt, "memory");
 }
 
-/// A record that is put on a link: the second, the axis, how many of its bits, the address, the packets and octets.
+/// A record that is sent on a link: the second, the axis, the number of its bits, the address, the packets and octets.
 type Put = (u32, Axis, u32, u128, u64, u64);
 
-/// Puts records on a link, and ends their message in this second.
+/// Sends records on a link, and ends their message in this second.
 fn put_message<L: Links>(rt: &impl Abort, link: &mut Link, puts: &[Put], time: u32, links: &mut L) {
     for (second, axis, bits, address, packets, octets) in puts {
         put(
@@ -82,7 +82,7 @@ fn put_message<L: Links>(rt: &impl Abort, link: &mut Link, puts: &[Put], time: u
     link.finish(time, 1, links).expect(rt, "room");
 }
 
-/// Puts messages on a new link: each one's second, and its records.
+/// Sends messages on a new link, given by the second of each and its records.
 fn put_all<L: Links>(rt: &impl Abort, alloc: Global, messages: &[(u32, &[Put])], links: &mut L) {
     let mut link = Link::new(alloc).expect(rt, "memory");
     for (time, puts) in messages {
@@ -90,7 +90,7 @@ fn put_all<L: Links>(rt: &impl Abort, alloc: Global, messages: &[(u32, &[Put])],
     }
 }
 
-/// Whether what was written to the one sink of links is this.
+/// Returns whether the octets written to the only sink of links are the given ones.
 fn is_written(links: Sinks<Room<'_>>, octets: &[u8]) -> bool {
     match links.as_slice() {
         [room] => room.octets() == octets,
@@ -98,7 +98,7 @@ fn is_written(links: Sinks<Room<'_>>, octets: &[u8]) -> bool {
     }
 }
 
-/// Whether messages that are put on a new link are written like this.
+/// Returns whether messages that are sent on a new link are written as these octets.
 fn writes(rt: &impl Abort, alloc: Global, messages: &[(u32, &[Put])], octets: &[u8]) -> bool {
     let mut store = [0u8; 128];
     let mut rooms = Vec::new(alloc);
@@ -125,7 +125,7 @@ fn writes_messages_of_one_record(rt: HostRuntime) {
     );
 }
 
-/// Two records that leave together.
+/// Two records that are sent together.
 const TWO: [Put; 2] = [
     (2, Axis::Source, 32, 0x0a00_0001, 1, 100),
     (2, Axis::Source, 32, 0x0a00_0002, 1, 200),
@@ -144,21 +144,21 @@ fn writes_a_message_of_ipv6(rt: HostRuntime) {
     assert!(rt; writes(&rt, rt.alloc(), &[(1, &[WIDE])], &OF_IPV6));
 }
 
-/// The records of a message and one more.
+/// The maximum number of records of a message, and one more.
 const MANY: [Put; 65] = [(0, Axis::Source, 32, 0x0a00_0001, 1, 1); 65];
 
 #[test]
 fn ends_a_message_at_64_records(rt: HostRuntime) {
     let mut link = Link::new(rt.alloc()).expect(&rt, "memory");
     put_message(&rt, &mut link, &MANY, 0, &mut Nowhere);
-    // A message of 64 records has 16, 20 and 4 + 64 * 20 octets, and one of a record 16 and 4 + 20.
+    // A message of 64 records has 16, 20 and 4 + 64 * 20 octets, and one of a single record 16 and 4 + 20.
     assert!(rt; link.queue_length() == 1320 + 40);
 }
 
 /// A record by 48 bits of the destination.
 const CARRIED: Put = (0, Axis::Destination6, 48, 0x2001_0db8_0007 << 80, 3, 5);
 
-/// Whether a record has arrived, and is that one.
+/// Returns whether a record has arrived, and is that one.
 fn is_carried(arrived: Option<Record>) -> bool {
     match arrived {
         Some(flow) => {
@@ -175,7 +175,7 @@ fn carries_records_across_a_cut(rt: HostRuntime) {
     links_keep_records();
     let mut link = Link::new(rt.alloc()).expect(&rt, "memory");
     put_message(&rt, &mut link, &[CARRIED], 0, &mut Nowhere);
-    // The template has four fields, and the record 16, 1 and 16 octets.
+    // The template has four fields, and the record has 16, 1 and 16 octets.
     assert!(rt; link.queue_length() == 16 + 24 + 4 + 33);
     link.carry(76).expect(&rt, "memory");
     let early = link.next_record().is_some();
@@ -210,7 +210,7 @@ impl Sink for Count {
     }
 }
 
-/// Makes sinks that count, except for link 9, and counts them.
+/// Makes sinks that count, except for link 9, and counts the sinks.
 #[derive(Drop)]
 struct Opening {
     made: usize,
@@ -236,7 +236,7 @@ impl MakeSink<Count> for Opening {
     }
 }
 
-/// How many octets the sink of a link has taken.
+/// Returns the number of octets that the sink of a link has taken.
 fn taken(links: &OpenedSinks<Count, Opening>, link: u64) -> usize {
     match links.sink(link) {
         Some(sink) => sink.octets,

@@ -1,4 +1,4 @@
-//! A run of two packets through one meter and one collector, and what a network is asked for.
+//! A run of two packets through one meter and one collector, and queries of a network.
 use crate::meters::{into, meter};
 use crate::parts::{by_source, collector, exporter, holder, process};
 use fx_base::{Fault, LineReader, Octets};
@@ -22,7 +22,7 @@ const CACHE: HolderName = HolderName::Cache {
     cache: 1,
 };
 
-/// The meter's cache exports to the collector, which tallies.
+/// Returns a network in which the meter's cache exports to the collector, which tallies.
 fn net(rt: &impl Abort, alloc: Global) -> Net {
     let layout = by_source(rt, 32);
     let meter = meter(rt, alloc, Region::whole(), 0, true);
@@ -37,24 +37,24 @@ fn net(rt: &impl Abort, alloc: Global) -> Net {
     )
 }
 
-/// One class, which may be exempt, of these paths.
+/// Returns one class with these paths, which may be exempt.
 fn one_class(rt: &impl Abort, alloc: Global, paths: Vec<Path>, exempt: bool) -> Classes {
     let class = Class::new(Region::whole(), paths, exempt);
     Classes::new(vec![in alloc; class].expect(rt, "memory"))
 }
 
-/// One class, whose packets come into the meter.
+/// Returns one class, whose packets enter the meter.
 fn classes(rt: &impl Abort, alloc: Global) -> Classes {
     let path = Path::new(vec![in alloc; into(rt, alloc, 1)].expect(rt, "memory"));
     one_class(rt, alloc, vec![in alloc; path].expect(rt, "memory"), false)
 }
 
-/// The fields of packets from 10.0.0.1 to 192.0.2.1.
+/// Returns the fields of packets from 10.0.0.1 to 192.0.2.1.
 fn fields() -> Fields {
     Fields::of([0x0a00_0001, 0xc000_0201, 6, 1000, 80, 0, 4, 0, 0])
 }
 
-/// A packet from 10.0.0.1 to 192.0.2.1.
+/// Returns a packet from 10.0.0.1 to 192.0.2.1.
 fn packet(octets: u64, class: u64) -> Packet {
     Packet {
         fields: fields(),
@@ -64,7 +64,7 @@ fn packet(octets: u64, class: u64) -> Packet {
     }
 }
 
-/// A packet crosses into the meter.
+/// Returns a step at which a packet crosses into the meter.
 fn cross(rt: &impl Abort, alloc: Global, packet: u64, chosen: Option<u64>) -> Step {
     Step::Cross {
         packet,
@@ -73,7 +73,7 @@ fn cross(rt: &impl Abort, alloc: Global, packet: u64, chosen: Option<u64>) -> St
     }
 }
 
-/// A record leaves the meter's cache.
+/// Returns a step at which a record leaves the meter's cache.
 fn expire(alloc: Global) -> Step {
     Step::Expire {
         holder: CACHE,
@@ -82,7 +82,7 @@ fn expire(alloc: Global) -> Step {
     }
 }
 
-/// A record comes to the collector.
+/// Returns a step at which a record arrives at the collector.
 fn arrive(alloc: Global) -> Step {
     Step::Arrive {
         link: 1,
@@ -91,7 +91,7 @@ fn arrive(alloc: Global) -> Step {
     }
 }
 
-/// The steps of a run over two packets.
+/// Returns the steps of a run of two packets.
 fn steps(rt: &impl Abort, alloc: Global) -> Vec<Step> {
     vec![in alloc;
         cross(rt, alloc, 1, None),
@@ -102,7 +102,7 @@ fn steps(rt: &impl Abort, alloc: Global) -> Vec<Step> {
     .expect(rt, "memory")
 }
 
-/// The number of a fault, or 0.
+/// Returns the number of a fault, or 0.
 fn number(answer: Result<(), Fault>) -> u16 {
     match answer {
         Ok(()) => 0,
@@ -118,7 +118,8 @@ fn foreseen(state: &State<'_>, step: &Step) -> u16 {
     }
 }
 
-/// Makes each step of a run: whether it wasn't complete before any, none can be made twice, and each refusal was foreseen.
+/// Makes each step of a run. Returns whether it wasn't complete before any, none can be made twice, and each refusal
+/// was predicted.
 fn are_made(state: &mut State<'_>, steps: &[Step]) -> bool {
     let mut made = true;
     for step in steps {
@@ -137,13 +138,13 @@ fn are_made(state: &mut State<'_>, steps: &[Step]) -> bool {
     made
 }
 
-/// Returns how many records are in the first cache and on the first link, and how many of two crossings are to come.
+/// Returns the numbers of records in the first cache and on the first link, and how many of two crossings remain.
 fn counts(state: &State<'_>) -> [u64; 3] {
     let to_come = u64::from(state.is_to_come(1, 1)) + u64::from(state.is_to_come(2, 1));
     [state.records_held(0), state.records_on(0), to_come]
 }
 
-/// Whether a record is at the first position of the first cache, and on the first link.
+/// Returns whether there is a record at the first position of the first cache, and of the first link.
 fn first_records(state: &State<'_>) -> [bool; 2] {
     [
         state.record_held(0, 1).is_some(),
@@ -151,8 +152,8 @@ fn first_records(state: &State<'_>) -> [bool; 2] {
     ]
 }
 
-/// Returns how many links a step sends a record on, which position the first record that is taken in joins, and whether the
-/// record is counted.
+/// Returns the number of links on which a step sends a record, the position of the record that the first accepted
+/// record joins, and whether the record is counted.
 fn effects_of(state: &State<'_>, step: &Step) -> (usize, Option<u64>, Tally) {
     match state.effects(step) {
         Ok(effects) => {
@@ -166,7 +167,7 @@ fn effects_of(state: &State<'_>, step: &Step) -> (usize, Option<u64>, Tally) {
     }
 }
 
-/// Whether a state says what it holds and what each step of a run does.
+/// Returns whether a state reports what it holds and what each step of a run does.
 fn is_queried(net: &Net, classes: &Classes, rt: &impl Abort, alloc: Global) -> bool {
     let packets = vec![in alloc; packet(1, 1); 2].expect(rt, "memory");
     let mut state = State::open(alloc, net, classes, packets).expect(rt, "a run");
@@ -192,7 +193,7 @@ fn is_queried(net: &Net, classes: &Classes, rt: &impl Abort, alloc: Global) -> b
         && effects_of(&state, last) == (0, None, Tally::Counted)
 }
 
-/// Whether the complete run has counted both packets in one total.
+/// Returns whether the complete run has counted both packets in one total.
 fn is_counted(state: &State<'_>) -> bool {
     let [total] = state.totals() else {
         return false;
@@ -205,7 +206,7 @@ fn is_counted(state: &State<'_>) -> bool {
         && total.key.values() == [0x0a00_0001u128].as_slice()
 }
 
-/// Whether a run of two packets can be made in its steps, and counts them.
+/// Returns whether a run of two packets can be made in its steps, and counts them.
 fn is_run(net: &Net, classes: &Classes, rt: &impl Abort, alloc: Global) -> bool {
     let packets = vec![in alloc; packet(18_446_744_073_709_551_614, 1), packet(1, 1)];
     let packets = packets.expect(rt, "memory");
@@ -213,13 +214,13 @@ fn is_run(net: &Net, classes: &Classes, rt: &impl Abort, alloc: Global) -> bool 
     are_made(&mut state, steps(rt, alloc).as_slice()) && is_counted(&state)
 }
 
-/// The same two packets, as a run without steps is written.
+/// The same two packets, as the text of a run without steps.
 const PACKETS: &[u8] = b"once-run 1\n\
 packet 1 1 10.0.0.1 192.0.2.1 6 1000 80 0 18446744073709551614\n\
 packet 1 1 10.0.0.1 192.0.2.1 6 1000 80 0 1\n\
 end\n";
 
-/// Whether the run can be made over packets that were read, and so are of their classes.
+/// Returns whether the run can be made with packets that were read, and therefore are of their classes.
 fn is_run_as_read(net: &Net, classes: &Classes, rt: &impl Abort, alloc: Global) -> bool {
     let mut lines = LineReader::new(alloc, Octets::new(PACKETS)).expect(rt, "memory");
     let run = read_packets(alloc, classes, &mut lines).expect(rt, "packets");
@@ -228,7 +229,7 @@ fn is_run_as_read(net: &Net, classes: &Classes, rt: &impl Abort, alloc: Global) 
     are_made(&mut state, steps(rt, alloc).as_slice()) && is_counted(&state)
 }
 
-/// The number of the fault with which no run is opened, or 0.
+/// Returns the number of the fault with which a run isn't opened, or 0.
 fn unopened(opened: Result<State<'_>, Fault>) -> u16 {
     match opened {
         Ok(_) => 0,
@@ -236,13 +237,13 @@ fn unopened(opened: Result<State<'_>, Fault>) -> u16 {
     }
 }
 
-/// Whether a run of one packet, of a class that isn't there, is refused.
+/// Returns whether a run of one packet is refused because its class doesn't exist.
 fn is_unopened(net: &Net, classes: &Classes, rt: &impl Abort, alloc: Global) -> bool {
     let packets = vec![in alloc; packet(1, 2)].expect(rt, "memory");
     unopened(State::open(alloc, net, classes, packets)) == 856
 }
 
-/// Whether the network has what it was made of.
+/// Returns whether the network has what it was made of.
 fn is_looked_up(net: &Net) -> bool {
     let nowhere = HolderName::Aggregation {
         device: 2,
@@ -257,7 +258,7 @@ fn is_looked_up(net: &Net) -> bool {
         && net.layout_at(0).parts().len() + net.named_by(0).len() == 2
 }
 
-/// Whether the class's one crossing is watched at the one point, which selects into the first cache.
+/// Returns whether the class's one crossing is observed at the one point, which selects into the first cache.
 fn is_watched(net: &Net, classes: &Classes) -> bool {
     let ([point], [class]) = (net.points_of(1), classes.as_slice()) else {
         return false;
@@ -271,7 +272,7 @@ fn is_watched(net: &Net, classes: &Classes) -> bool {
     selection.holder == Some(0) && point.watches(crossing) && net.points_of(2).is_empty()
 }
 
-/// Whether a packet of the class makes its one crossing, and one of no class none.
+/// Returns whether a packet of the class makes its one crossing, and one of no class makes none.
 fn is_followed(classes: &Classes) -> bool {
     let (followed, lost) = (packet(1, 1), packet(1, 2));
     (classes.path_of(&followed).len() == 1)
@@ -280,7 +281,7 @@ fn is_followed(classes: &Classes) -> bool {
         & !classes.contains(&lost)
 }
 
-/// Whether the packets of an exempt class are exempt, and no others.
+/// Returns whether the packets of an exempt class are exempt, and no others.
 fn is_exempt(classes: &Classes, exempt: &Classes) -> bool {
     let (of_class, of_none) = (packet(1, 1), packet(1, 2));
     exempt.exempts(&of_class) & !exempt.exempts(&of_none) & !classes.exempts(&of_class)
@@ -311,7 +312,7 @@ fn looks_up_and_runs_and_refuses_packets_of_no_class(rt: HostRuntime) {
     );
 }
 
-/// Whether a packet of the class is met by the meter's cache alone, each time that it is asked, under its source.
+/// Returns whether a packet of the class is metered only by the meter's cache, each time, under its source.
 fn is_met(net: &Net, classes: &Classes, rt: &impl Abort, alloc: Global) -> bool {
     let packet = packet(1, 1);
     let ([class], [crossing]) = (classes.as_slice(), classes.path_of(&packet)) else {
@@ -336,7 +337,7 @@ fn is_met(net: &Net, classes: &Classes, rt: &impl Abort, alloc: Global) -> bool 
         & (holding.key.values() == [0x0a00_0001u128].as_slice())
 }
 
-/// A process with one aggregation, of the records from 10.0.0.0/8.
+/// Returns a process with one aggregation, of the records from 10.0.0.0/8.
 fn aggregating(rt: &impl Abort, alloc: Global) -> Process {
     let entry = MatchEntry {
         axis: Axis::Source,
@@ -350,7 +351,7 @@ fn aggregating(rt: &impl Abort, alloc: Global) -> Process {
     )
 }
 
-/// How many aggregations of a process take in a record from this source.
+/// Returns how many aggregations of a process accept a record from this source.
 fn takers(net: &Net, rt: &impl Abort, alloc: Global, source: u32) -> usize {
     let process = aggregating(rt, alloc);
     let fields = Fields::of([u128::from(source), 0, 0, 0, 0, 0, 4, 0, 0]);

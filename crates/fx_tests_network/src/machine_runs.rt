@@ -1,4 +1,4 @@
-//! Runs' texts read, and refused at the line.
+//! Texts of runs that are read, or refused at a line.
 use crate::answers::{ends, is_refused};
 use crate::meters::sources;
 use fx_base::{Fault, LineReader, Octets, Room, Sink};
@@ -10,20 +10,20 @@ use fx_tables::{Class, Classes, HolderName, Packet, Path};
 use std::alloc::{AllocError, Global};
 use std::process::Abort;
 
-/// One class of the packets from 10.0.0.0/8, with one path.
+/// Returns one class of the packets from 10.0.0.0/8, with one path.
 fn web(rt: &impl Abort, alloc: Global) -> Classes {
     let region = sources(rt, 0x0a00_0000, 0x0aff_ffff);
     let paths = vec![in alloc; Path::new(Vec::new(alloc))].expect(rt, "memory");
     Classes::new(vec![in alloc; Class::new(region, paths, false)].expect(rt, "memory"))
 }
 
-/// The run that is read from a text.
+/// Reads a run from a text.
 fn read(alloc: Global, classes: &Classes, text: &[u8]) -> Result<Run, Fault> {
     let mut lines = LineReader::new(alloc, Octets::new(text))?;
     read_run(alloc, classes, &mut lines)
 }
 
-/// The same where those are the classes.
+/// Reads a run of those classes from a text.
 fn web_run(rt: &impl Abort, alloc: Global, text: &[u8]) -> Run {
     read(alloc, &web(rt, alloc), text).expect(rt, "a run")
 }
@@ -36,7 +36,7 @@ fn choices(step: &Step) -> &[Option<u64>] {
     }
 }
 
-/// Whether a step takes a record out of a holder at this position, and what is chosen then.
+/// Returns whether a step takes a record out of a holder at this position, with these choices.
 fn is_expiry(step: &Step, name: HolderName, at: u64, chosen: &[Option<u64>]) -> bool {
     match step {
         Step::Expire {
@@ -57,7 +57,7 @@ expire cache 1 1 1\n\
 arrive 1 1\n\
 end\n";
 
-/// Whether these are its packets.
+/// Returns whether these are the packets of the run.
 fn are_the_packets(packets: &[Packet]) -> bool {
     let [first, second] = packets else {
         return false;
@@ -69,7 +69,7 @@ fn are_the_packets(packets: &[Packet]) -> bool {
         && first.path == 1
 }
 
-/// Whether these are its steps: what is chosen in each.
+/// Returns whether these are the steps of the run, judged by the choices of each.
 fn are_the_steps(steps: &[Step]) -> bool {
     let [cross, join, _, arrive] = steps else {
         return false;
@@ -79,19 +79,19 @@ fn are_the_steps(steps: &[Step]) -> bool {
         && choices(arrive).is_empty()
 }
 
-/// Whether a run has these packets and steps.
+/// Returns whether a run has these packets and steps.
 fn is_the_run(run: Run) -> bool {
     let same = are_the_packets(run.packets()) & are_the_steps(run.steps());
     let (packets, steps) = run.into_parts();
     same & (packets.len() == 2) & (steps.len() == 4)
 }
 
-/// A packet of IPv6 from 2001:db8::1 to 2001:db8::2, which is of the class too, since that tells no version.
+/// An IPv6 packet from 2001:db8::1 to 2001:db8::2, which is of the class too, since the class restricts no version.
 const WIDE: &[u8] = b"once-run 2\n\
 packet 1 1 10.0.0.0 0.0.0.0 17 53 1000 184 6 2001:db8:0:0:0:0:0:1 2001:db8:0:0:0:0:0:2 56\n\
 end\n";
 
-/// Whether it is the only packet.
+/// Returns whether it is the only packet.
 fn is_the_wide_packet(packets: &[Packet]) -> bool {
     let [packet] = packets else {
         return false;
@@ -112,7 +112,7 @@ fn is_the_wide_packet(packets: &[Packet]) -> bool {
             ]
 }
 
-/// Whether a run has the wide packet alone.
+/// Returns whether a run has only the wide packet.
 fn is_the_wide_run(run: &Run) -> bool {
     is_the_wide_packet(run.packets()) & run.steps().is_empty()
 }
@@ -127,7 +127,7 @@ fn reads_packets_and_steps(rt: HostRuntime) {
     assert!(rt; is_the_run(web_run(&rt, rt.alloc(), TWO_PACKETS)));
 }
 
-/// Whether a step is a packet's crossing of this number.
+/// Returns whether a step is the crossing with this number of a packet.
 fn is_crossing(step: &Step, of: u64, number: u64) -> bool {
     match step {
         Step::Cross {
@@ -139,7 +139,7 @@ fn is_crossing(step: &Step, of: u64, number: u64) -> bool {
     }
 }
 
-/// Whether a step takes a record off a link at this position, and what is chosen then.
+/// Returns whether a step takes a record off a link at this position, with these choices.
 fn is_arrival(step: &Step, from: u64, at: u64, chosen: &[Option<u64>]) -> bool {
     match step {
         Step::Arrive {
@@ -151,7 +151,7 @@ fn is_arrival(step: &Step, from: u64, at: u64, chosen: &[Option<u64>]) -> bool {
     }
 }
 
-/// Whether the steps are one of each form, with numbers in ascending order.
+/// Returns whether the steps are one of each form, with numbers in ascending order.
 fn are_each_form(steps: &[Step]) -> bool {
     let [cross, from_cache, from_aggregation, arrive] = steps else {
         return false;
@@ -178,7 +178,7 @@ fn reads_each_form_of_step(rt: HostRuntime) {
     assert!(rt; are_each_form(web_run(&rt, rt.alloc(), text).steps()));
 }
 
-/// Whether this is the beginning of the run of two packets: its packets and its first step, at the line 4.
+/// Returns whether this is the beginning of the run of two packets: its packets and its first step, at line 4.
 fn is_the_beginning(beginning: &RunBeginning, line: u64) -> bool {
     let first_is = match beginning.first.as_ref() {
         Some(step) => is_crossing(step, 1, 1) && choices(step) == [None].as_slice(),
@@ -190,7 +190,7 @@ fn is_the_beginning(beginning: &RunBeginning, line: u64) -> bool {
         & (line == 4)
 }
 
-/// How many steps are read behind the first until the run's end, and the line where that stands.
+/// Returns how many steps are read after the first until the run's end, and the line of that end.
 fn steps_behind(
     alloc: Global,
     version: TextVersion,
@@ -216,7 +216,7 @@ fn reads_packets_and_then_each_step(rt: HostRuntime) {
     assert!(rt; is_the_beginning(&beginning, at) & (behind == (3, 8)));
 }
 
-/// What reading a text's packets and steps one by one is refused with, if it is.
+/// Reads a text's packets and steps one by one, and fails if one is refused.
 fn one_by_one(alloc: Global, classes: &Classes, text: &[u8]) -> Result<(), Fault> {
     let mut lines = LineReader::new(alloc, Octets::new(text))?;
     let beginning = read_packets(alloc, classes, &mut lines)?;
@@ -226,7 +226,7 @@ fn one_by_one(alloc: Global, classes: &Classes, text: &[u8]) -> Result<(), Fault
     Ok(())
 }
 
-/// Whether a line that is read is the end of a run, if it is a line.
+/// Returns whether a line that was read is the end of a run, if it is a line.
 fn is_end(line: Result<Option<RunLine>, AllocError>) -> Option<bool> {
     match line {
         Ok(line) => Some(matches!(line?, RunLine::End)),
@@ -243,7 +243,8 @@ fn reads_a_line(rt: HostRuntime) {
     );
 }
 
-/// Puts the first packet and the first step of a run, if there are any, as lines behind one another.
+/// Writes the lines of the first packet and the first step of a run, if there are any. Returns whether there was room
+/// and a packet.
 fn puts_first<S: Sink>(run: &Run, sink: &mut S) -> bool {
     let is_put = match run.packets().first() {
         Some(packet) => ends(put_packet_line(sink, packet), 0),
@@ -255,7 +256,7 @@ fn puts_first<S: Sink>(run: &Run, sink: &mut S) -> bool {
     }
 }
 
-/// Whether the first packet and the first step of a run are written like this.
+/// Returns whether the first packet and the first step of a run are written as this text.
 fn is_written(run: &Run, text: &[u8]) -> bool {
     let mut octets = [0u8; 256];
     let mut room = Room::new(&mut octets);
@@ -277,7 +278,7 @@ fn writes_packets_of_ipv6(rt: HostRuntime) {
     assert!(rt; is_written(&web_run(&rt, rt.alloc(), WIDE), text));
 }
 
-/// Texts, the number that each is refused with, and the line.
+/// Texts, the number with which each is refused, and the line.
 const REFUSED: [(&[u8], u16, u64); 24] = [
     (b"", 855, 1),
     (b"once-run 3\nend\n", 854, 1),

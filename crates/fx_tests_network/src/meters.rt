@@ -1,4 +1,4 @@
-//! A meter at one interface, and the packets that come into it.
+//! A meter at one interface, and the packets that enter it.
 ghost use Rattle.std.specs.Prelude.{◌≡◌, All, [], ◌∷◌, Some};
 
 use fx_base::{Fault, Name};
@@ -8,7 +8,7 @@ use fx_tables::{Crossing, DeviceEntry, Point, Selection};
 use std::alloc::Global;
 use std::process::Abort;
 
-/// The packets with sources from one to another.
+/// Returns the packets with sources in a range.
 pub(crate) fn sources(rt: &impl Abort, low: u128, high: u128) -> Region {
     let low = Fields::new([low, 0, 0, 0, 0, 0, 0, 0, 0]).expect(rt, "low");
     let mut highs = TOPS;
@@ -17,13 +17,13 @@ pub(crate) fn sources(rt: &impl Abort, low: u128, high: u128) -> Region {
     Region::between(&low, &high).expect(rt, "a region")
 }
 
-/// The interface `eth0`.
+/// Returns the interface `eth0`.
 fn eth0(rt: &impl Abort, alloc: Global) -> Name {
     Name::read(alloc, "eth0").expect(rt, "a name")
 }
 
-/// The point at `eth0`, which selects the packets of a region into the cache at this place; also those that go out,
-/// or only those that come in.
+/// Returns the point at `eth0` that selects the packets of a region into the cache at this index, either incoming and
+/// outgoing ones, or only incoming ones.
 fn point(rt: &impl Abort, alloc: Global, region: Region, cache: usize, outwards: bool) -> Point
     ensures { All (λ s. s.holder ≡ Some cache) result.selections }
 {
@@ -36,7 +36,7 @@ fn point(rt: &impl Abort, alloc: Global, region: Region, cache: usize, outwards:
     Point::new(names, true, outwards, selections)
 }
 
-/// A meter of that point and that cache alone.
+/// Returns a meter with only that point and that cache.
 pub(crate) fn meter(
     rt: &impl Abort,
     alloc: Global,
@@ -53,7 +53,7 @@ pub(crate) fn meter(
     DeviceEntry::new(points, caches, Vec::new(alloc))
 }
 
-/// Into the meter that is the device of this number.
+/// Returns the crossing into the meter that is the device with this number.
 pub(crate) fn into(rt: &impl Abort, alloc: Global, device: u64) -> Crossing {
     Crossing {
         device,
@@ -62,7 +62,7 @@ pub(crate) fn into(rt: &impl Abort, alloc: Global, device: u64) -> Crossing {
     }
 }
 
-/// The answer, or the number of the fault; 0 where this isn't bare.
+/// Returns the value, or the number of the fault, which is 0 if the fault has a place.
 pub(crate) fn bare<T>(answer: Result<T, Fault>) -> Result<T, u16> {
     match answer {
         Ok(value) => Ok(value),
@@ -74,7 +74,7 @@ pub(crate) fn bare<T>(answer: Result<T, Fault>) -> Result<T, u16> {
     }
 }
 
-/// What both answer; 0 where they differ.
+/// Returns the answer of both, or fails with 0 if they differ.
 pub(crate) fn agreed<T: PartialEq + Drop>(
     one: Result<T, Fault>,
     other: Result<T, Fault>,

@@ -1,4 +1,4 @@
-//! Streams of messages in whatever pieces they come.
+//! Streams of messages in pieces of any length.
 use crate::answers;
 use fx_base::Fault;
 use fx_elements::Axis;
@@ -33,7 +33,7 @@ pub(crate) const OPTIONS: [u8; 107] = [
     0x01, 0x01, 0x00, 0x10, 0, 0, 0, 0, 0, 0, 0, 0, 0, 0, 0, 1, // a record of the options template
 ];
 
-/// The template is withdrawn and declared anew, after a gap.
+/// The template is withdrawn and declared again, after a gap.
 pub(crate) const WITHDRAWN: [u8; 68] = [
     0x00, 0x0a, 0x00, 0x44, 0, 0, 0, 0, 0, 0, 0, 5, 0, 0, 0, 0, // the header
     0x00, 0x02, 0x00, 0x08, 0x01, 0x00, 0x00, 0x00, // the withdrawal
@@ -42,20 +42,20 @@ pub(crate) const WITHDRAWN: [u8; 68] = [
     0x01, 0x00, 0x00, 0x18, 10, 0, 0, 1, 0, 0, 0, 0, 0, 0, 0, 200, 0, 0, 0, 0, 0, 0, 0, 2,
 ];
 
-/// A data set of a template that isn't there.
+/// A data set of a template that doesn't exist.
 pub(crate) const UNKNOWN: [u8; 24] = [
     0x00, 0x0a, 0x00, 0x18, 0, 0, 0, 0, 0, 0, 0, 6, 0, 0, 0, 0, // the header
     0x01, 0x02, 0x00, 0x08, 0, 0, 0, 0, // the set
 ];
 
-/// Another template under the id of the first one.
+/// Another template with the id of the first one.
 pub(crate) const CHANGED: [u8; 36] = [
     0x00, 0x0a, 0x00, 0x24, 0, 0, 0, 3, 0, 0, 0, 1, 0, 0, 0, 0, // the header
     0x00, 0x02, 0x00, 0x14, 0x01, 0x00, 0x00, 0x03, // the template
     0x00, 0x08, 0x00, 0x04, 0x00, 0x02, 0x00, 0x08, 0x00, 0x01, 0x00, 0x08, // its fields
 ];
 
-/// A template of a prefix and its length, and a record whose length is 33.
+/// A template of a prefix and its length, and a record with a length of 33.
 const LONG_PREFIX: [u8; 65] = [
     0x00, 0x0a, 0x00, 0x41, 0, 0, 0, 0, 0, 0, 0, 0, 0, 0, 0, 0, // the header
     0x00, 0x02, 0x00, 0x18, 0x01, 0x00, 0x00, 0x04, // the template
@@ -63,7 +63,7 @@ const LONG_PREFIX: [u8; 65] = [
     0x01, 0x00, 0x00, 0x19, 10, 0, 0, 0, 33, 0, 0, 0, 0, 0, 0, 0, 100, 0, 0, 0, 0, 0, 0, 0, 1,
 ];
 
-/// Whether there is a record, with this source address and these counts.
+/// Returns whether there is a record with this source address and these counts.
 fn is_flow(found: Option<Record>, source: u128, packets: u64, octets: u64) -> bool {
     match found {
         None => false,
@@ -75,25 +75,25 @@ fn is_flow(found: Option<Record>, source: u128, packets: u64, octets: u64) -> bo
     }
 }
 
-/// Whether one record waits, with this source address and these counts.
+/// Returns whether one record is pending, with this source address and these counts.
 fn waits_alone(session: &mut Session, source: u128, packets: u64, octets: u64) -> bool {
     is_flow(session.next_record(), source, packets, octets) & session.next_record().is_none()
 }
 
-/// What comes of a stream that is fed at once.
+/// Feeds a stream at once.
 fn fed(alloc: Global, stream: &[u8]) -> Result<(), Fault> {
     Session::new(alloc)?.feed(stream)
 }
 
-/// Whether a stream that is fed at once is refused with this number at its first octet.
+/// Returns whether a stream that is fed at once is refused with this number at its first octet.
 pub(crate) fn is_refused(alloc: Global, stream: &[u8], number: u16) -> bool {
     answers::is_refused(fed(alloc, stream), &Fault::at_octet(number, 0))
 }
 
-/// The number of records, their packets and octets, and the gaps.
+/// The number of records, their packets and octets, and the number of gaps.
 type Sums = (u64, u64, u64, u64);
 
-/// The counts of a record, or 0 where there is none.
+/// Returns the counts of a record, or 0 if there is none.
 fn counts_of(found: Option<Record>) -> (u64, u64, u64) {
     match found {
         Some(entry) => (1, entry.counts.packets, entry.counts.octets),
@@ -101,7 +101,7 @@ fn counts_of(found: Option<Record>) -> (u64, u64, u64) {
     }
 }
 
-/// The records, packets and octets that wait, and the gaps.
+/// Returns the pending records, their packets and octets, and the gaps.
 fn sums_of(session: &mut Session) -> Sums {
     let mut sums = (0u64, 0u64, 0u64, session.gaps());
     for _turn in 0..8u8 {
@@ -113,7 +113,7 @@ fn sums_of(session: &mut Session) -> Sums {
     sums
 }
 
-/// What a stream in two pieces comes to.
+/// Returns the sums of a stream that is fed in two pieces.
 fn sums(rt: &impl Abort, alloc: Global, first: &[u8], second: &[u8]) -> Sums {
     let mut session = Session::new(alloc).expect(rt, "memory");
     session.feed(first).expect(rt, "a stream");
@@ -121,7 +121,7 @@ fn sums(rt: &impl Abort, alloc: Global, first: &[u8], second: &[u8]) -> Sums {
     sums_of(&mut session)
 }
 
-/// A session that is fed a stream, one octet at a time.
+/// Returns a session that was fed a stream, one octet at a time.
 fn by_octet(rt: &impl Abort, alloc: Global, stream: &[u8]) -> Session {
     let mut session = Session::new(alloc).expect(rt, "memory");
     for octet in stream {
@@ -130,7 +130,7 @@ fn by_octet(rt: &impl Abort, alloc: Global, stream: &[u8]) -> Session {
     session
 }
 
-/// Whether a stream comes to this, cut at each place.
+/// Returns whether a stream has these sums, divided at each index.
 fn comes_to(rt: &impl Abort, alloc: Global, stream: &[u8], expected: Sums) -> bool {
     let mut all = true;
     for cut in 0..stream.len() {
@@ -140,14 +140,14 @@ fn comes_to(rt: &impl Abort, alloc: Global, stream: &[u8], expected: Sums) -> bo
     all
 }
 
-/// Whether two messages come to this, cut at each place, and one octet at a time.
+/// Returns whether two messages have these sums, divided at each index, and one octet at a time.
 fn come_to(rt: &impl Abort, alloc: Global, first: &[u8], second: &[u8], expected: Sums) -> bool {
     let stream = [first, second].concat(alloc).expect(rt, "memory");
     comes_to(rt, alloc, stream.as_slice(), expected)
         & (sums_of(&mut by_octet(rt, alloc, stream.as_slice())) == expected)
 }
 
-/// Two messages, and what they come to.
+/// Two messages, and their sums.
 const STREAMS: [(&[u8], &[u8], Sums); 3] = [
     (&OPTIONS, &WITHDRAWN, (2, 3, 300, 1)),
     (&FIRST, &SECOND, (2, 3, 600, 0)),
@@ -168,14 +168,15 @@ fn the_laws_of_streams() {
     sets_by_cases();
 }
 
-/// Feeds a message and all but an octet of the next one: whether the first one's record waits, and the rest is left.
+/// Feeds a message and all but one octet of the next one. Returns whether the first one's record is pending, and the
+/// rest is left.
 fn reads_one_and_a_part(rt: &impl Abort, session: &mut Session) -> bool {
     session.feed(&FIRST).expect(rt, "a message");
     session.feed(&SECOND[..39]).expect(rt, "a part");
     waits_alone(session, 0x0a00_0001, 2, 300) & (session.left() == 39) & (session.place() == 60)
 }
 
-/// Feeds the last octet: whether the other record waits, and nothing is left or was missed.
+/// Feeds the last octet. Returns whether the other record is pending, and nothing is left or was missed.
 fn reads_the_rest(rt: &impl Abort, session: &mut Session) -> bool {
     session.feed(&SECOND[39..]).expect(rt, "the rest");
     waits_alone(session, 0x0a00_0001, 1, 300)
@@ -196,7 +197,7 @@ fn reads_records_by_octet(rt: HostRuntime) {
     assert!(rt; waits_alone(&mut session, 0x0a00_0001, 1, 100));
 }
 
-/// The packets of all records.
+/// Returns the packets of all records.
 fn packets_of(records: &[Record]) -> u64 {
     let mut packets = 0u64;
     for record in records {
@@ -205,7 +206,7 @@ fn packets_of(records: &[Record]) -> u64 {
     packets
 }
 
-/// The packets of the records that wait, which stay.
+/// Returns the packets of the pending records, which remain.
 fn packets_waiting(session: &Session) -> u64 {
     let (first, second) = session.records();
     packets_of(first).wrapping_add(packets_of(second))
@@ -219,7 +220,7 @@ fn lends_records_and_lets_them_go(rt: HostRuntime) {
     assert!(rt; (lent == 2) & (packets_waiting(&session) == 0));
 }
 
-/// Whether the record of a message waits behind which a refused one came, and nothing is read from then on.
+/// Returns whether the record of a message before a refused one is pending, and nothing is read after the refusal.
 fn keeps_before_a_fault(session: &mut Session, fault: &Fault) -> bool {
     answers::ends(session.feed(&FIRST), 0)
         & answers::is_refused(session.feed(&CHANGED), fault)

@@ -1,4 +1,4 @@
-//! Streams with addresses and prefixes of IPv6. Their octets are written out by RFC 7011, section 3.
+//! Streams with IPv6 addresses and prefixes. Their octets are written out by RFC 7011, section 3.
 use crate::session;
 use crate::session_hostile::{first_record, is_refused};
 use fx_elements::Axis;
@@ -11,10 +11,10 @@ const HOST_1: u128 = 0x2001_0db8_0000_0000_0000_0000_0000_0001;
 /// 2001:db8::9.
 const HOST_9: u128 = 0x2001_0db8_0000_0000_0000_0000_0000_0009;
 
-/// An axis, how many leading bits are known, and their value.
+/// An axis, the number of its known leading bits, and their value.
 type Known = (Axis, u32, u128);
 
-/// Whether a key has these parts and no others.
+/// Returns whether a key has exactly these parts.
 fn has_parts(key: &Key, known: &[Known]) -> bool {
     let (parts, values) = (key.layout().parts(), key.values());
     if parts.len() != known.len() || values.len() != known.len() {
@@ -29,7 +29,7 @@ fn has_parts(key: &Key, known: &[Known]) -> bool {
     true
 }
 
-/// Whether the record is there, and its key has these parts and no others.
+/// Returns whether the record is there, and its key has exactly these parts.
 fn is_known(found: Option<Record>, known: &[Known]) -> bool {
     match found {
         None => false,
@@ -46,7 +46,7 @@ const ADDRESSES: [u8; 97] = [
     0, 0, 0, 0, 0, 0, 0, 186, 0, 0, 0, 0, 0, 0, 0, 3, // the octets and packets
 ];
 
-/// What is known of that record.
+/// The known parts of that record.
 const HOSTS: [Known; 3] = [
     (Axis::Version, 8, 6),
     (Axis::Source6, 128, HOST_1),
@@ -68,7 +68,7 @@ const PREFIXES: [u8; 102] = [
     0, 0, 0, 0, 0, 0, 0, 100, 0, 0, 0, 0, 0, 0, 0, 1, // the octets and packets
 ];
 
-/// The same with so many bits of the source and of the destination.
+/// Returns the same stream with this many bits of the source and of the destination.
 fn prefixes(source: u8, destination: u8) -> [u8; 102] {
     let mut stream = PREFIXES;
     stream[68] = source;
@@ -76,7 +76,8 @@ fn prefixes(source: u8, destination: u8) -> [u8; 102] {
     stream
 }
 
-/// The length of the source and of the destination, and what is known of the record. A length of 0 leaves the axis out.
+/// The prefix lengths of the source and of the destination, and the known parts of the record. A length of 0 leaves out
+/// the axis.
 const LENGTHS: [(u8, u8, &[Known]); 4] = [
     (
         32,
@@ -117,7 +118,7 @@ fn refuses_prefixes_above_128_bits(rt: HostRuntime) {
     }
 }
 
-/// A template of 170, 9, 45, 30 and the two counters, and a record: each prefix stands beside the length of another
+/// A template of 170, 9, 45, 30 and the two counters, and a record: each prefix is beside the length of another
 /// version's.
 const LENGTHS_OF_OTHERS: [u8; 90] = [
     0, 10, 0, 90, 0, 0, 0, 0, 0, 0, 0, 0, 0, 0, 0, 0, // the header
@@ -141,7 +142,7 @@ const BOTH_VERSIONS: [u8; 125] = [
     0, 0, 0, 0, 0, 0, 0, 100, 0, 0, 0, 0, 0, 0, 0, 1, // the octets and packets
 ];
 
-/// What is known of that record.
+/// The known parts of that record.
 const OF_BOTH: [Known; 2] = [
     (Axis::Source, 32, 0x0a00_0001),
     (Axis::Source6, 128, HOST_9),

@@ -1,4 +1,4 @@
-//! Streams that are malformed, or made to cost much.
+//! Streams that are malformed, or designed to be expensive.
 ghost use Rattle.std.specs.Prelude.{◌<◌};
 
 use crate::session;
@@ -9,7 +9,7 @@ use std::alloc::{AllocError, Global};
 use std::ops::Range;
 use std::process::Abort;
 
-/// Puts a message with this length, sequence number, domain and content behind what is there.
+/// Appends a message with this length, sequence number, domain and content to a stream.
 fn put_message(
     stream: &mut Vec<u8>,
     length: u16,
@@ -25,14 +25,14 @@ fn put_message(
     stream.extend_from_slice(content)
 }
 
-/// A message with this length and content: the first one of domain 0.
+/// Returns a message with this length and content, the first one of domain 0.
 fn message(alloc: Global, length: u16, content: &[u8]) -> Result<Vec<u8>, AllocError> {
     let mut stream = Vec::new(alloc);
     put_message(&mut stream, length, 0, 0, content)?;
     Ok(stream)
 }
 
-/// Whether a message is refused with this number.
+/// Returns whether a message is refused with this number.
 pub(crate) fn is_refused(alloc: Global, length: u16, content: &[u8], number: u16) -> bool {
     match message(alloc, length, content) {
         Ok(stream) => session::is_refused(alloc, stream.as_slice(), number),
@@ -40,10 +40,10 @@ pub(crate) fn is_refused(alloc: Global, length: u16, content: &[u8], number: u16
     }
 }
 
-/// A template with octets in 4 octets.
+/// A template with a 4-octet octet counter.
 const NARROW: &[u8] = &[0, 2, 0, 20, 1, 0, 0, 3, 0, 8, 0, 4, 0, 1, 0, 4, 0, 2, 0, 8];
 
-/// The length and content of messages that are refused, and their numbers.
+/// The length and content of refused messages, and their numbers.
 const REFUSED: [(u16, &[u8], u16); 6] = [
     (15, &[], 612),
     (20, &[1, 0, 0, 3], 613),
@@ -69,14 +69,14 @@ const PREFIX: &[u8] = &[
     1, 0, 0, 25, 10, 9, 8, 7, 16, 0, 0, 0, 0, 0, 0, 0, 100, 0, 0, 0, 0, 0, 0, 0, 1,
 ];
 
-/// The first record of a stream.
+/// Returns the first record of a stream.
 pub(crate) fn first_record(rt: &impl Abort, alloc: Global, stream: &[u8]) -> Option<Record> {
     let mut session = Session::new(alloc).expect(rt, "memory");
     session.feed(stream).expect(rt, "a stream");
     session.next_record()
 }
 
-/// Whether the record is there, and tells 16 bits of the source and no more.
+/// Returns whether the record is there, and has exactly 16 bits of the source.
 fn is_prefix(found: Option<Record>) -> bool {
     match found {
         None => false,
@@ -94,8 +94,8 @@ fn reads_a_prefix(rt: HostRuntime) {
     assert!(rt; is_prefix(first_record(&rt, rt.alloc(), stream.as_slice())));
 }
 
-/// Whether a stream that comes in pieces of this length is read with no octet left and no gap, and so many of its
-/// records skipped.
+/// Returns whether a stream in pieces of this length is read without octets left and without gaps, and this many of its
+/// records are skipped.
 fn skips(rt: &impl Abort, alloc: Global, stream: Vec<u8>, length: usize, skipped: u64) -> bool
     requires { 0 < length }
 {
@@ -106,7 +106,7 @@ fn skips(rt: &impl Abort, alloc: Global, stream: Vec<u8>, length: usize, skipped
     (session.left() == 0) & (session.gaps() == 0) & (session.skipped() == skipped)
 }
 
-/// Withdrawals of a template that isn't there, and of all.
+/// Withdrawals of a template that doesn't exist, and of all.
 const WITHDRAWALS: [u8; 20] = [0, 2, 0, 12, 1, 44, 0, 0, 0, 2, 0, 0, 0, 3, 0, 8, 0, 3, 0, 0];
 
 #[test]
@@ -115,8 +115,8 @@ fn passes_withdrawals_of_nothing(rt: HostRuntime) {
     assert!(rt; skips(&rt, rt.alloc(), stream, 36, 0));
 }
 
-/// A message with the last sequence number that has two records, and the next one. Its number is 2 to the 32 less 1
-/// and 2 more: 1.
+/// Returns a message of two records with the greatest sequence number, and the next one, whose sequence number is 1:
+/// 2^32 - 1 and 2 more.
 fn wrapping(alloc: Global) -> Result<Vec<u8>, AllocError> {
     let content = [
         0, 2, 0, 12, 1, 0, 0, 1, 0, 4, 0, 1, // a template of a protocol
@@ -141,7 +141,7 @@ fn wraps_sequence_numbers(rt: HostRuntime) {
     );
 }
 
-/// A template and a record of it in each of 256 domains.
+/// Appends a template and a record of it in each of 256 domains.
 fn put_domains(stream: &mut Vec<u8>) -> Result<(), AllocError> {
     for domain in 0..=255u32 {
         let content = [0, 2, 0, 12, 1, 0, 0, 1, 0, 4, 0, 1, 1, 0, 0, 5, 6];
@@ -157,7 +157,7 @@ fn keeps_templates_by_domain(rt: HostRuntime) {
     assert!(rt; skips(&rt, rt.alloc(), stream, 33, 256));
 }
 
-/// A set of 5,000 templates with these ids.
+/// Appends a set of 5,000 templates with these ids.
 fn put_templates(content: &mut Vec<u8>, ids: Range<u16>) -> Result<(), AllocError> {
     content.extend_from_slice(&[0, 2, 0x9c, 0x44])?; // of 40,004 octets
     for id in ids {
@@ -167,14 +167,14 @@ fn put_templates(content: &mut Vec<u8>, ids: Range<u16>) -> Result<(), AllocErro
     Ok(())
 }
 
-/// The message of that set.
+/// Appends the message of that set.
 fn put_set(stream: &mut Vec<u8>, alloc: Global, ids: Range<u16>) -> Result<(), AllocError> {
     let mut content = Vec::new(alloc);
     put_templates(&mut content, ids)?;
     put_message(stream, 40_020, 0, 0, content.as_slice())
 }
 
-/// Two such messages, and a record of the last template: its id is 10,255.
+/// Appends two such messages, and a record of the last template, with the id 10,255.
 fn put_ten_thousand(stream: &mut Vec<u8>, alloc: Global) -> Result<(), AllocError> {
     put_set(stream, alloc, 256..5_256)?;
     put_set(stream, alloc, 5_256..10_256)?;

@@ -1,4 +1,4 @@
-//! What a session reports to its observer.
+//! The events that a session reports to its observer.
 use crate::answers;
 use crate::session::{CHANGED, FIRST, OPTIONS, SECOND, UNKNOWN, WITHDRAWN};
 use fx_base::Fault;
@@ -8,10 +8,10 @@ use fx_wire::{Malformed, Message, Set, TemplateKind};
 use std::alloc::Global;
 use std::process::Abort;
 
-/// The most events that are noted.
+/// The maximum number of events that are noted.
 const EVENTS: usize = 32;
 
-/// The events in order: a letter and a number of each.
+/// The events in order: a letter and a number for each.
 #[derive(Drop)]
 struct Events {
     letters: [u8; EVENTS],
@@ -38,7 +38,7 @@ impl Events {
         }
     }
 
-    /// Whether these are the events.
+    /// Returns whether these are the events.
     fn are(&self, letters: &[u8], numbers: &[u64]) -> bool {
         self.letters.starts_with(letters)
             & self.numbers.starts_with(numbers)
@@ -100,7 +100,7 @@ impl SessionWatch for Events {
     fn on_unfinished(&mut self, _place: u64, _octets: &[u8]) {}
 }
 
-/// Whether a session reports these events of a stream in two pieces, which ends so.
+/// Returns whether a session reports these events of a stream in two pieces that ends with this number.
 fn reports(
     rt: &impl Abort,
     alloc: Global,

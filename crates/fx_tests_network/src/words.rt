@@ -1,7 +1,7 @@
 //! The words of a line.
 use fx_elements::{Axis, Words, is_word};
 
-/// The source and the number behind the word `use`, where nothing stands behind them.
+/// Returns the source and the number after the word `use`, if nothing follows them.
 fn read(line: &[u8]) -> Option<(u128, u64)> {
     let (word, words) = Words::new(line).word()?;
     let (source, words) = words.value(Axis::Source)?;

@@ -1,5 +1,5 @@
-//! Runs that show a wrong total: the records of a meter go to a first collector by two destinations, or by one of two,
-//! and from there by two links to a second one, where they are tallied.
+//! Runs that show a wrong total: the records of a meter reach a first collector by two destinations, or by one of two,
+//! and from there a second one by two links, where they are tallied.
 ghost use Rattle.std.specs.Prelude.{◌≡◌, ◌<◌, All, length, [], ◌∷◌, true, Some, IfSome};
 ghost use Rattle.fx_leaf.specs.Tables as by_table;
 ghost use Rattle.fx_tables.specs.Runnable.{IsRunnable};
@@ -15,7 +15,7 @@ use fx_tables::{Class, Classes, Exporter, Net, Packet, Path, Process};
 use std::alloc::Global;
 use std::process::Abort;
 
-/// An exporting process with two destinations.
+/// Returns an exporting process with two destinations.
 fn to_two(
     rt: &impl Abort,
     alloc: Global,
@@ -32,7 +32,7 @@ fn to_two(
     Exporter::new(parallel, vec![in alloc; one, other].expect(rt, "memory"))
 }
 
-/// Collecting processes, of which the first names the second exporting process.
+/// Returns collecting processes of which the first names the second exporting process.
 fn processes(rt: &impl Abort, alloc: Global) -> Vec<Process>
     ensures { result.items ≡ record { exporters = 1 ∷ []; aggregations = [] }
         ∷ record { exporters = []; aggregations = [] } ∷ [] }
@@ -41,7 +41,7 @@ fn processes(rt: &impl Abort, alloc: Global) -> Vec<Process>
     vec![in alloc; first, process(alloc)].expect(rt, "memory")
 }
 
-/// The network where the meter's exporting process is this one.
+/// Returns the network with this exporting process of the meter.
 fn network(rt: &impl Abort, alloc: Global, first: Exporter) -> Net
     ensures tables { result ≡ record {
       devices = result.devices;
@@ -71,14 +71,14 @@ fn network(rt: &impl Abort, alloc: Global, first: Exporter) -> Net
     )
 }
 
-/// One class, which may be exempt, of the packets that come into the meter.
+/// Returns one class of the packets that enter the meter, which may be exempt.
 fn classes(rt: &impl Abort, alloc: Global, exempt: bool) -> Classes {
     let path = Path::new(vec![in alloc; into(rt, alloc, 1)].expect(rt, "memory"));
     let paths = vec![in alloc; path].expect(rt, "memory");
     Classes::new(vec![in alloc; Class::new(Region::whole(), paths, exempt)].expect(rt, "memory"))
 }
 
-/// The steps of a wrong run of a packet from 10.0.0.1, if there are any.
+/// Returns the steps of a wrong run of a packet from 10.0.0.1, if there is one.
 fn asked(rt: &impl Abort, alloc: Global, net: &Net, exempt: bool) -> Option<Vec<Step>>
     requires tables { by_table.AreTables (record {
       net = net.now;
@@ -99,8 +99,8 @@ fn asked(rt: &impl Abort, alloc: Global, net: &Net, exempt: bool) -> Option<Vec<
     wrong_run(alloc, &tables, &classes, &packet).expect(rt, "memory")
 }
 
-/// Whether they are so many steps, where the meter's exporting process sends to all of these destinations or to one of
-/// them; none are 0.
+/// Returns whether a wrong run has this many steps, or there is none for 0, if the meter's exporting process sends to
+/// all of these destinations or to one of them.
 fn has_steps(
     rt: &impl Abort,
     alloc: Global,
@@ -125,11 +125,11 @@ fn has_steps(
 fn tells_the_shortest_wrong_run(rt: HostRuntime) {
     let alloc = rt.alloc();
     assert!(rt;
-        // a crossing, a record that leaves the cache, two that arrive at the first collector, and four at the second
+        // A crossing, a record that leaves the cache, two that arrive at the first collector, and four at the second.
         has_steps(&rt, alloc, true, Some(0), Some(1), false, 8)
-            // by the destination in no link the packet is lost in two steps
+            // By the destination without a link, the packet is lost in two steps.
             & has_steps(&rt, alloc, false, Some(0), None, false, 2)
-            // an exempt packet is lost as is wanted; by the other destination it is counted twice
+            // An exempt packet is lost, as it should be; by the other destination it is counted twice.
             & has_steps(&rt, alloc, false, Some(0), None, true, 5)
             & has_steps(&rt, alloc, false, None, None, true, 0)
     );
