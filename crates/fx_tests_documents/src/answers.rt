@@ -1,7 +1,7 @@
-//! How calls end: done, or refused.
+//! Outcomes of calls: success or a refusal.
 use fx_base::Fault;
 
-/// Whether a call was done, for 0, or refused with this number at no place.
+/// Returns whether a call succeeded, if `number` is 0, or was refused with this number at no place.
 pub(crate) fn ends<T: Drop>(answer: Result<T, Fault>, number: u16) -> bool {
     match answer {
         Ok(_) => number == 0,
@@ -9,7 +9,7 @@ pub(crate) fn ends<T: Drop>(answer: Result<T, Fault>, number: u16) -> bool {
     }
 }
 
-/// Whether an answer is this refusal.
+/// Returns whether an answer is this refusal.
 pub(crate) fn is_refused<T: Drop>(answer: Result<T, Fault>, fault: &Fault) -> bool {
     match answer {
         Ok(_) => false,

@@ -1,4 +1,4 @@
-//! Networks audited over octets.
+//! Networks that are audited from octets.
 use crate::audit_texts::{NETWORK, TRAFFIC, ending};
 use crate::check::{TWO_METERS, traffic_of};
 use crate::plan::plan_of;
@@ -14,7 +14,7 @@ use std::process::Abort;
 /// The certificate of a network that counts each packet at its one selection process.
 const CERTIFICATE: &[u8] = b"once-certificate 1\nclass 1 path 1\nL 1 1 1\nend\n";
 
-/// Whether an audit ends like this, with this written.
+/// Returns whether an audit has this outcome and writes this text.
 fn ends(
     alloc: Global,
     documents: (&str, &str),
@@ -37,7 +37,7 @@ fn ends(
     ending(outcome) == wanted && room.octets() == text
 }
 
-/// Whether these octets are a refutation that is confirmed.
+/// Returns whether these octets are a refutation that is confirmed.
 fn is_confirmed(
     rt: &impl Abort,
     alloc: Global,
@@ -53,7 +53,7 @@ fn is_confirmed(
     ending(outcome) == Ok(Answer::Yes)
 }
 
-/// Whether an audit writes a refutation that is confirmed.
+/// Returns whether an audit writes a refutation that is confirmed.
 fn refutes(rt: &impl Abort, alloc: Global, documents: (&str, &str)) -> bool {
     let mut network = Octets::new(documents.0.as_bytes());
     let mut traffic = Octets::new(documents.1.as_bytes());
@@ -70,7 +70,7 @@ fn refutes(rt: &impl Abort, alloc: Global, documents: (&str, &str)) -> bool {
     (ending(outcome) == Ok(Answer::No)) & is_confirmed(rt, alloc, documents, room.octets())
 }
 
-/// Traffic and limits, how an audit ends, and what it writes.
+/// Traffic and limits, the outcome of an audit, and what it writes.
 const AUDITED: [(&str, u64, Result<Answer, u16>, &[u8]); 5] = [
     (TRAFFIC, 1_000_000, Ok(Answer::Yes), CERTIFICATE),
     (TRAFFIC, 1, Ok(Answer::Yes), CERTIFICATE),
@@ -99,7 +99,7 @@ fn audits_to_a_refutation(rt: HostRuntime) {
     );
 }
 
-/// Keeps how many lines it was told of last.
+/// An observer that keeps the number of lines that was last reported.
 #[derive(Drop)]
 struct LastLines {
     lines: u64,
@@ -111,7 +111,7 @@ impl Watch for LastLines {
     }
 }
 
-/// How many items a certificate has that was found, or 0 where it was a refutation.
+/// Returns the number of items of a certificate that was found, or 0 for a refutation.
 fn items(found: Found) -> usize {
     match found {
         Found::Certificate(items) => items.len(),
@@ -128,7 +128,7 @@ fn finds_a_certificate(rt: HostRuntime) {
     assert!(rt; (items(found) == 4) & (told.lines == 1));
 }
 
-/// A path through a meter of the sources below 128.0.0.0 alone.
+/// A path through a meter that observes only the sources below 128.0.0.0.
 const PATH_THROUGH_ONE: &str =
     r#"{"classes":[{"name":"web","paths":[[{"device":"m1","interface":"eth0","direction":"ingress"}]]}]}"#;
 
@@ -136,8 +136,8 @@ const PATH_THROUGH_ONE: &str =
 const TWO_PATHS: &str =
     r#"{"classes":[{"name":"web","region":{"sourceIPv4Address":"10.0.0.0/8"},"paths":[[{"device":"m1","interface":"eth0","direction":"ingress"}],[{"device":"m1","interface":"eth0","direction":"ingress"}]]}]}"#;
 
-/// Whether a search refutes that packets of the only class and path are counted, which are never counted from this source
-/// on.
+/// Returns whether a search refutes that packets of the only class and path are counted, because those from this source
+/// on never are.
 fn refutes_from(outcome: &Outcome, source: u128) -> bool {
     match outcome {
         Outcome::Refuted(refuted) => {
@@ -160,7 +160,7 @@ fn knows_what_it_refutes(rt: HostRuntime) {
     assert!(rt; refutes_from(&found.expect(&rt, "an outcome"), 2147483648));
 }
 
-/// Whether a search ends where a certificate needs a line more, for a path of the only class.
+/// Returns whether a search ends because a certificate needs another line, for a path of the only class.
 fn needs_a_line(outcome: &Outcome, path: u64) -> bool {
     match outcome {
         Outcome::TooLarge(reached) => {
@@ -178,7 +178,8 @@ fn knows_its_limit(rt: HostRuntime) {
     assert!(rt; needs_a_line(&found.expect(&rt, "an outcome"), 2));
 }
 
-/// How an audit ends where its devices fail at these calls, the network, the traffic and the answer, or at none for 0.
+/// Returns the outcome of an audit whose devices fail at these calls: the network, the traffic and the answer, or none
+/// for 0.
 fn failing(alloc: Global, calls: [u64; 3]) -> Result<Answer, u16> {
     let [network, traffic, answer] = calls;
     let mut network = Fuse::new(Octets::new(NETWORK.as_bytes()), network);
@@ -195,7 +196,7 @@ fn failing(alloc: Global, calls: [u64; 3]) -> Result<Answer, u16> {
     ))
 }
 
-/// The calls at which devices fail, and how an audit ends.
+/// The calls at which devices fail, and the outcome of an audit.
 const FAILING: [([u64; 3], Result<Answer, u16>); 6] = [
     ([0, 0, 0], Ok(Answer::Yes)),
     ([1, 0, 0], Err(901)),

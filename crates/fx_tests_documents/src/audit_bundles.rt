@@ -1,11 +1,11 @@
-//! Bundles: how a command and its texts are told apart, and what has another shape.
+//! Bundles: how they are divided into a command and its texts, and octets of another shape.
 use crate::audit_texts::{CERTIFICATE, NETWORK, RUN, TOTALS, TRAFFIC, ending, seed};
 use fx_audit::{Answer, bundle_bytes};
 use fx_base::{Fuse, Octets, Room};
 use std::alloc::Global;
 use std::process::Abort;
 
-/// Whether a bundle ends like this, with this written.
+/// Returns whether a bundle has this outcome and this text is written.
 fn ends(alloc: Global, bundle: &[u8], wanted: Result<Answer, u16>, text: &[u8]) -> bool {
     let mut source = Octets::new(bundle);
     let mut octets = [0u8; 256];
@@ -14,7 +14,7 @@ fn ends(alloc: Global, bundle: &[u8], wanted: Result<Answer, u16>, text: &[u8]) 
     found == wanted && room.octets() == text
 }
 
-/// The same of the bundle of a command, the network and two more texts.
+/// Returns whether the bundle of a command, the network and two more texts has this outcome and this text is written.
 fn ends_over_network(
     rt: &impl Abort,
     alloc: Global,
@@ -28,7 +28,7 @@ fn ends_over_network(
     ends(alloc, bundle.expect(rt, "memory").as_slice(), wanted, text)
 }
 
-/// Texts of another shape; the last is a bundle, whose traffic holds a line `%%%`.
+/// Texts of another shape; the last is a bundle whose traffic contains a line `%%%`.
 const OTHER_SHAPES: &[(&[u8], u16)] = &[
     (b"", 801),
     (b"replay", 801),
@@ -85,8 +85,8 @@ fn answers_a_bundle_of_an_audit(rt: HostRuntime) {
     assert!(rt; ends(rt.alloc(), bundle.as_slice(), Ok(Answer::Yes), CERTIFICATE));
 }
 
-/// The traffic of bundles, and the number with which they are refused for what stands in them: a line `%%%`, a list,
-/// no line at all in the run.
+/// The traffic of bundles, and the number with which they are refused for their content: a line `%%%`, a list, no line
+/// in the run.
 const REFUSED: [(&str, u16); 3] = [("[]\n%%%\n", 101), ("[]\n", 104), (TRAFFIC, 855)];
 
 #[test]
@@ -97,7 +97,7 @@ fn refuses_texts_of_bundles(rt: HostRuntime) {
     }
 }
 
-/// How a bundle ends where its read and its write of these numbers fail, or none for 0.
+/// Returns the outcome of a bundle if its read and its write with these numbers fail, or none for 0.
 fn failing(alloc: Global, bundle: &[u8], read: u64, write: u64) -> Result<Answer, u16> {
     let mut source = Fuse::new(Octets::new(bundle), read);
     let mut octets = [0u8; 64];
@@ -105,7 +105,7 @@ fn failing(alloc: Global, bundle: &[u8], read: u64, write: u64) -> Result<Answer
     ending(bundle_bytes(alloc, seed(), &mut source, &mut sink))
 }
 
-/// A bundle is read in one call, and a second one finds its end; its answer is written in one.
+/// A bundle is read in one call, and a second one finds its end; its answer is written in one call.
 const FAILING: [(u64, u64, Result<Answer, u16>); 4] = [
     (0, 0, Ok(Answer::Yes)),
     (1, 0, Err(901)),

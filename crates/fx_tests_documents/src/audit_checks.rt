@@ -1,12 +1,12 @@
-//! Certificates checked over documents, and a reader of one that fails.
+//! Certificates that are checked over documents, and a reader of one that fails.
 use crate::audit_texts::{CERTIFICATE, NETWORK, TRAFFIC, ending};
 use fx_audit::{Answer, check_bytes};
 use fx_base::{Fuse, LineReader, Octets, Room};
 use std::alloc::Global;
 use std::process::Abort;
 
-/// Whether checking a certificate in the network ends like this, with this written, where the certificate's reader
-/// fails at a call, or at none for 0.
+/// Returns whether checking a certificate in the network has this outcome and writes this text. The certificate's
+/// reader fails at a call, or at none for 0.
 fn ends(
     rt: &impl Abort,
     alloc: Global,
@@ -28,7 +28,7 @@ fn ends(
 /// A certificate that names another selection process.
 const OTHER: &[u8] = b"once-certificate 1\nclass 1 path 1\nL 1 1 2\nend\n";
 
-/// Certificates, the call that fails, how checking them ends, and what is written.
+/// Certificates, the call that fails, the outcome of checking them, and what is written.
 const CHECKED: [(&[u8], u64, Result<Answer, u16>, &[u8]); 4] = [
     (CERTIFICATE, 0, Ok(Answer::Yes), b"yes\n"),
     (OTHER, 0, Ok(Answer::No), b"no 410 line 3\n"),

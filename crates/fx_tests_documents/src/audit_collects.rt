@@ -1,4 +1,4 @@
-//! Streams collected at the network's report, and devices that fail.
+//! Streams that are collected at the network's report, and devices that fail.
 use crate::answers::is_refused;
 use crate::audit_texts::{NETWORK, ending, seed};
 use fx_audit::{Answer, collect_bytes};
@@ -19,7 +19,8 @@ const SECOND: [u8; 40] = [
     0x01, 0x00, 0x00, 0x18, 10, 0, 0, 1, 0, 0, 0, 0, 0, 0, 0x01, 0x2c, 0, 0, 0, 0, 0, 0, 0, 1,
 ];
 
-/// How collecting a stream ends in this room, where the stream fails at a call, or at none for 0.
+/// Returns the outcome of collecting a stream, with its text in this room. The stream fails at a call, or at none for
+/// 0.
 fn collected(
     alloc: Global,
     network: &[u8],
@@ -32,7 +33,7 @@ fn collected(
     collect_bytes(alloc, seed(), &mut network, &mut stream, room)
 }
 
-/// Whether collecting a stream at the network's report writes this.
+/// Returns whether collecting a stream at the network's report writes this text.
 fn tells(alloc: Global, stream: &[u8], text: &[u8]) -> bool {
     let mut octets = [0u8; 256];
     let mut room = Room::new(&mut octets);
@@ -40,7 +41,7 @@ fn tells(alloc: Global, stream: &[u8], text: &[u8]) -> bool {
     (ending(outcome) == Ok(Answer::Yes)) & (room.octets() == text)
 }
 
-/// What is collected of two messages, and of one that comes a hundred times, which has a gap before each but the first.
+/// What is collected from two messages, and from one that arrives a hundred times and has a gap before each repetition.
 const SHORT: &[u8] = b"keys 1\n10.0.0.1 packets 3 octets 600\nunassigned 0\ngaps 0\nskipped 0\n";
 
 const LONG: &[u8] =
@@ -56,14 +57,14 @@ fn collects_streams(rt: HostRuntime) {
     assert!(rt; tells(rt.alloc(), long.as_slice(), LONG));
 }
 
-/// Whether collecting a stream is refused with this fault, and writes nothing.
+/// Returns whether collecting a stream is refused with this fault, and nothing is written.
 fn refuses(alloc: Global, network: &[u8], stream: &[u8], call: u64, fault: &Fault) -> bool {
     let mut octets = [0u8; 256];
     let mut room = Room::new(&mut octets);
     is_refused(collected(alloc, network, stream, call, &mut room), fault) & room.octets().is_empty()
 }
 
-/// The network is refused before the stream. Last a read fails behind the stream's first piece.
+/// The network is refused before the stream. In the last case a read fails after the stream's first piece.
 #[test]
 fn refuses_what_is_wrong_first(rt: HostRuntime) {
     let (alloc, network) = (rt.alloc(), NETWORK.as_bytes());

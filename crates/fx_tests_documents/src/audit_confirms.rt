@@ -1,4 +1,4 @@
-//! Refutations confirmed over octets.
+//! Refutations that are confirmed from octets.
 use crate::audit_texts::{NETWORK, TRAFFIC, ending};
 use crate::refute::{EXEMPT, WITH_FALLBACK};
 use fx_audit::{Answer, confirm_bytes};
@@ -6,7 +6,7 @@ use fx_base::{Fuse, LineReader, Octets, Room};
 use std::alloc::Global;
 use std::process::Abort;
 
-/// A run that the record leaves at a destination without a link.
+/// A run whose record is lost at a destination without a link.
 const LOST: &[u8] =
     b"once-refutation 1\npacket 1 1 10.0.0.0 0.0.0.0 0 0 0 0 1\ncross 1 1 n\nexpire cache 1 1 1 2\nend\n";
 
@@ -14,8 +14,8 @@ const LOST: &[u8] =
 const COUNTED: &[u8] =
     b"once-refutation 1\npacket 1 1 10.0.0.0 0.0.0.0 0 0 0 0 1\ncross 1 1 n\nexpire cache 1 1 1\narrive 1 1\nend\n";
 
-/// Whether confirming a refutation ends like this, with this written, where the refutation's reader fails at a call,
-/// or at none for 0.
+/// Returns whether confirming a refutation has this outcome and writes this text. The refutation's reader fails at a
+/// call, or at none for 0.
 fn ends(
     rt: &impl Abort,
     alloc: Global,
@@ -35,17 +35,17 @@ fn ends(
     (ending(outcome) == wanted) & (room.octets() == text)
 }
 
-/// What is told of the run that is lost, and of the one that is counted.
+/// The totals for the run whose record is lost, and for the one whose record is counted.
 const LOST_TOTALS: &[u8] =
     b"refuted\nrun\nkeys 0\nunassigned 0\nplain\nkeys 1\n10.0.0.0 packets 1 octets 1\nunassigned 0\n";
 
 const COUNTED_TOTALS: &[u8] =
     b"refuted\nrun\nkeys 1\n10.0.0.0 packets 1 octets 1\nunassigned 0\nplain\nkeys 0\nunassigned 0\n";
 
-/// A refutation, the call that fails, how confirming it ends, and what is written.
+/// A refutation, the call that fails, the outcome of confirming it, and what is written.
 type Confirmed = (&'static [u8], u64, Result<Answer, u16>, &'static [u8]);
 
-/// Whether confirming these refutations over documents ends as told.
+/// Returns whether confirming these refutations over documents has the expected outcomes.
 fn end_all(
     rt: &impl Abort,
     alloc: Global,
@@ -59,17 +59,17 @@ fn end_all(
     all
 }
 
-/// Where the record may be lost.
+/// For a network in which the record may be lost.
 const OF_FALLBACK: &[Confirmed] = &[
     (LOST, 0, Ok(Answer::Yes), LOST_TOTALS),
     (LOST, 1, Err(901), b""),
     (LOST, 2, Err(901), b""),
 ];
 
-/// Where the class is exempt.
+/// For an exempt class.
 const OF_EXEMPT: &[Confirmed] = &[(COUNTED, 0, Ok(Answer::Yes), COUNTED_TOTALS)];
 
-/// Where each packet is counted.
+/// For a network that counts each packet.
 const OF_COUNTED: &[Confirmed] = &[
     (COUNTED, 0, Ok(Answer::No), b"no 505\n"),
     (LOST, 0, Ok(Answer::No), b"no 503 line 4\n"),

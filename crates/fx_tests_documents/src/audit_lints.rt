@@ -4,7 +4,8 @@ use fx_audit::{Answer, lint_both_bytes, lint_bytes};
 use fx_base::{Fuse, Octets, Room};
 use std::alloc::Global;
 
-/// Whether linting a document ends like this, with this written, where reading it fails at a call, or at none for 0.
+/// Returns whether linting a document has this outcome and writes this text. Reading it fails at a call, or at none for
+/// 0.
 fn ends(
     alloc: Global,
     network: &[u8],
@@ -24,7 +25,8 @@ fn lints_a_network(rt: HostRuntime) {
     assert!(rt; ends(rt.alloc(), NETWORK.as_bytes(), 0, Ok(Answer::Yes), b"ok\n"));
 }
 
-/// What is no network, the read that fails, which is the last's, and the number of the fault.
+/// Documents that are no networks, the read that fails, which is used only for the last one, and the number of the
+/// fault.
 const REFUSED: [(&str, u64, u16); 3] = [("{", 0, 101), ("[]", 0, 104), (NETWORK, 1, 901)];
 
 #[test]
@@ -42,8 +44,7 @@ fn fails_without_room(rt: HostRuntime) {
     assert!(rt; ending(lint_bytes(rt.alloc(), &mut network, &mut room)) == Err(902));
 }
 
-/// Whether linting these two documents ends like this, with this written, where reading the traffic fails at a call, or
-/// at none for 0.
+/// Returns whether linting these two documents has this outcome. Reading the traffic fails at a call, or at none for 0.
 fn ends_both(
     alloc: Global,
     network: &[u8],
@@ -60,7 +61,7 @@ fn ends_both(
     ending(outcome) == wanted && room.octets() == text
 }
 
-/// The traffic isn't read where the network is refused: last its first read would fail.
+/// The traffic isn't read if the network is refused; in the last case its first read would fail.
 #[test]
 fn lints_traffic_too(rt: HostRuntime) {
     let (alloc, network, traffic) = (rt.alloc(), NETWORK.as_bytes(), TRAFFIC.as_bytes());

@@ -1,11 +1,12 @@
-//! Runs replayed over documents, and devices that fail.
+//! Runs that are replayed over documents, and devices that fail.
 use crate::audit_texts::{NETWORK, RUN, TOTALS, TRAFFIC, ending, seed};
 use fx_audit::{Answer, replay_bytes};
 use fx_base::{Fuse, LineReader, Octets, Room};
 use std::alloc::Global;
 use std::process::Abort;
 
-/// How replaying three texts ends in this room, where the network's reader fails at a call, or at none for 0.
+/// Returns the outcome of replaying three texts, with the answer in this room. The network's reader fails at a call, or
+/// at none for 0.
 fn replayed(
     rt: &impl Abort,
     alloc: Global,
@@ -20,7 +21,7 @@ fn replayed(
     ending(replay_bytes(alloc, seed(), &mut network, &mut traffic, &mut lines, room))
 }
 
-/// Whether replaying three texts ends like this, with this written.
+/// Returns whether replaying three texts has this outcome and writes this text.
 fn ends(
     rt: &impl Abort,
     alloc: Global,
@@ -33,7 +34,7 @@ fn ends(
     (replayed(rt, alloc, texts, 0, &mut room) == wanted) & (room.octets() == text)
 }
 
-/// A run whose record stays in the cache.
+/// A run whose record remains in the cache.
 const OPEN: &[u8] = b"once-run 1\npacket 1 1 10.0.0.1 192.0.2.1 6 1000 80 0 1\ncross 1 1 n\nend\n";
 
 #[test]
@@ -46,7 +47,7 @@ fn replays_runs(rt: HostRuntime) {
     );
 }
 
-/// A network, traffic and a run, of which one is wrong at least, and the number of the first fault.
+/// A network, traffic and a run, at least one of which is wrong, and the number of the first fault.
 const REFUSED: [(&str, &str, &[u8], u16); 9] = [
     ("{", "{", b"", 101),
     ("{}", "{", b"", 103),

@@ -6,7 +6,7 @@ use fx_link::{Links, Nowhere, Sinks};
 use std::alloc::Global;
 use std::process::Abort;
 
-/// A capture of three packets of raw IP from 10.0.0.1, of 100, 200 and 300 octets, in the seconds 1, 2 and 3.
+/// A capture of three packets of raw IP from 10.0.0.1, of 100, 200 and 300 octets, at the seconds 1, 2 and 3.
 pub(crate) const CAPTURE: [u8; 132] = [
     0xa1, 0xb2, 0xc3, 0xd4, 0, 2, 0, 4, 0, 0, 0, 0, 0, 0, 0, 0, 0, 4, 0, 0, 0, 0, 0, 0x65, // the file header
     0, 0, 0, 1, 0, 0, 0, 0, 0, 0, 0, 0x14, 0, 0, 0, 0x64, // the first record
@@ -17,7 +17,7 @@ pub(crate) const CAPTURE: [u8; 132] = [
     0x45, 0, 1, 0x2c, 0, 0, 0, 0, 0x40, 1, 0, 0, 10, 0, 0, 1, 192, 0, 2, 1, // its packet
 ];
 
-/// What is put on the link: a message with a template and a record of 2 packets and 300 octets, which left the cache
+/// What is sent on the link: a message with a template and a record of 2 packets and 300 octets, which left the cache
 /// after the second packet, and one with a record of 1 packet and 300 octets, which left it in the closing phase.
 const ON_THE_LINK: [u8; 100] = [
     0x00, 0x0a, 0x00, 0x3c, 0, 0, 0, 2, 0, 0, 0, 0, 0, 0, 0, 0, // the first header
@@ -31,11 +31,11 @@ const ON_THE_LINK: [u8; 100] = [
 /// A schedule under which the first two packets are exported before the third is read.
 pub(crate) const SCHEDULE: &[u8] = b"next\nnext\nexpire 1 1\nnext\n";
 
-/// What the collector has counted then.
+/// What the collector has counted under this schedule.
 const TOTALS: &[u8] =
     b"keys 1\n10.0.0.1 packets 3 octets 600\nunassigned 0\nskipped other 0 malformed 0\n";
 
-/// How a run of the network ends over this traffic, with this capture, schedule, links and sink.
+/// Returns the outcome of running the network over this traffic, with this capture, schedule, links and sink.
 fn ran<C: Source, Q: Source, L: Links, S: Sink>(
     rt: &impl Abort,
     alloc: Global,
@@ -84,7 +84,8 @@ fn runs_over_a_capture(rt: HostRuntime) {
     assert!(rt; is_put & (ended == Ok(Answer::Yes)) & (room.octets() == TOTALS));
 }
 
-/// Whether a run over these octets is refused with this number, and writes nothing, where nothing is kept of its links.
+/// Returns whether a run over these octets is refused with this number and writes nothing. What it sends on links is
+/// dropped.
 fn refuses(
     rt: &impl Abort,
     alloc: Global,
@@ -107,7 +108,8 @@ fn refuses(
     (ended == Err(number)) & room.octets().is_empty()
 }
 
-/// The documents go before the capture's header, which goes before the schedule; a line before a later record.
+/// Faults of the documents precede those of the capture's header, which precede those of the schedule; those of a line
+/// precede those of a later record.
 #[test]
 fn refuses_what_is_wrong_first(rt: HostRuntime) {
     let (alloc, traffic) = (rt.alloc(), TRAFFIC.as_bytes());
@@ -120,8 +122,8 @@ fn refuses_what_is_wrong_first(rt: HostRuntime) {
     );
 }
 
-/// How the run ends where its devices fail at these calls, the capture, the schedule, the link and the answer, or at
-/// none for 0.
+/// Returns the outcome of the run if its devices fail at these calls: the capture, the schedule, the link and the
+/// answer, or none for 0.
 fn failing(rt: &impl Abort, alloc: Global, calls: [u64; 4]) -> Result<Answer, u16> {
     let [capture, schedule, link, answer] = calls;
     let mut store = [0u8; 128];
@@ -141,7 +143,7 @@ fn failing(rt: &impl Abort, alloc: Global, calls: [u64; 4]) -> Result<Answer, u1
     )
 }
 
-/// The calls at which devices fail, and how the run ends.
+/// The calls at which devices fail, and the outcome of the run.
 const FAILING: [([u64; 4], Result<Answer, u16>); 6] = [
     ([0, 0, 0, 0], Ok(Answer::Yes)),
     ([1, 0, 0, 0], Err(901)),

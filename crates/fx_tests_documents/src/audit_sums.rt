@@ -1,11 +1,11 @@
-//! Texts of totals summed at the network's report.
+//! Texts of totals that are summed at the network's report.
 use crate::audit_texts::{NETWORK, TOTALS, ending, seed};
 use fx_audit::{Answer, sum_bytes};
 use fx_base::{LineReader, Octets, Room};
 use std::alloc::Global;
 use std::process::Abort;
 
-/// Whether summing these texts ends like this, with this written.
+/// Returns whether summing these texts has this outcome and writes this text.
 fn ends(
     rt: &impl Abort,
     alloc: Global,
@@ -25,7 +25,7 @@ fn ends(
 const OTHER: &[u8] =
     b"keys 2\n10.0.0.1 packets 1 octets 3\n10.0.0.9 packets 4 octets 400\nunassigned 2\ngaps 1\nskipped 0\n";
 
-/// What both come to: counts are added modulo 2 to the 64.
+/// The sum of both: counts are added modulo 2^64.
 const SUM: &[u8] =
     b"keys 2\n10.0.0.1 packets 3 octets 2\n10.0.0.9 packets 4 octets 400\nunassigned 2\ncomplete yes\ngaps 1\nskipped 0\n";
 
@@ -35,7 +35,7 @@ fn sums_what_was_collected_apart(rt: HostRuntime) {
     assert!(rt; ends(&rt, rt.alloc(), both.as_slice(), Ok(Answer::Yes), SUM));
 }
 
-/// What isn't of the report, or no text of totals, is refused, and nothing is written.
+/// Totals of another report and octets that are no totals are refused, and nothing is written.
 #[test]
 fn refuses_other_totals(rt: HostRuntime) {
     let prefixes = b"keys 1\n10.0.0.0/8 packets 1 octets 3\nunassigned 0\n";

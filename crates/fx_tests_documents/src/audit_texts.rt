@@ -1,4 +1,4 @@
-//! Documents of a meter at one interface, which exports to the collector that reports; and how commands end.
+//! Documents of a meter at one interface, which exports to the collector of the report; and the outcomes of commands.
 use fx_audit::Answer;
 use fx_base::Fault;
 use fx_layout::Seed;
@@ -16,12 +16,12 @@ pub(crate) const NETWORK: &str = r#"{"devices":[{"name":"m1","config":{"ietf-ipf
 "report":{"device":"c1","collectingProcess":"cp","key":[{"ieName":"sourceIPv4Address"}]}}
 "#;
 
-/// The traffic: one class, whose packets come into the meter.
+/// The traffic: one class, whose packets enter the meter.
 pub(crate) const TRAFFIC: &str =
     r#"{"classes":[{"name":"web","region":{"sourceIPv4Address":"10.0.0.0/8"},"paths":[[{"device":"m1","interface":"eth0","direction":"ingress"}]]}]}
 "#;
 
-/// A run of two packets: they are counted in one flow record, which arrives.
+/// A run of two packets, which are counted in one flow record, which arrives.
 pub(crate) const RUN: &[u8] = b"once-run 1
 packet 1 1 10.0.0.1 192.0.2.1 6 1000 80 0 18446744073709551614
 packet 1 1 10.0.0.1 192.0.2.1 6 1000 80 0 1
@@ -39,12 +39,12 @@ pub(crate) const TOTALS: &[u8] =
 /// A certificate that the packets of the class are counted exactly once.
 pub(crate) const CERTIFICATE: &[u8] = b"once-certificate 1\nclass 1 path 1\nL 1 1 1\nend\n";
 
-/// The seed by which stores and totals hash keys here.
+/// Returns the seed with which stores and totals hash keys here.
 pub(crate) fn seed() -> Seed {
     Seed::new(1, 2)
 }
 
-/// How a command ended: its answer, or the number of its fault.
+/// Returns the outcome of a command: its answer, or the number of its fault.
 pub(crate) fn ending(outcome: Result<Answer, Fault>) -> Result<Answer, u16> {
     match outcome {
         Ok(answer) => Ok(answer),

@@ -14,7 +14,7 @@ use serde_json::Value;
 use std::alloc::Global;
 use std::process::Abort;
 
-/// A meter of the sources below 128.0.0.0, a collector, and a meter of the sources from there on.
+/// A meter of the sources below 128.0.0.0, a collector, and a meter of the remaining sources.
 pub(crate) const TWO_METERS: &str = r#"{"devices":[{"name":"m1","config":{"ietf-ipfix-psamp:ipfix":{
 "observationPoint":[{"name":"op","observationDomainId":0,"ifName":["eth0"],"selectionProcess":["sp"]}],
 "selectionProcess":[{"name":"sp","selector":[{"name":"a","filterMatch":{"ieName":"sourceIPv4Prefix","value":"0.0.0.0/1"}}],"cache":"ca"}],
@@ -34,19 +34,19 @@ pub(crate) const TWO_METERS: &str = r#"{"devices":[{"name":"m1","config":{"ietf-
 {"device":"m2","exportingProcess":"ex","destination":"d","toDevice":"c1","toProcess":"cp"}],
 "report":{"device":"c1","collectingProcess":"cp","key":[{"ieName":"sourceIPv4Address"}]}}"#;
 
-/// What comes of checking a certificate.
+/// Checks a certificate.
 fn checked(alloc: Global, plan: &Plan, traffic: &Traffic, certificate: &str) -> Result<(), Fault> {
     let mut lines = LineReader::new(alloc, Octets::new(certificate.as_bytes()))?;
     check(alloc, plan, traffic, &mut lines)
 }
 
-/// The traffic that a declaration means.
+/// Returns the traffic that a declaration describes.
 pub(crate) fn traffic_of(rt: &impl Abort, alloc: Global, text: &str, plan: &Plan) -> Traffic {
     let value = Value::from_str(alloc, text).expect(rt, "a document");
     read_traffic(alloc, &value, plan).expect(rt, "traffic")
 }
 
-/// Checks certificates over the documents of a network and its traffic: each is to be told of like what stands beside
+/// Checks certificates over the documents of a network and its traffic, and asserts that each has the outcome beside
 /// it.
 fn check_all(
     rt: &impl Abort,
@@ -63,7 +63,7 @@ fn check_all(
     }
 }
 
-/// Over one meter of all packets, and one path through it.
+/// For one meter of all packets, and one path through it.
 const CERTIFICATES: &[(&str, &str)] = &[
     ("once-certificate 1\nclass 1 path 1\nL 1 1 1\nend\n", "ok"),
     (
@@ -92,7 +92,7 @@ const CERTIFICATES: &[(&str, &str)] = &[
     ("once-certificate 1\nclass 1 path 2\n", "403 line 2"),
 ];
 
-/// A second path, which no meter sees.
+/// A second path, which no meter observes.
 const PATH_UNSEEN: &str =
     r#"{"classes":[{"name":"web","region":{"sourceIPv4Address":"10.0.0.0/8"},"paths":[[{"device":"m1","interface":"eth0","direction":"ingress"}],[]]}]}"#;
 
@@ -107,7 +107,7 @@ const OF_PATH_UNSEEN: &[(&str, &str)] = &[
     ),
 ];
 
-/// A path that comes through the meter twice.
+/// A path that crosses the meter twice.
 const PATH_TWICE: &str =
     r#"{"classes":[{"name":"web","region":{"sourceIPv4Address":"10.0.0.0/8"},"paths":[[{"device":"m1","interface":"eth0","direction":"ingress"},{"device":"m1","interface":"eth0","direction":"ingress"}]]}]}"#;
 
@@ -116,7 +116,7 @@ const OF_PATH_TWICE: &[(&str, &str)] = &[(
     "408 line 3",
 )];
 
-/// A path through two meters, and certificates that split its packets: where the filters cut, and below it.
+/// A path through two meters, and certificates that split its packets: where the filters cut, and below that.
 const PATH_THROUGH_TWO: &str =
     r#"{"classes":[{"name":"web","paths":[[{"device":"m1","interface":"eth0","direction":"ingress"},{"device":"m2","interface":"eth0","direction":"ingress"}]]}]}"#;
 
@@ -131,7 +131,7 @@ const OF_PATH_THROUGH_TWO: &[(&str, &str)] = &[
     ),
 ];
 
-/// Beside a class that a meter counts, an exempt one whose path no meter sees.
+/// An exempt class whose path no meter observes, beside a class that a meter counts.
 const EXEMPT_UNSEEN: &str =
     r#"{"classes":[{"name":"web","region":{"sourceIPv4Address":"10.0.0.0/8"},"paths":[[{"device":"m1","interface":"eth0","direction":"ingress"}]]},{"name":"management","paths":[[]],"exempt":true}]}"#;
 
@@ -177,7 +177,8 @@ fn checks_certificates(rt: HostRuntime) {
     }
 }
 
-/// Whether the tree is due of a region at depth 1 of the only path, whose sources begin with this one.
+/// Returns whether the expected item is the tree of a region at depth 1 of the only path, whose sources begin with this
+/// one.
 fn is_part_due(due: &Due<'_>, source: u128) -> bool {
     match due {
         Due::Tree {
@@ -214,7 +215,7 @@ fn stands_before_the_refused_line(rt: HostRuntime) {
     );
 }
 
-/// Certificates of two classes, the second exempt, and the class of the line that is due where they end.
+/// Certificates of two classes, the second exempt, and the class of the line that is expected where they end.
 const DUE_CLASSES: [(&str, u64); 2] = [
     (
         "once-certificate 2

@@ -1,4 +1,4 @@
-//! Devices' configurations read.
+//! Configurations of devices that are read.
 use fx_base::Name;
 use fx_config::{Device, read_device};
 use fx_elements::Axis;
@@ -17,13 +17,13 @@ const METER: &str = r#"{"ietf-ipfix-psamp:ipfix":{
 
 const COLLECTOR: &str = r#"{"ietf-ipfix-psamp:ipfix":{"collectingProcess":[{"name":"cp"}]}}"#;
 
-/// The device that a document means.
+/// Returns the device that a document describes.
 fn device_of(rt: &impl Abort, alloc: Global, text: &str) -> Device {
     let value = Value::from_str(alloc, text).expect(rt, "a document");
     read_device(alloc, &value).expect(rt, "a device")
 }
 
-/// Whether the metering device observes at its interface, for its selection process.
+/// Returns whether the metering device observes at its interface, for its selection process.
 fn observes(device: &Device) -> bool {
     let [point] = device.observation_points.as_slice() else {
         return false;
@@ -40,7 +40,7 @@ fn observes(device: &Device) -> bool {
         && fx_walk::place_of(device.selection_processes.as_slice(), selecting) == Some(0)
 }
 
-/// Whether it selects by one selector, into its cache.
+/// Returns whether it selects with one selector, into its cache.
 fn selects(device: &Device) -> bool {
     let [process] = device.selection_processes.as_slice() else {
         return false;
@@ -51,7 +51,7 @@ fn selects(device: &Device) -> bool {
     process.selectors.as_slice().len() == 1 && cache.as_str() == "ca"
 }
 
-/// Whether it counts by sources, sends to one destination and collects nothing.
+/// Returns whether it counts by sources, sends to one destination and collects nothing.
 fn counts_and_exports(device: &Device) -> bool {
     let ([cache], [exporting]) = (
         device.caches.as_slice(),
@@ -74,7 +74,7 @@ fn reads_a_metering_device(rt: HostRuntime) {
     assert!(rt; observes(&device) & selects(&device) & counts_and_exports(&device));
 }
 
-/// Whether a device collects by the process `cp`, and observes nothing.
+/// Returns whether a device collects with the process `cp`, and observes nothing.
 fn collects(device: &Device) -> bool {
     let [process] = device.collecting_processes.as_slice() else {
         return false;
@@ -87,17 +87,17 @@ fn reads_a_collector(rt: HostRuntime) {
     assert!(rt; collects(&device_of(&rt, rt.alloc(), COLLECTOR)));
 }
 
-/// The name that a text is.
+/// Returns the name with this text.
 fn name(rt: &impl Abort, alloc: Global, text: &str) -> Name {
     Name::read(alloc, text).expect(rt, "a name")
 }
 
-/// Whether a name is new to the names kept, which keep it from then on.
+/// Adds a name to the kept names, and returns whether it is new.
 fn adds(rt: &impl Abort, alloc: Global, names: &mut fx_walk::Names, text: &str) -> bool {
     names.add(&name(rt, alloc, text)).expect(rt, "memory")
 }
 
-/// Whether the names kept hold this one at this place, or nowhere for `None`.
+/// Returns whether the kept names have this one at this index, or don't have it for `None`.
 fn keeps(
     rt: &impl Abort,
     alloc: Global,

@@ -1,4 +1,4 @@
-//! What is refused in caches and their fields, and where.
+//! What is refused in caches and their fields, and the places.
 use crate::config_refusals::LISTS;
 use crate::documents::{Frame, Kind, look_at_rows};
 

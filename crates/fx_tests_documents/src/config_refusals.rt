@@ -1,4 +1,4 @@
-//! What is refused in a device's configuration, and where.
+//! What is refused in a device's configuration, and the places.
 use crate::documents::{Frame, Kind, look_at_rows};
 
 /// A whole document.
@@ -161,7 +161,7 @@ const PROCESSES: &[(&str, &str)] = &[
     ),
 ];
 
-/// A selector, from behind its name on.
+/// A selector after its name.
 const METHOD: &Frame<'static> = &Frame {
     kind: Kind::Device,
     before: r#"{"ietf-ipfix-psamp:ipfix":{"selectionProcess":[{"name":"s","selector":[{"name":"a""#,
@@ -223,7 +223,7 @@ const FILTERS: &[(&str, &str)] = &[
     (r#""ieId":0,"value":7"#, "105 /ieId"),
 ];
 
-/// An aggregation, from behind its name on.
+/// An aggregation after its name.
 const AGGREGATION: &Frame<'static> = &Frame {
     kind: Kind::Device,
     before: r#"{"ietf-ipfix-psamp:ipfix":{"collectingProcess":[{"name":"c","once-audit:aggregation":[{"name":"g""#,

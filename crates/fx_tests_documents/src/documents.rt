@@ -1,4 +1,4 @@
-//! What reading a document comes to, and tables of documents that are refused.
+//! Results of reading documents, and tables of documents that are refused.
 use crate::plan::plan_of;
 use fx_base::Fault;
 use fx_config::read_device;
@@ -8,7 +8,7 @@ use serde_json::Value;
 use std::alloc::Global;
 use std::process::Abort;
 
-/// What a document is to describe.
+/// What a document should describe.
 #[derive(Clone, Copy)]
 pub(crate) enum Kind {
     Device,
@@ -20,25 +20,25 @@ pub(crate) enum Kind {
 #[derive(Clone, Copy)]
 pub(crate) struct Frame<'a> {
     pub(crate) kind: Kind,
-    /// What stands before and behind each text of the table.
+    /// The text before and after each text of the table.
     pub(crate) before: &'a str,
     pub(crate) behind: &'a str,
-    /// The pointer to that place: those of the table begin behind it.
+    /// The pointer to that place, which precedes those of the table.
     pub(crate) pointer: &'a str,
 }
 
-/// The network of traffic: the devices `c1`, which reports, and `m1`.
+/// The network of the traffic: the devices `c1`, which reports, and `m1`.
 const NETWORK: &str = r#"{"devices":[
 {"name":"c1","config":{"ietf-ipfix-psamp:ipfix":{"collectingProcess":[{"name":"cp"}]}}},
 {"name":"m1","config":{"ietf-ipfix-psamp:ipfix":{}}}],
 "links":[],"report":{"device":"c1","collectingProcess":"cp","key":[]}}"#;
 
-/// The document that a text is.
+/// Parses a text as a document.
 fn value_of(rt: &impl Abort, alloc: Global, text: &str) -> Value {
     Value::from_str(alloc, text).expect(rt, "a document")
 }
 
-/// The traffic that a text declares in that network.
+/// Reads the traffic that a text declares in that network.
 pub(crate) fn traffic_of(rt: &impl Abort, alloc: Global, text: &str) -> Result<Traffic, Fault> {
     read_traffic(
         alloc,
@@ -47,7 +47,7 @@ pub(crate) fn traffic_of(rt: &impl Abort, alloc: Global, text: &str) -> Result<T
     )
 }
 
-/// Whether something was done or read; what it is isn't told.
+/// Returns whether a call succeeded, without its value.
 fn done<T: Drop>(answer: Result<T, Fault>) -> Result<(), Fault> {
     match answer {
         Ok(_) => Ok(()),
@@ -55,7 +55,7 @@ fn done<T: Drop>(answer: Result<T, Fault>) -> Result<(), Fault> {
     }
 }
 
-/// What reading a document comes to.
+/// Reads a document, and returns whether it was accepted.
 fn read(rt: &impl Abort, alloc: Global, kind: Kind, text: &str) -> Result<(), Fault> {
     match kind {
         Kind::Device => done(read_device(alloc, &value_of(rt, alloc, text))),
@@ -64,13 +64,13 @@ fn read(rt: &impl Abort, alloc: Global, kind: Kind, text: &str) -> Result<(), Fa
     }
 }
 
-/// A fault's number, and its place behind a space.
+/// Returns a fault's number, and its place after a space.
 pub(crate) fn fault_told(rt: &impl Abort, alloc: Global, fault: Fault) -> String {
     let Fault { number, place } = fault;
     format!(in alloc; "{number} {place}").expect(rt, "memory")
 }
 
-/// What an answer comes to: `ok`, or the fault's number and place.
+/// Returns the text of an answer: `ok`, or the fault's number and place.
 fn told(rt: &impl Abort, alloc: Global, answer: Result<(), Fault>) -> String {
     match answer {
         Ok(()) => String::from_str(alloc, "ok").expect(rt, "memory"),
@@ -78,7 +78,7 @@ fn told(rt: &impl Abort, alloc: Global, answer: Result<(), Fault>) -> String {
     }
 }
 
-/// Whether this is what an answer comes to.
+/// Returns whether this is the text of an answer.
 pub(crate) fn is_told(
     rt: &impl Abort,
     alloc: Global,
@@ -88,7 +88,7 @@ pub(crate) fn is_told(
     told(rt, alloc, answer).as_str() == wanted
 }
 
-/// Whether this is what an answer comes to, where pointers begin behind the frame's.
+/// Returns whether this is the text of an answer, if pointers begin after the frame's.
 fn is_told_in(found: &str, pointer: &str, wanted: &str) -> bool {
     match found.split_once(pointer) {
         Some((number, place)) => wanted.strip_prefix(number) == Some(place),
@@ -96,7 +96,7 @@ fn is_told_in(found: &str, pointer: &str, wanted: &str) -> bool {
     }
 }
 
-/// Whether the text in its frame comes to what is wanted.
+/// Returns whether reading the text in its frame has the wanted result.
 fn comes_to(rt: &impl Abort, alloc: Global, frame: &Frame<'_>, text: &str, wanted: &str) -> bool {
     let document = [frame.before, text, frame.behind]
         .concat(alloc)
@@ -105,7 +105,7 @@ fn comes_to(rt: &impl Abort, alloc: Global, frame: &Frame<'_>, text: &str, wante
     is_told_in(found.as_str(), frame.pointer, wanted)
 }
 
-/// Looks at each text: it is to come to what stands beside it.
+/// Reads each text, and asserts that it has the result beside it.
 pub(crate) fn look_at_rows(
     rt: &impl Abort,
     alloc: Global,
@@ -117,7 +117,7 @@ pub(crate) fn look_at_rows(
     }
 }
 
-/// Whether a list that has an item so many times comes to what is wanted.
+/// Returns whether reading a list with this many copies of an item has the wanted result.
 fn list_comes_to(
     rt: &impl Abort,
     alloc: Global,
@@ -171,7 +171,7 @@ const CROSSINGS: &Frame<'static> = &Frame {
     pointer: "",
 };
 
-/// Items of lists, how many of them, and what these come to.
+/// Items of lists, the number of copies, and the results.
 const LISTS: &[(&Frame<'static>, &str, usize, &str)] = &[
     (DEVICES, "{},", 65, "115 /devices"),
     (LINKS, "{},", 1025, "115 /links"),

@@ -4,7 +4,7 @@ use fx_base::Room;
 use fx_drawings::put_drawing;
 use std::alloc::Global;
 
-/// Whether a drawing has this line.
+/// Returns whether a drawing has this line.
 fn has_line(drawing: &str, wanted: &str) -> bool {
     let mut found = false;
     for line in drawing.lines() {
@@ -13,7 +13,7 @@ fn has_line(drawing: &str, wanted: &str) -> bool {
     found
 }
 
-/// Whether a drawing has these lines.
+/// Returns whether a drawing has these lines.
 fn has_lines(drawing: &str, wanted: &[&str]) -> bool {
     let mut all = true;
     for line in wanted {
@@ -22,7 +22,7 @@ fn has_lines(drawing: &str, wanted: &[&str]) -> bool {
     all
 }
 
-/// The number of a drawing's refusal, or whether it has these lines.
+/// Returns whether a drawing has these lines, or fails with the number of its refusal.
 fn draws(
     alloc: Global,
     traffic: Option<&[u8]>,
@@ -37,7 +37,7 @@ fn draws(
     }
 }
 
-/// What is fed by what, and over which link.
+/// The edges from each part to the next, and over the link.
 const FED: [&str; 6] = [
     "digraph network {",
     "point1_1_0 -> selection1_1_0;",
@@ -47,12 +47,12 @@ const FED: [&str; 6] = [
     "}",
 ];
 
-/// Where packets cross.
+/// The edge of packets at their crossing.
 const CROSSING: [&str; 1] = [
     "packets1_1_0 -> point1_1_0 [color=blue, fontcolor=blue, style=dashed, label=\"crossing 1\"];",
 ];
 
-/// Where they are counted.
+/// The edge of packets where they are counted.
 const COUNTED: [&str; 1] = [
     "packets1_1_0 -> point1_1_0 [color=darkgreen, fontcolor=darkgreen, penwidth=3, label=\"counted at crossing 1\"];",
 ];

@@ -1,4 +1,4 @@
-//! Answers explained in sentences.
+//! Answers that are explained in sentences.
 use crate::answers::ends;
 use crate::audit_texts::{NETWORK, TRAFFIC};
 use crate::check::traffic_of;
@@ -52,7 +52,7 @@ pub(crate) const REPLAY_WORDS: &[u8] =
     b"cache \"ca\" of m1 still holds records: 1; the first leaves by a line expire cache 1 1 1 CHOICES
 ";
 
-/// Totals with a number that has a zero in front.
+/// Totals with a number that has a leading zero.
 const TOTALS: &[u8] = b"keys 1
 10.0.0.1 packets 2 octets 02
 unassigned 0
@@ -74,7 +74,7 @@ missing: report
 it has no members
 ";
 
-/// Traffic at an interface where nothing is observed.
+/// Traffic at an interface without an observation point.
 const UNSEEN_TRAFFIC: &[u8] =
     br#"{"classes":[{"name":"web","paths":[[{"device":"m1","interface":"eth9","direction":"ingress"}]]}]}"#;
 
@@ -99,7 +99,7 @@ const CAPTURE_WORDS: &[u8] = b"the first octets of the capture: 0a 0d 0d 0a 1c 0
 These octets begin a capture in pcapng. Convert it: tshark -r OLD -F pcap -w NEW.
 ";
 
-/// A capture without a packet, so that what the schedule asks for can't be told.
+/// A capture without packets, so that what the schedule requires isn't available.
 const EMPTY_CAPTURE: &[u8] = &[
     0xd4, 0xc3, 0xb2, 0xa1, 2, 0, 4, 0, 0, 0, 0, 0, 0, 0, 0, 0, 0, 0, 4, 0, 101, 0, 0, 0,
 ];
@@ -108,11 +108,11 @@ const SCHEDULE_WORDS: &[u8] = b"line 1: next 1 2
 the capture has no packet left: the lines next above have read 0; frames that aren't IP, or are malformed, are skipped; remove this line
 ";
 
-/// A packet outside of its class.
+/// A packet outside its class.
 const PACKET: &[u8] =
     b"packet 1 1 11.0.0.1 192.0.2.1 6 1000 80 0 4 0:0:0:0:0:0:0:0 0:0:0:0:0:0:0:0 100";
 
-/// The lines of a text.
+/// Returns a reader of the lines of a text.
 fn lines_of<'a>(rt: &impl Abort, alloc: Global, text: &'a [u8]) -> LineReader<Octets<'a>> {
     LineReader::new(alloc, Octets::new(text)).expect(rt, "memory")
 }

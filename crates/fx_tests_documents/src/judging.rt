@@ -1,4 +1,4 @@
-//! The leaf of a certificate, judged over the tables of a plan.
+//! The leaf of a certificate, judged with the tables of a plan.
 use crate::audit_texts::{NETWORK, TRAFFIC};
 use crate::check::traffic_of;
 use crate::plan::plan_of;
@@ -9,7 +9,7 @@ use fx_traffic::Traffic;
 use std::alloc::Global;
 use std::process::Abort;
 
-/// The leaf that is sound for all packets of the first class on its first path.
+/// Returns the leaf that is sound for all packets of the first class on its first path.
 fn first_leaf(rt: &impl Abort, alloc: Global, plan: &Plan, traffic: &Traffic) -> Option<Counted> {
     let tables = tables_of(plan);
     let mut scratch = Scratch::new(alloc, &tables).expect(rt, "memory");

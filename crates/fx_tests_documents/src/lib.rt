@@ -1,4 +1,4 @@
-//! Tests of what documents say, and of the commands over them.
+//! Tests of documents, and of the commands over them.
 #![tactic(auto)]
 
 #[cfg(test)]

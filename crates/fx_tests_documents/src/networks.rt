@@ -1,4 +1,4 @@
-//! Network documents read and refused, and the network that one means.
+//! Network documents that are read and refused, and the network that one describes.
 use crate::audit_texts;
 use crate::documents::{Frame, Kind, look_at_rows};
 use crate::plan::plan_of;
@@ -9,13 +9,13 @@ use serde_json::Value;
 use std::alloc::Global;
 use std::process::Abort;
 
-/// The network that a document means.
+/// Returns the network that a document describes.
 fn network_of(rt: &impl Abort, alloc: Global, text: &str) -> NetworkDocument {
     let value = Value::from_str(alloc, text).expect(rt, "a document");
     read_network(alloc, &value).expect(rt, "a network")
 }
 
-/// Whether the two devices of the network are the meter and the collector.
+/// Returns whether the two devices of the network are the meter and the collector.
 fn has_devices(network: &NetworkDocument) -> bool {
     let [meter, collector] = network.devices.as_slice() else {
         return false;
@@ -26,7 +26,7 @@ fn has_devices(network: &NetworkDocument) -> bool {
         && collector.config.collecting_processes.as_slice().len() == 1
 }
 
-/// Whether its one link leads from the one to the other.
+/// Returns whether its one link leads from the meter to the collector.
 fn has_link(network: &NetworkDocument) -> bool {
     let [link] = network.links.as_slice() else {
         return false;
@@ -38,7 +38,7 @@ fn has_link(network: &NetworkDocument) -> bool {
         && link.to_process.as_str() == "cp"
 }
 
-/// Whether the report at the collector has sources for its key.
+/// Returns whether the key of the report at the collector is the source.
 fn has_report(network: &NetworkDocument) -> bool {
     let [field] = network.report.key.as_slice() else {
         return false;
@@ -55,7 +55,7 @@ fn reads_a_network(rt: HostRuntime) {
     assert!(rt; has_devices(&network) & has_link(&network) & has_report(&network));
 }
 
-/// How many devices, exporting processes, caches, collecting processes and links a network has.
+/// Returns the numbers of devices, exporting processes, caches, collecting processes and links of a network.
 fn sizes(net: &Net) -> [usize; 5] {
     [
         net.devices().len(),
@@ -102,7 +102,7 @@ const DEVICES: &str = r#"{"devices":[{"name":"m1","config":{"ietf-ipfix-psamp:ip
 "exportingProcess":[{"name":"ex","destination":[{"name":"d","tcpExporter":{}}]}]}}},
 {"name":"c1","config":{"ietf-ipfix-psamp:ipfix":{"collectingProcess":[{"name":"cp"}]}}}]"#;
 
-/// Links whose ends aren't there.
+/// Links whose ends don't exist.
 const LINKS: &[(&str, &str)] = &[
     (
         r#"{"device":"x","exportingProcess":"ex","destination":"d","toDevice":"c1","toProcess":"cp"}"#,
@@ -163,7 +163,7 @@ const REPORTS: &[(&str, &str)] = &[
     (r#"{"device":"c1","collectingProcess":"cp","key":[]}"#, "ok"),
 ];
 
-/// Looks at networks with this before and behind what is told of in the rows.
+/// Reads networks with these texts before and after each text of the rows, and asserts the results beside them.
 fn look_at(rt: &impl Abort, alloc: Global, before: &str, behind: &str, rows: &[(&str, &str)]) {
     let frame = Frame {
         kind: Kind::Network,

@@ -7,7 +7,7 @@ use serde_json::Value;
 use std::alloc::{AllocError, Global};
 use std::process::Abort;
 
-/// What comes of reading a plan.
+/// Reads a plan.
 fn read(rt: &impl Abort, alloc: Global, text: &str) -> Result<Plan, Fault> {
     read_plan(
         alloc,
@@ -15,18 +15,18 @@ fn read(rt: &impl Abort, alloc: Global, text: &str) -> Result<Plan, Fault> {
     )
 }
 
-/// The plan of the network that a document means.
+/// Returns the plan of the network that a document describes.
 pub(crate) fn plan_of(rt: &impl Abort, alloc: Global, text: &str) -> Plan {
     read(rt, alloc, text).expect(rt, "a plan")
 }
 
-/// The order of a plan's ranks.
+/// Returns the order of a plan's ranks as text.
 fn ranks_told(rt: &impl Abort, alloc: Global, plan: Plan) -> String {
     plans_have_complete_runs(&plan);
     format!(in alloc; "{:?}", plan.upwards()).expect(rt, "memory")
 }
 
-/// What reading a plan comes to: the order of ranks, or the fault's number and place.
+/// Returns the result of reading a plan: the order of ranks, or the fault's number and place.
 fn told(rt: &impl Abort, alloc: Global, text: &str) -> String {
     match read(rt, alloc, text) {
         Ok(plan) => ranks_told(rt, alloc, plan),
@@ -34,7 +34,7 @@ fn told(rt: &impl Abort, alloc: Global, text: &str) -> String {
     }
 }
 
-/// Three devices, each with a collecting process `cp` that sends on what it receives.
+/// Three devices, each with a collecting process `cp` that forwards what it receives.
 const DEVICES: &str = r#"{"devices":[
 {"name":"c1","config":{"ietf-ipfix-psamp:ipfix":{"collectingProcess":[{"name":"cp","exportingProcess":["x"]}],
 "exportingProcess":[{"name":"x","destination":[{"name":"d","tcpExporter":{}}]}]}}},
@@ -43,7 +43,7 @@ const DEVICES: &str = r#"{"devices":[
 {"name":"c3","config":{"ietf-ipfix-psamp:ipfix":{"collectingProcess":[{"name":"cp","exportingProcess":["x"]}],
 "exportingProcess":[{"name":"x","destination":[{"name":"d","tcpExporter":{}}]}]}}}]"#;
 
-/// The network of those devices with links from one to the other, whose report is at the first.
+/// Returns the network of those devices with links from one to the other, whose report is at the first.
 fn linked(alloc: Global, links: &[(&str, &str)]) -> Result<String, AllocError> {
     let mut list = String::new(alloc);
     for (from, to) in links {
@@ -79,13 +79,13 @@ fn ranks_feeders_first_and_refuses_cycles(rt: HostRuntime) {
     }
 }
 
-/// Whether the plan's order of ranks is found anew in its tables, and its report has a layout.
+/// Returns whether the order of ranks computed from the plan's tables is the plan's, and its report has a layout.
 fn is_ordered(plan: &Plan, rt: &impl Abort, alloc: Global) -> bool {
     let found = rank_order(alloc, plan.net()).expect(rt, "memory");
     (found.order.as_slice() == plan.upwards()) & plan.network().report.layout().is_some()
 }
 
-/// The place of an exporting process.
+/// Returns the index of an exporting process.
 fn exporter_place(plan: &Plan, rt: &impl Abort, alloc: Global, device: u64) -> Option<usize> {
     plan.exporter_place(alloc, device, 1).expect(rt, "memory")
 }
@@ -103,7 +103,7 @@ fn orders_by_falling_rank(rt: HostRuntime) {
     );
 }
 
-/// So many aggregations, each with a layout of its own, and the report under the empty layout.
+/// Returns a network of this many aggregations, each with its own layout, and the report with the empty layout.
 fn aggregations(alloc: Global, count: u32) -> Result<String, AllocError> {
     let mut list = String::new(alloc);
     for n in 0..count {
@@ -128,7 +128,7 @@ fn refuses_too_many_layouts(rt: HostRuntime) {
     assert!(rt; told(&rt, rt.alloc(), text.as_str()).as_str() == "207 ");
 }
 
-/// The plan of so many aggregations.
+/// Returns the plan of this many aggregations.
 fn plan_of_aggregations(rt: &impl Abort, alloc: Global, count: u32) -> Plan {
     plan_of(
         rt,

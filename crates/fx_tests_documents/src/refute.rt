@@ -17,7 +17,7 @@ use fx_traffic::Traffic;
 use std::alloc::Global;
 use std::process::Abort;
 
-/// The totals of a refuting run, and the plain sums.
+/// Returns the totals of a refuting run, and the plain sums.
 fn refuted(
     alloc: Global,
     plan: &Plan,
@@ -29,8 +29,8 @@ fn refuted(
     confirm(alloc, plan, traffic, &refutation)
 }
 
-/// What an observer was shown of a run: the number of a refused step, from 1, the number of its refusal, and whether it was shown
-/// the last state. All 0 and false where it was shown nothing.
+/// What an observer was shown of a run: the 1-based number of a refused step, the number of its refusal, and whether it
+/// was shown the last state. All are 0 and false if it was shown nothing.
 #[derive(Drop)]
 struct Shown {
     step: u64,
@@ -49,7 +49,7 @@ impl StepWatch for Shown {
     }
 }
 
-/// Confirms a refutation, as [`refuted`] does, before an observer.
+/// Confirms a refutation, as [`refuted`] does, with an observer.
 fn refuted_before(
     alloc: Global,
     plan: &Plan,
@@ -62,7 +62,7 @@ fn refuted_before(
     confirm_watched(alloc, plan, traffic, &refutation, shown)
 }
 
-/// Returns the line of a fault, or 0 where it has none.
+/// Returns the line of a fault, or 0 if it has none.
 fn line_of(fault: &Fault) -> u64 {
     match &fault.place {
         Place::Line(line) => *line,
@@ -70,7 +70,7 @@ fn line_of(fault: &Fault) -> u64 {
     }
 }
 
-/// Whether an observer is shown the step that is refused, or the last state, where a refutation is refused for it.
+/// Returns whether an observer is shown the refused step, or the last state, if a refutation is refused because of it.
 fn is_shown(alloc: Global, plan: &Plan, traffic: &Traffic, text: &str) -> bool {
     let mut shown = Shown {
         step: 0,
@@ -91,13 +91,13 @@ fn is_shown(alloc: Global, plan: &Plan, traffic: &Traffic, text: &str) -> bool {
     }
 }
 
-/// How many keys and unassigned records a run has, and how many keys its packet.
+/// Returns the numbers of keys and unassigned records of a run, and of the keys of its packet, as text.
 fn totals_told(rt: &impl Abort, alloc: Global, ran: Totals, plain: Totals) -> String {
     let (keys, lost, wanted) = (ran.len(), ran.unassigned(), plain.len());
     format!(in alloc; "{keys} {lost} for {wanted}").expect(rt, "memory")
 }
 
-/// What a refutation comes to: its totals, or the fault's number and place.
+/// Returns the result of a refutation: its totals, or the fault's number and place.
 fn told(rt: &impl Abort, alloc: Global, answer: Result<(Totals, Totals), Fault>) -> String {
     match answer {
         Ok((ran, plain)) => totals_told(rt, alloc, ran, plain),
@@ -105,7 +105,7 @@ fn told(rt: &impl Abort, alloc: Global, answer: Result<(Totals, Totals), Fault>)
     }
 }
 
-/// Confirms refutations over a network and its traffic: each is to come to what stands beside it.
+/// Confirms refutations over a network and its traffic, and asserts that each has the result beside it.
 fn confirm_all(
     rt: &impl Abort,
     alloc: Global,
@@ -122,7 +122,7 @@ fn confirm_all(
     }
 }
 
-/// A meter whose exporting process sends to the collector or, where it can't, nowhere.
+/// A meter whose exporting process sends to the collector, or to a destination without a link if it can't.
 pub(crate) const WITH_FALLBACK: &str =
     r#"{"devices":[{"name":"m1","config":{"ietf-ipfix-psamp:ipfix":{
 "observationPoint":[{"name":"op","observationDomainId":0,"ifName":["eth0"],"selectionProcess":["sp"]}],
@@ -137,19 +137,19 @@ pub(crate) const WITH_FALLBACK: &str =
 "report":{"device":"c1","collectingProcess":"cp","key":[{"ieName":"sourceIPv4Address"}]}}"#;
 
 const OF_FALLBACK: &[(&str, &str)] = &[
-    // the record leaves the network
+    // The record leaves the network.
     (
         "once-refutation 1\npacket 1 1 10.0.0.0 0.0.0.0 0 0 0 0 1\ncross 1 1 n\nexpire cache 1 1 1 2\nend\n",
         "0 0 for 1",
     ),
-    // it is counted
+    // The record is counted.
     (
         "once-refutation 1\npacket 1 1 10.0.0.0 0.0.0.0 0 0 0 0 1\ncross 1 1 n\nexpire cache 1 1 1 1\narrive 1 1\nend\n",
         "505 ",
     ),
 ];
 
-/// Over one meter and one collector that count each packet.
+/// For one meter and one collector that count each packet.
 const REFUTATIONS: &[(&str, &str)] = &[
     (
         "once-refutation 1\npacket 1 1 10.0.0.0 0.0.0.0 0 0 0 0 1\ncross 1 1 n\nexpire cache 1 1 1 2\nend\n",

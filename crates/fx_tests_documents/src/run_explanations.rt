@@ -1,4 +1,4 @@
-//! What runs and refutations are about, told from values that are lent.
+//! Explanations of runs and refutations from values that are passed by reference.
 use crate::answers::ends;
 use crate::audit_texts::{NETWORK, TRAFFIC};
 use crate::check::traffic_of;
@@ -16,7 +16,7 @@ use fx_traffic::Traffic;
 use std::alloc::Global;
 use std::process::Abort;
 
-/// A run in which a record leaves a position at which none stands.
+/// A run in which a record leaves a position where there is none.
 const REFUSED: &[u8] = b"once-refutation 1
 packet 1 1 10.0.0.1 192.0.2.1 6 1000 80 0 100
 cross 1 1 n
@@ -24,13 +24,13 @@ expire cache 1 1 2
 end
 ";
 
-/// Returns the refutation that a text says.
+/// Reads the refutation in a text.
 fn refutation(rt: &impl Abort, alloc: Global, text: &[u8]) -> Refutation {
     let mut lines = LineReader::new(alloc, Octets::new(text)).expect(rt, "memory");
     read_refutation(alloc, &mut lines).expect(rt, "a refutation")
 }
 
-/// Returns the state behind the first step of a refutation.
+/// Returns the state after the first step of a refutation.
 fn first_state<'a>(
     rt: &impl Abort,
     alloc: Global,

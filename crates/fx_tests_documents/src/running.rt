@@ -18,12 +18,12 @@ use fx_traffic::Traffic;
 use std::alloc::Global;
 use std::process::Abort;
 
-/// A network that is opened over a plan and traffic.
+/// Returns a network that is opened over a plan and traffic.
 fn opened<'a>(rt: &impl Abort, alloc: Global, plan: &'a Plan, traffic: &'a Traffic) -> Network<'a> {
     Network::open(alloc, audit_texts::seed(), plan, traffic).expect(rt, "memory")
 }
 
-/// Whether a network counts nothing.
+/// Returns whether a network has counted nothing.
 fn counts_nothing(network: Network<'_>) -> bool {
     (network.totals().len() == 0) & (network.totals().unassigned() == 0)
 }
@@ -35,7 +35,7 @@ fn opens_with_nothing_counted(rt: HostRuntime) {
     assert!(rt; counts_nothing(opened(&rt, rt.alloc(), &plan, &traffic)));
 }
 
-/// Obeys the one line of a text.
+/// Executes the single line of a text.
 fn obeyed(
     alloc: Global,
     network: &mut Network<'_>,
@@ -47,12 +47,12 @@ fn obeyed(
     network.obey(&lines.line(), capture, &mut Nowhere)
 }
 
-/// A reader of the capture.
+/// Returns a reader of the capture.
 fn captured(rt: &impl Abort, alloc: Global) -> Capture<Octets<'static>> {
     Capture::new(alloc, Octets::new(&CAPTURE)).expect(rt, "a capture")
 }
 
-/// Whether a network obeys a line, refuses one, and then answers that again.
+/// Returns whether a network executes a line, refuses another, and repeats that refusal from then on.
 fn obeys_and_stops(rt: &impl Abort, alloc: Global, plan: &Plan, traffic: &Traffic) -> bool {
     let mut network = opened(rt, alloc, plan, traffic);
     let mut capture = captured(rt, alloc);
@@ -65,7 +65,7 @@ fn obeys_and_stops(rt: &impl Abort, alloc: Global, plan: &Plan, traffic: &Traffi
         & is_refused(network.close(&mut capture, &mut Nowhere), &fault)
 }
 
-/// How many keys are counted once a network was closed over the capture.
+/// Returns the number of keys that are counted after a network was closed over the capture.
 fn keys_when_closed(rt: &impl Abort, alloc: Global, plan: &Plan, traffic: &Traffic) -> usize {
     let mut network = opened(rt, alloc, plan, traffic);
     network
@@ -74,7 +74,7 @@ fn keys_when_closed(rt: &impl Abort, alloc: Global, plan: &Plan, traffic: &Traff
     network.totals().len()
 }
 
-/// How many keys are counted where a network runs over the capture.
+/// Returns the number of keys that are counted after a network runs over the capture.
 fn keys_of_run(rt: &impl Abort, alloc: Global, plan: &Plan, traffic: &Traffic) -> usize {
     let mut capture = captured(rt, alloc);
     let mut lines = LineReader::new(alloc, Octets::new(SCHEDULE)).expect(rt, "memory");

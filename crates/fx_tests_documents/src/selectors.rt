@@ -1,4 +1,4 @@
-//! Regions of selection processes, and the pairs that packets feed.
+//! Regions of selection processes, and the pairs to which packets are passed.
 use fx_boxes::Region;
 use fx_config::{Device, read_device};
 use fx_elements::Axis;
@@ -7,7 +7,7 @@ use serde_json::Value;
 use std::alloc::Global;
 use std::process::Abort;
 
-/// The device whose container `ipfix` is this.
+/// Returns the device with this container `ipfix`.
 fn device_of(rt: &impl Abort, alloc: Global, lists: &str) -> Device {
     let text = [r#"{"ietf-ipfix-psamp:ipfix":"#, lists, "}"]
         .concat(alloc)
@@ -16,7 +16,7 @@ fn device_of(rt: &impl Abort, alloc: Global, lists: &str) -> Device {
     read_device(alloc, &value).expect(rt, "a device")
 }
 
-/// Whether a device has one selection process, and this is its region.
+/// Returns whether a device has one selection process, with this region.
 fn selects(device: &Device, wanted: Option<Region>) -> bool {
     match device.selection_processes.as_slice() {
         [process] => region_of(process) == wanted,
@@ -24,7 +24,7 @@ fn selects(device: &Device, wanted: Option<Region>) -> bool {
     }
 }
 
-/// Whether this is the region of a selection process with these selectors.
+/// Returns whether this is the region of a selection process with these selectors.
 fn is_region(rt: &impl Abort, alloc: Global, selectors: &str, wanted: Option<Region>) -> bool {
     let before = r#"{"selectionProcess":[{"name":"s","selector":["#;
     let lists = [before, selectors, "]}]}"]
@@ -33,7 +33,7 @@ fn is_region(rt: &impl Abort, alloc: Global, selectors: &str, wanted: Option<Reg
     selects(&device_of(rt, alloc, lists.as_str()), wanted)
 }
 
-/// The sources below 128.0.0.0, and those from there on.
+/// The sources below 128.0.0.0, and the remaining ones.
 const LOWER: &str =
     r#"{"name":"a","filterMatch":{"ieName":"sourceIPv4Prefix","value":"0.0.0.0/1"}}"#;
 
@@ -58,7 +58,7 @@ fn regions_of_filters(rt: HostRuntime) {
     );
 }
 
-/// The pairs that packets into `eth0` come to, one after another.
+/// Returns the pairs to which packets into `eth0` are passed, in order.
 fn pairs(rt: &impl Abort, alloc: Global, lists: &str) -> String {
     let device = device_of(rt, alloc, lists);
     let mut text = String::new(alloc);

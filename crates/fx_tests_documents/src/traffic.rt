@@ -1,4 +1,4 @@
-//! Declarations of traffic, and the classes that they mean.
+//! Declarations of traffic, and the classes that they describe.
 use crate::documents;
 use fx_boxes::{Fields, Region};
 use fx_elements::{AXES, TOPS};
@@ -7,12 +7,12 @@ use fx_traffic::{Target, Traffic};
 use std::alloc::Global;
 use std::process::Abort;
 
-/// The traffic that a text declares.
+/// Reads the traffic that a text declares.
 fn traffic_of(rt: &impl Abort, alloc: Global, text: &str) -> Traffic {
     documents::traffic_of(rt, alloc, text).expect(rt, "traffic")
 }
 
-/// The only class of the traffic.
+/// Returns the only class of the traffic.
 fn only_class(traffic: &Traffic) -> Option<&Class> {
     match traffic.classes().as_slice() {
         [class] => Some(class),
@@ -20,7 +20,7 @@ fn only_class(traffic: &Traffic) -> Option<&Class> {
     }
 }
 
-/// The packets with the first and the last source of 10.0.0.0/8, and those before and behind them.
+/// The packets with the first and the last source of 10.0.0.0/8, and those before and after them.
 const FIRST: [u128; AXES] = [0x0a00_0000, 0, 0, 0, 0, 0, 0, 0, 0];
 
 const LAST: [u128; AXES] = [
@@ -39,7 +39,7 @@ const BEFORE: [u128; AXES] = [0x09ff_ffff, 0, 0, 0, 0, 0, 0, 0, 0];
 
 const BEHIND: [u128; AXES] = [0x0b00_0000, 0, 0, 0, 0, 0, 0, 0, 0];
 
-/// Whether the region has the sources of 10.0.0.0/8.
+/// Returns whether the region has the sources of 10.0.0.0/8.
 fn is_of_ten(region: &Region) -> bool {
     region.holds(&Fields::of(FIRST))
         & region.holds(&Fields::of(LAST))
@@ -47,7 +47,7 @@ fn is_of_ten(region: &Region) -> bool {
         & !region.holds(&Fields::of(BEHIND))
 }
 
-/// Whether the one path of several is one crossing, into `eth0` of the second device.
+/// Returns whether there is only one path, which is one crossing, into `eth0` of the second device.
 fn enter_eth0(paths: &[Path]) -> bool {
     let [path] = paths else {
         return false;
@@ -60,7 +60,7 @@ fn enter_eth0(paths: &[Path]) -> bool {
     }
 }
 
-/// Whether the only class is of those sources, and has that path.
+/// Returns whether the only class has those sources and that path.
 fn is_web(class: Option<&Class>) -> bool {
     match class {
         Some(class) => is_of_ten(&class.region()) & enter_eth0(class.paths()),
@@ -75,7 +75,7 @@ fn reads_a_class(rt: HostRuntime) {
     assert!(rt; is_web(only_class(&traffic_of(&rt, rt.alloc(), text))));
 }
 
-/// Whether there are no crossings on the one path of several.
+/// Returns whether there is only one path, which has no crossings.
 fn cross_nothing(paths: &[Path]) -> bool {
     match paths {
         [path] => path.as_slice().is_empty(),
@@ -83,7 +83,7 @@ fn cross_nothing(paths: &[Path]) -> bool {
     }
 }
 
-/// Whether the only class holds the last packet and has one path, of no crossings.
+/// Returns whether the only class contains the last packet and has one path, of no crossings.
 fn is_whole(class: Option<&Class>) -> bool {
     match class {
         Some(class) => {
@@ -104,7 +104,7 @@ fn reads_what_may_be_left_out(rt: HostRuntime) {
     assert!(rt; none.classes().as_slice().is_empty() & is_whole(only_class(&whole)));
 }
 
-/// A class of spans.
+/// A class of ranges.
 const SPANS: &str = r#"{"classes":[{"name":"a","region":{"sourceIPv4Address":"10.0.0.1-10.0.0.9",
         "destinationIPv4Address":"192.0.2.1","protocolIdentifier":"6","sourceTransportPort":"1024-65535",
         "destinationTransportPort":"443","ipClassOfService":"0-0","ipVersion":"4",
@@ -138,7 +138,7 @@ const HIGH: [u128; AXES] = [
     NETWORK + (u128::MAX >> 32),
 ];
 
-/// Whether the only class lies between these corners.
+/// Returns whether the only class is between these corners.
 fn is_between(class: Option<&Class>, low: &[u128; AXES], high: &[u128; AXES]) -> bool {
     match class {
         Some(class) => {
@@ -154,10 +154,10 @@ fn reads_spans(rt: HostRuntime) {
     assert!(rt; is_between(only_class(&traffic_of(&rt, rt.alloc(), SPANS)), &LOW, &HIGH));
 }
 
-/// The numbers of paths' classes and of the paths in them, and whether their packets are exempt.
+/// The numbers of paths' classes, those of the paths in them, and whether their packets are exempt.
 const TARGETS: [(u64, u64, bool); 3] = [(1, 1, false), (1, 2, false), (2, 1, true)];
 
-/// Whether these are the paths of all classes.
+/// Returns whether these are the paths of all classes.
 fn are_targets(targets: &[Target<'_>], wanted: &[(u64, u64, bool)]) -> bool {
     let mut all = targets.len() == wanted.len();
     for (target, (class, path, exempt)) in targets.iter().zip(wanted) {

@@ -1,4 +1,4 @@
-//! Declarations of traffic that are refused, and where, in a network of two devices.
+//! Declarations of traffic that are refused, and the places, in a network of two devices.
 use crate::documents::{Frame, Kind, look_at_rows};
 
 /// A whole document.
@@ -143,7 +143,7 @@ const CROSSINGS: &[(&str, &str)] = &[
     (r#"{"interface":7,"a":1}"#, "102 /a"),
 ];
 
-/// What says that a class is exempt.
+/// The member that makes a class exempt.
 const EXEMPT: &Frame<'static> = &Frame {
     kind: Kind::Traffic,
     before: r#"{"classes":[{"name":"a","paths":[[]],"exempt":"#,
