@@ -1,4 +1,4 @@
-//! What commands end with: a last line, and a status.
+//! How commands end: a last line, and a status.
 use clap::error::ErrorKind;
 use fx_audit::Answer;
 use fx_base::{Fault, Room};
@@ -7,14 +7,14 @@ use std::alloc::AllocError;
 use std::io;
 use std::test::Fail;
 
-/// Whether a command of this outcome ends with this status, and has written this line.
+/// Returns whether a command with this outcome ends with this status and has written this line.
 fn ends_with(outcome: &Result<Answer, Fault>, status: u8, line: &[u8]) -> bool {
     let mut octets = [0u8; 64];
     let mut room = Room::new(&mut octets);
     finish(outcome, &mut room) == status && room.octets() == line
 }
 
-/// The same of a fault at no place.
+/// Returns whether a fault at no place ends with this status and has written this line.
 fn fails_with(number: u16, status: u8, line: &[u8]) -> bool {
     ends_with(&Err(Fault::bare(number)), status, line)
 }
@@ -64,7 +64,7 @@ fn ends_for_want_of_memory(rt: HostRuntime) {
     assert!(rt; room.octets() == b"memory 900\n".as_slice());
 }
 
-/// Whether words that can't be read for this cause end with this status and this text.
+/// Returns whether arguments that can't be read because of this error end with this status and this text.
 fn ends_unread(kind: io::ErrorKind, status: u8, text: &[u8]) -> bool {
     let mut octets = [0u8; 128];
     let mut room = Room::new(&mut octets);

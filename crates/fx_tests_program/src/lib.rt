@@ -1,4 +1,4 @@
-//! Tests of the program's words, last lines and statuses.
+//! Tests of the program's arguments, last lines and statuses.
 #![tactic(auto)]
 
 #[cfg(test)]

@@ -1,10 +1,10 @@
-//! Words that name a call, and words that name none.
+//! Arguments that specify a call, and arguments that don't.
 use fx_base::Room;
 use fx_cli::{Call, finish_arguments, read_words};
 use std::alloc::{AllocError, Global};
 use std::test::Fail;
 
-/// The words of a command line, parted by spaces.
+/// Returns the arguments of a command line, separated by spaces.
 fn words(alloc: Global, line: &str) -> Result<Vec<String>, AllocError> {
     let mut words = Vec::new(alloc);
     for word in line.split(' ') {
@@ -13,7 +13,8 @@ fn words(alloc: Global, line: &str) -> Result<Vec<String>, AllocError> {
     Ok(words)
 }
 
-/// The command of the call that the words name, and its files and option, each behind a bar.
+/// Returns the command of the call that the arguments specify, and its files and option, each after a bar, or an empty
+/// text if they specify none.
 fn call(alloc: Global, line: &str) -> Result<String, AllocError> {
     let words = words(alloc, line)?;
     match read_words(alloc, words.as_slice()) {
@@ -22,7 +23,7 @@ fn call(alloc: Global, line: &str) -> Result<String, AllocError> {
     }
 }
 
-/// A call's command, and its files and option, each behind a bar.
+/// Returns a call's command, and its files and option, each after a bar.
 fn parts(alloc: Global, call: &Call) -> Result<String, AllocError> {
     match call {
         Call::Replay {
@@ -126,7 +127,8 @@ fn reads_words(rt: HostRuntime) -> Result<(), Fail> {
     Ok(())
 }
 
-/// The exit status of words that name no call, with whether a text was written.
+/// Returns the exit status of arguments that specify no call, and whether a text was written. Returns `None` if they
+/// specify a call.
 fn ends_words(alloc: Global, line: &str) -> Result<Option<(u8, bool)>, AllocError> {
     let words = words(alloc, line)?;
     let mut octets = [0u8; 8192];
