@@ -26,20 +26,20 @@ pub struct PacketAt<'a> {
 /// A receiver of what a command knows when it answers or refuses. Its methods take shared references and return
 /// nothing, and no clause about an answer names the explainer, so an answer is the same whoever explains it.
 pub trait Explainer: Drop {
-    /// Called when the network document was accepted.
+    /// Receives the accepted network document.
     fn on_network(&mut self, octets: &[u8], plan: &Plan);
 
-    /// Called when the network document was refused.
+    /// Receives the refused network document.
     fn on_refused_network(&mut self, octets: &[u8], fault: &Fault);
 
-    /// Called when the traffic declaration was accepted.
+    /// Receives the accepted traffic declaration.
     fn on_traffic(&mut self, octets: &[u8], plan: &Plan, traffic: &Traffic);
 
-    /// Called when the traffic declaration was refused for this network.
+    /// Receives the traffic declaration that was refused for this network.
     fn on_refused_traffic(&mut self, octets: &[u8], plan: &Plan, fault: &Fault);
 
-    /// Called when a certificate was refused, with what the line had to be, and the line, which is `None` if the text
-    /// ends before it.
+    /// Receives the refusal of a certificate: what the line had to be, and the line, which is `None` if the text ends
+    /// before it.
     fn on_refused_certificate(
         &mut self,
         documents: &AcceptedDocuments,
@@ -48,17 +48,17 @@ pub trait Explainer: Drop {
         fault: &Fault,
     );
 
-    /// Called when an audit found this refutation, or a confirmation confirmed it.
+    /// Receives the refutation that an audit found or a confirmation confirmed.
     fn on_refutation(&mut self, documents: &AcceptedDocuments, refutation: &Refutation);
 
-    /// Called when the text of a run or of a refutation was refused. The line is the last one that was read.
+    /// Receives the line at which the text of a run or of a refutation was refused, the last one that was read.
     fn on_refused_line(&mut self, documents: &AcceptedDocuments, line: &Line<'_>, fault: &Fault);
 
-    /// Called when a refutation was read whose packet isn't in its class.
+    /// Receives a refutation whose packet isn't in its class.
     fn on_refused_packet(&mut self, documents: &AcceptedDocuments, refutation: &Refutation);
 
-    /// Called when a step of a refutation was refused in this state, which follows the steps before it. Steps count
-    /// from 1.
+    /// Receives the refutation of which a step was refused, and the state after the steps before it. Steps count from
+    /// 1.
     fn on_refused_refutation(
         &mut self,
         documents: &AcceptedDocuments,
@@ -68,7 +68,7 @@ pub trait Explainer: Drop {
         fault: &Fault,
     );
 
-    /// Called when the run of a refutation ended in this state, and isn't complete or has the plain sums.
+    /// Receives the refutation whose run ended in this state, and isn't complete or has the plain sums.
     fn on_unconfirmed(
         &mut self,
         documents: &AcceptedDocuments,
@@ -76,10 +76,10 @@ pub trait Explainer: Drop {
         last: &State<'_>,
     );
 
-    /// Called before each step of a run is made.
+    /// Receives each step of a run before it is made.
     fn on_step(&mut self, step: &Step);
 
-    /// Called when a step of a run was refused in this state. The line is that of the step, from 1.
+    /// Receives the step of a run that was refused in this state. The line is that of the step, from 1.
     fn on_refused_step(
         &mut self,
         documents: &AcceptedDocuments,
@@ -89,10 +89,10 @@ pub trait Explainer: Drop {
         fault: &Fault,
     );
 
-    /// Called when a replayed run ended in this state.
+    /// Receives the state in which a replayed run ended.
     fn on_last_state(&mut self, documents: &AcceptedDocuments, state: &State<'_>);
 
-    /// Called when a run over a capture was refused. The line is the last one of the schedule that was read.
+    /// Receives the line at which a run over a capture was refused, the last one of the schedule that was read.
     fn on_refused_metering(
         &mut self,
         documents: &AcceptedDocuments,
@@ -101,16 +101,16 @@ pub trait Explainer: Drop {
         fault: &Fault,
     );
 
-    /// Called when a text of totals under this key was refused. The line is the last one that was read.
+    /// Receives the line at which a text of totals under this key was refused, the last one that was read.
     fn on_refused_totals(&mut self, key: &Layout, line: &Line<'_>, fault: &Fault);
 
-    /// Called when octets are a bundle with this command.
+    /// Receives the command of octets that are a bundle.
     fn on_bundle(&mut self, command: Command);
 
-    /// Called when a bundle's command has answered that reads this text, line by line, after the documents.
+    /// Receives the text that a bundle's command has read, line by line, after the documents, once it has answered.
     fn on_answered_text(&mut self, text: &[u8]);
 
-    /// Called when octets are no bundle.
+    /// Receives octets that are no bundle.
     fn on_refused_bundle(&mut self, octets: &[u8], fault: &Fault);
 }
 
