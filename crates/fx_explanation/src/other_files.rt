@@ -3,7 +3,7 @@ use crate::explanation::Explanation;
 use crate::formats::{is_pcap, is_pcapng, packed_format};
 use std::str;
 
-/// What to do with a file that should be left out.
+/// The advice for a file that should be left out.
 const LEFT_OUT: &str = "name the document's file in its place";
 
 /// A file that is no document.
@@ -13,21 +13,21 @@ struct OtherFile {
     mark: &'static [u8],
     /// Its name, with the article.
     name: &'static str,
-    /// Where it belongs, or what to do with it.
+    /// The advice on where it belongs, or what to do with it.
     next: &'static str,
 }
 
-/// Where a schedule belongs, and where a capture does.
+/// The advice on where a schedule and a capture belong.
 const WITH_CAPTURE: &str = "the order of the files is: once run NETWORK TRAFFIC CAPTURE SCHEDULE";
 
-/// Where a bundle belongs.
+/// The advice on where a bundle belongs.
 const BUNDLE: &str = "it is read from standard input: once < BUNDLE";
 
-/// What to do with a module.
+/// The advice for a module.
 const MODULE: &str =
     "a module says what a configuration may have; due is the configuration itself, in the JSON of RFC 7951";
 
-/// What to do with a text in YAML.
+/// The advice for a text in YAML.
 const YAML: &str = "a document is JSON: turn it to that, as yq -o json does";
 
 /// Texts by their first words: those of this program, and others.
