@@ -8,7 +8,7 @@ use fx_topology::NetworkDevice;
 use fx_traffic::Target;
 use std::alloc::{AllocError, Global};
 
-/// Which crossings of all paths concern an observation point.
+/// The crossings of all paths that concern an observation point.
 #[derive(Clone, Copy)]
 struct Sight {
     /// Whether one is at an interface of the point.

@@ -11,7 +11,7 @@ fn ends_value(octet: u8) -> bool {
     octet.is_ascii_alphanumeric() || matches!(octet, b'}' | b']' | b'"')
 }
 
-/// What precedes a position in a JSON text.
+/// The state of a JSON text before a position.
 #[derive(Clone, Copy, Drop)]
 struct Before {
     /// The last octet that isn't white space, or 0 if there is none.
@@ -128,7 +128,7 @@ fn write_open(out: &mut Explanation, open: &Before) {
     out.sentence(if open.in_string { ", and a string" } else { "" });
 }
 
-/// Adds what is wrong with a JSON text at an index, if that can be told from what is there and before.
+/// Adds what is wrong with a JSON text at an index, insofar as what is there and before shows it.
 pub(crate) fn write_fault(out: &mut Explanation, octets: &[u8], place: usize) {
     let start = part(octets, 0, place);
     let before = before_end(start);

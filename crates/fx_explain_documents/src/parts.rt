@@ -53,7 +53,7 @@ const NAMES: [(&str, &str, &str); 10] = [
     ("interface", "crossings", "crossings"),
 ];
 
-/// Where an object that has a member belongs, and where a list of such objects belongs.
+/// The places where an object that has a member belongs, and where a list of such objects does.
 const PLACES: [(&str, &str, &str); 10] = [
     ("devices", ALONE, ALONE),
     ("links", ALONE, ALONE),
@@ -79,22 +79,22 @@ const PLACES: [(&str, &str, &str); 10] = [
     ("interface", CROSSINGS, CROSSINGS),
 ];
 
-/// Where a document belongs.
+/// The advice on where a document belongs.
 const ALONE: &str = "a document is a single object: remove what is around it";
 
-/// Where the configuration of a device belongs.
+/// The advice on where the configuration of a device belongs.
 const CONFIGURATION: &str =
     "its place in a network is: {\"devices\": [{\"name\": .., \"config\": HERE}, ..], \"links\": [..], \"report\": {..}}";
 
-/// Where the report belongs.
+/// The advice on where the report belongs.
 const REPORT: &str =
     "its place in a network is: {\"devices\": [..], \"links\": [..], \"report\": HERE}";
 
-/// Where crossings belong.
+/// The advice on where crossings belong.
 const CROSSINGS: &str =
     "their place in a traffic declaration is: {\"classes\": [{\"name\": .., \"paths\": [[..], ..]}, ..]}";
 
-/// Where a part of a device's configuration belongs.
+/// The advice on where a part of a device's configuration belongs.
 const PART: &str =
     "the place of a device's configuration in a network is: {\"devices\": [{\"name\": .., \"config\": {\"ietf-ipfix-psamp:ipfix\": {\"observationPoint\": [..], ..}}}, ..], \"links\": [..], \"report\": {..}}";
 

@@ -7,7 +7,7 @@ fn is_place(segment: &str) -> bool {
     !segment.is_empty() && are_digits(segment.as_bytes())
 }
 
-/// Where a pointer leads.
+/// The location to which a pointer leads.
 #[derive(Clone, Copy, Drop)]
 pub(crate) struct Location<'a> {
     /// The last member in the pointer, or an empty text.
