@@ -14,12 +14,12 @@ use fx_tables::{HolderName, Packet};
 use fx_topology::{NamedLink, NetworkDevice};
 use fx_walk::place_of;
 
-/// What to do about a cache or an aggregation without an exporting process, or a collecting process that forwards
+/// The advice for a cache or an aggregation without an exporting process, or a collecting process that forwards
 /// nothing.
 const UNSENT: &str =
     "The record goes no further: link its source to a collecting process whose records reach the report, or add an exporting process there that is linked to one, and audit again: ";
 
-/// What to do about an aggregation that doesn't accept a record.
+/// The advice for an aggregation that doesn't accept a record.
 const NOT_TAKEN: &str =
     "Keep what the aggregation asks for among the flow keys (isFlowKey) of each cache and in the key of each aggregation on \
 the way, ask for less in its key or its match, or add an aggregation for such packets, and audit again: ";

@@ -8,7 +8,7 @@ use std::alloc::{AllocError, Global};
 /// The maximum number of octets of a line that are kept.
 const KEPT: usize = 200;
 
-/// What is expected at a line of texts of totals.
+/// The kind of line that is expected in texts of totals.
 #[derive(Clone, Copy)]
 pub(crate) enum Due {
     /// The first line of the first text.
@@ -176,7 +176,7 @@ impl Stand {
     }
 }
 
-/// Returns what a misplaced line is, if that can be told.
+/// Returns what a misplaced line is, if that is known.
 pub(crate) fn misplaced_words(due: Due, octets: &[u8]) -> Option<&'static str> {
     let is_inside = due == Due::Key || due == Due::Unassigned;
     if octets.is_empty() {

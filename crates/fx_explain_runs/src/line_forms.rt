@@ -142,7 +142,7 @@ fn is_number(form: &str, due: &str, word: &[u8], before: &[u8]) -> bool {
     }
 }
 
-/// How far a line fits a form.
+/// The extent to which a line fits a form.
 #[derive(Clone, Copy, Drop)]
 pub(crate) struct Fit<'a> {
     /// The number of words that fit.

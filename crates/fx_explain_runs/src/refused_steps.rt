@@ -11,7 +11,7 @@ use fx_tables::{HolderName, Net};
 /// The maximum number of choices that are written.
 const FEW: usize = 20;
 
-/// Where records wait.
+/// A place where records wait.
 #[derive(Clone, Copy, PartialEq, Eq)]
 enum Waiting {
     /// A cache or an aggregation.

@@ -33,7 +33,7 @@ fn next_word(left: &[u8]) -> (&[u8], &[u8]) {
     }
 }
 
-/// How far a line is a key's line of a report.
+/// The extent to which a line is a key's line of a report.
 #[derive(Clone, Copy, Drop)]
 struct KeyFit<'a> {
     /// The number of its words that are values of the report's fields.

@@ -78,9 +78,9 @@ fn explanation_of(
 }
 
 /// Explains in sentences why totals aren't summed, with 861 at a line. Writes the line, at most 200 octets of it; which
-/// of several texts it is in; what is expected at it; and its first wrong word, or what the line is, if that can be
-/// told; for a key's line also the fields of the report's key, if given, and whether its key occurs twice or is out of
-/// order. The octets are those that were read. The text has no control characters but line feeds.
+/// of several texts it is in; what is expected at it; and its first wrong word, or what the line is, if that is known;
+/// for a key's line also the fields of the report's key, if given, and whether its key occurs twice or is out of order.
+/// The octets are those that were read. The text has no control characters but line feeds.
 ///
 /// Fails with 900 if out of memory, with 903 at a line of more than 4,096 octets, and with 902 if a write fails. For
 /// faults other than 902 nothing is written.

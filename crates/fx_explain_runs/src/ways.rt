@@ -1,7 +1,7 @@
 //! Counting the ways by which records reach the report, from what happened to them step by step.
 use std::alloc::{AllocError, Global};
 
-/// What happens to a record at a step, which is given by its 0-based index.
+/// An event that happens to a record at a step, which is given by its 0-based index.
 #[derive(Clone, Copy)]
 pub(crate) enum Event {
     /// The record is taken into the held record with this number.
