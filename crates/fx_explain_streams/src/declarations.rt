@@ -13,7 +13,7 @@ const DECLARATIONS: usize = 4096;
 /// The maximum number of fields of all declarations that are kept.
 const FIELDS: usize = 65_536;
 
-/// Where a template is declared.
+/// The place at which a template is declared.
 #[derive(Clone, Copy, Drop)]
 pub(crate) struct DeclaredAt {
     /// Its observation domain.

@@ -164,7 +164,7 @@ pub(crate) struct Sampled {
     pub(crate) value: u64,
 }
 
-/// What is doubtful in a stream's records, for the first 64 observation points and the first 20 templates.
+/// The doubtful content of a stream's records, for the first 64 observation points and the first 20 templates.
 #[derive(Drop)]
 pub(crate) struct Doubts {
     points: Vec<PointAmounts>,

@@ -4,7 +4,7 @@ use fx_explanation::number_in;
 use fx_layout::Part;
 use fx_wire::{FieldSpecifier, cut_value};
 
-/// Whether the records of a template have the report's key.
+/// The answer to whether the records of a template have the report's key.
 #[derive(Clone, Copy, Drop)]
 pub(crate) enum Reading {
     /// All do.
