@@ -8,7 +8,7 @@ use serde_json::Value;
 use std::alloc::Global;
 use std::process::Abort;
 
-/// What a document should describe.
+/// The kind of a document, by what it should describe.
 #[derive(Clone, Copy)]
 pub(crate) enum Kind {
     Device,
@@ -16,7 +16,7 @@ pub(crate) enum Kind {
     Traffic,
 }
 
-/// What the documents of a table have in common.
+/// The parts that all documents of a table have in common.
 #[derive(Clone, Copy)]
 pub(crate) struct Frame<'a> {
     pub(crate) kind: Kind,
