@@ -1,4 +1,4 @@
-//! What a running network does are steps of the abstract one.
+//! Conformance: what a running network does are steps of the abstract one.
 #![tactic(auto)]
 
 mod closing;
