@@ -11,8 +11,8 @@ ghost use Rattle.fx_sums.specs.Sums.{Sum, plus, plus_all, plus_totals, AreAlike,
 ghost use Rattle.fx_sums.specs.SumText.{noted_texts, IsNoted, HasShortLines};
 ghost use Rattle.fx_sums.specs.SumReading.{Rest, texts_up_to, sum_of_texts};
 
-/// What is collected apart and summed is what is collected together: at each key the total, and as many unassigned
-/// records. It doesn't matter in which order texts are added.
+/// States that the sum of what is collected apart is what is collected together: at each key the same total, and the
+/// same number of unassigned records. It doesn't matter in which order texts are added.
 pub fn sums_of_parts()
     ensures together { (layout : Layout) (a b : List Record) → IsLayout layout → HaveSameTotals
         (plus_totals (with_records (nothing layout) a) (with_records (nothing layout) b))
@@ -22,10 +22,10 @@ pub fn sums_of_parts()
         → AreAlike (plus_all s ts) (plus_all s us) }
 {}
 
-/// Texts of totals and notes under the keys of a sum's layout, which ascend, one behind another, are read as these and
-/// each added in turn, and what is read and added are such texts, one or more. No line of them has more than 4,096
-/// bytes. Others are refused for their form, or for a line that is too long. Texts are read one by one to the end: the
-/// number of lines, which bounds how many are read, is never met.
+/// States that texts of totals and notes under the keys of a sum's layout, in ascending order, one after another, are
+/// read as these and each added in turn, and that what is read and added are such texts, one or more. No line of them
+/// has more than 4,096 bytes. Others are refused for their form, or for a line that is too long. Texts are read one by
+/// one to the end: the number of lines, which bounds how many are read, is never reached.
 pub fn totals_texts()
     ensures read { (s t : Sum) (ts : List Sum) (n : ℕ) → IsLayout s.totals.layout
         → AllByRecursion (IsNoted s.totals.layout) (t ∷ ts) → HasShortLines (noted_texts (t ∷ ts))

@@ -1,20 +1,20 @@
-//! A line behind the totals of a text: a note, or the first line of the next text.
+//! A line after the totals of a text: a note, or the first line of the next text.
 ghost use Rattle.std.specs.Prelude.{◌≡◌};
 ghost use Rattle.fx_sums.specs.SumLines.{notes_or_keys, line_behind};
 
 use crate::note::read_number_line;
 use crate::notes::Notes;
 
-/// What a line behind notes says.
+/// The meaning of a line after notes.
 #[derive(Clone, Copy)]
 pub(crate) enum LineBehind {
-    /// One more: these are the notes with it.
+    /// One more note; these are the notes with it.
     Notes(Notes),
-    /// The next text begins, and has so many keys.
+    /// The first line of the next text, with its number of keys.
     Keys(u64),
 }
 
-/// The notes with that of a line which begins no text.
+/// Returns the notes with that of a line which doesn't begin a text.
 fn read_note_behind(notes: Notes, line: &[u8]) -> Option<LineBehind>
     ensures { result ≡ notes_or_keys notes line.now None }
 {
@@ -22,7 +22,7 @@ fn read_note_behind(notes: Notes, line: &[u8]) -> Option<LineBehind>
     Some(LineBehind::Notes(notes))
 }
 
-/// What a line behind these notes says. The next text may begin where they are whole.
+/// Returns the meaning of a line after these notes. The next text may begin only if they are whole.
 #[tactic(auto, unfolding(crate::specs::SumLines::line_behind))]
 pub(crate) fn read_line_behind(notes: Notes, line: &[u8]) -> Option<LineBehind>
     ensures { result ≡ line_behind notes line.now }

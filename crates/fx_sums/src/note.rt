@@ -1,16 +1,16 @@
-//! The line of a note that stands behind totals.
+//! The line of a note after totals.
 ghost use Rattle.std.specs.Prelude.{◌≡◌};
 ghost use Rattle.fx_sums.specs.SumLines.{last_number, number_behind, complete_of, frames_of, skipped_of, note_of_kind, note_of, word_first};
 
 use crate::notes::SkippedFrames;
 use fx_elements::{Words, is_word, read_u64};
 
-/// What a line behind totals notes.
+/// A note that a line after totals gives.
 #[derive(Clone, Copy)]
 pub(crate) enum Note {
     /// Whether a replayed run was complete.
     Complete(bool),
-    /// How many frames of a capture were left out.
+    /// The numbers of skipped frames of a capture.
     Frames(SkippedFrames),
     /// The number of gaps of a stream.
     Gaps(u64),
@@ -18,7 +18,7 @@ pub(crate) enum Note {
     Skipped(u64),
 }
 
-/// The words behind this one, where it is the first.
+/// Returns the words after this one, if it is the first.
 pub(crate) fn behind_word<'a>(words: Words<'a>, word: &[u8]) -> Option<Words<'a>>
     ensures { result ≡ word_first word.now words.entry }
 {
@@ -30,7 +30,7 @@ pub(crate) fn behind_word<'a>(words: Words<'a>, word: &[u8]) -> Option<Words<'a>
     }
 }
 
-/// The number that all of these words are.
+/// Returns the number if the words are exactly one number.
 pub(crate) fn read_last_number(words: Words<'_>) -> Option<u64>
     ensures { result ≡ last_number words.entry }
 {
@@ -38,7 +38,7 @@ pub(crate) fn read_last_number(words: Words<'_>) -> Option<u64>
     if words.is_empty() { Some(number) } else { None }
 }
 
-/// The number of a line that is this word and a number.
+/// Returns the number of a line that consists of this word and a number.
 #[tactic(auto, unfolding(crate::specs::SumLines::number_behind))]
 pub(crate) fn read_number_line(word: &[u8], line: &[u8]) -> Option<u64>
     ensures { result ≡ number_behind word.now line.now }
@@ -47,7 +47,7 @@ pub(crate) fn read_number_line(word: &[u8], line: &[u8]) -> Option<u64>
     read_last_number(words)
 }
 
-/// Whether a run was complete, behind the word that says so.
+/// Reads whether a run was complete, from the words after `complete`.
 #[tactic(auto, unfolding(crate::specs::SumLines::complete_of))]
 fn read_complete(words: Words<'_>) -> Option<Note>
     ensures { result ≡ complete_of words.entry }
@@ -62,7 +62,7 @@ fn read_complete(words: Words<'_>) -> Option<Note>
     }
 }
 
-/// The numbers of frames, behind `skipped other`.
+/// Reads the numbers of frames after `skipped other`.
 #[tactic(auto, unfolding(crate::specs::SumLines::frames_of))]
 fn read_frames(words: Words<'_>) -> Option<Note>
     ensures { result ≡ frames_of words.entry }
@@ -73,7 +73,7 @@ fn read_frames(words: Words<'_>) -> Option<Note>
     Some(Note::Frames(SkippedFrames { other, malformed }))
 }
 
-/// What was skipped: frames of a capture, or records of a stream.
+/// Reads what was skipped: frames of a capture, or records of a stream.
 #[tactic(auto, unfolding(crate::specs::SumLines::skipped_of))]
 fn read_skipped(words: Words<'_>) -> Option<Note>
     ensures { result ≡ skipped_of words.entry }
@@ -86,7 +86,7 @@ fn read_skipped(words: Words<'_>) -> Option<Note>
     rest.is_empty().then_some(Note::Skipped(number))
 }
 
-/// The note of this kind.
+/// Reads the note of this kind from the words after the kind.
 #[tactic(auto, unfolding(crate::specs::SumLines::note_of_kind))]
 fn read_kind(kind: &[u8], words: Words<'_>) -> Option<Note>
     ensures { result ≡ note_of_kind kind.now words.entry }
@@ -103,7 +103,7 @@ fn read_kind(kind: &[u8], words: Words<'_>) -> Option<Note>
     None
 }
 
-/// The note that a line says, if it says one.
+/// Returns the note that a line gives, if it gives one.
 #[tactic(auto, unfolding(crate::specs::SumLines::note_of))]
 pub(crate) fn read_note(line: &[u8]) -> Option<Note>
     ensures { result ≡ note_of line.now }

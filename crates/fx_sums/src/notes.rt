@@ -1,25 +1,25 @@
-//! What is noted beside totals.
+//! Notes that accompany totals.
 ghost use Rattle.std.specs.Prelude.{◌≡◌, ◌&&◌, Bool};
 ghost use Rattle.fx_sums.specs.Sums.{joined, no_notes, plus_numbers, plus_frames, plus_notes};
 ghost use Rattle.fx_sums.specs.SumLines.{notes_with, with_note, are_whole};
 
 use crate::note::{Note, read_note};
 
-/// How many frames of a capture were left out.
+/// The numbers of skipped frames of a capture.
 #[derive(Clone, Copy)]
 pub(crate) struct SkippedFrames {
-    /// Those that have no packet of IP.
+    /// Frames that have no IP packet.
     pub other: u64,
-    /// Those that are malformed.
+    /// Frames that are malformed.
     pub malformed: u64,
 }
 
-/// What is noted beside totals, each where its kind of totals was told.
+/// The notes that accompany totals, each present if its kind of totals was given.
 #[derive(Clone, Copy)]
 pub(crate) struct Notes {
     /// Whether all replayed runs were complete.
     pub complete: Option<bool>,
-    /// How many frames of captures were left out.
+    /// How many frames of captures were skipped.
     pub frames: Option<SkippedFrames>,
     /// The number of gaps of streams, modulo 2 to the 64.
     pub gaps: Option<u64>,
@@ -27,7 +27,7 @@ pub(crate) struct Notes {
     pub skipped: Option<u64>,
 }
 
-/// Both where both are there.
+/// Returns the conjunction if both are present, or the one that is.
 fn both(first: Option<bool>, second: Option<bool>) -> Option<bool>
     ensures { result ≡ joined (λ (a b : Bool). a && b) first second }
 {
@@ -40,7 +40,7 @@ fn both(first: Option<bool>, second: Option<bool>) -> Option<bool>
     }
 }
 
-/// The sum modulo 2 to the 64 where both are there.
+/// Returns the sum modulo 2 to the 64 if both are present, or the one that is.
 fn sum_of(first: Option<u64>, second: Option<u64>) -> Option<u64>
     ensures { result ≡ joined plus_numbers first second }
 {
@@ -53,7 +53,7 @@ fn sum_of(first: Option<u64>, second: Option<u64>) -> Option<u64>
     }
 }
 
-/// The sums modulo 2 to the 64 where both are there.
+/// Returns the sums modulo 2 to the 64 if both are present, or those that are.
 fn frames_of(first: Option<SkippedFrames>, second: Option<SkippedFrames>) -> Option<SkippedFrames>
     ensures { result ≡ joined plus_frames first second }
 {
@@ -70,7 +70,7 @@ fn frames_of(first: Option<SkippedFrames>, second: Option<SkippedFrames>) -> Opt
 }
 
 impl Notes {
-    /// Nothing is noted.
+    /// Creates notes without any note.
     pub(crate) fn new() -> Notes
         ensures { result ≡ no_notes }
     {
@@ -82,7 +82,7 @@ impl Notes {
         }
     }
 
-    /// The notes of both: complete where both are, and the sums of the numbers.
+    /// Returns the notes of both: complete if both are, and the sums of the numbers.
     pub(crate) fn plus(self, other: Notes) -> Notes
         ensures { result ≡ plus_notes self other }
     {
@@ -94,7 +94,7 @@ impl Notes {
         }
     }
 
-    /// The notes with one more, if it may stand behind these.
+    /// Returns the notes with one more, if it may follow these.
     fn with(self, note: Note) -> Option<Notes>
         ensures { result ≡ with_note self note }
     {
@@ -152,7 +152,7 @@ impl Notes {
         }
     }
 
-    /// The notes with that of a line, if it says one that may stand behind these.
+    /// Returns the notes with that of a line, if the line gives one that may follow these.
     #[tactic(auto, unfolding(crate::specs::SumLines::notes_with))]
     pub(crate) fn with_line(self, line: &[u8]) -> Option<Notes>
         ensures { result ≡ notes_with self line.now }
@@ -161,7 +161,7 @@ impl Notes {
         self.with(note)
     }
 
-    /// Whether gaps stand together with skipped records.
+    /// Returns whether a note of gaps is accompanied by one of skipped records.
     pub(crate) fn are_whole(self) -> bool
         ensures { result ≡ are_whole self }
     {

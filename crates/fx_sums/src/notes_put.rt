@@ -1,4 +1,4 @@
-//! Writing the lines of notes.
+//! Writing of the lines of notes.
 ghost use Rattle.std.specs.Prelude.{Some};
 ghost use Rattle.fx_base.specs.Device.{PutsText};
 ghost use Rattle.fx_sums.specs.SumText.{complete_text, frames_text, number_text, notes_text};
@@ -7,7 +7,7 @@ use crate::notes::{Notes, SkippedFrames};
 use fx_base::{Fault, Sink, put_number, put_text};
 use fx_collect::put_number_line;
 
-/// Writes whether runs were complete.
+/// Writes whether runs were complete, if it is noted.
 fn put_complete<S: Sink>(sink: &mut S, complete: Option<bool>) -> Result<(), Fault>
     ensures { PutsText S.taken S.failed (complete_text complete) sink.old sink.new result }
 {
@@ -27,7 +27,7 @@ fn put_skipped_frames<S: Sink>(sink: &mut S, frames: SkippedFrames) -> Result<()
     put_number_line(sink, b" malformed ", frames.malformed)
 }
 
-/// Writes the numbers of frames, where they are noted.
+/// Writes the numbers of frames, if they are noted.
 fn put_frames<S: Sink>(sink: &mut S, frames: Option<SkippedFrames>) -> Result<(), Fault>
     ensures { PutsText S.taken S.failed (frames_text frames) sink.old sink.new result }
 {
@@ -37,7 +37,7 @@ fn put_frames<S: Sink>(sink: &mut S, frames: Option<SkippedFrames>) -> Result<()
     }
 }
 
-/// Writes a line of a word and a number, where it is noted.
+/// Writes a line of a word and a number, if the number is noted.
 fn put_noted<S: Sink>(sink: &mut S, word: &[u8], number: Option<u64>) -> Result<(), Fault>
     ensures { PutsText S.taken S.failed (number_text word.now number) sink.old sink.new result }
 {

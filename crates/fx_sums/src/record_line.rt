@@ -1,4 +1,4 @@
-//! The line of a key and of what was counted under it.
+//! The line of a key and its counts.
 ghost use Rattle.std.specs.Prelude.{◌≡◌, ◌≢◌, ◌-◌, ◌≤◌, ◌<◌, ◌^◌, ℕ, true, IfSome, option_map, slice_index};
 ghost use Rattle.std.specs.List.{list_all};
 ghost use Rattle.fx_elements.specs.Axes.{axis_index, axis_width, field, tops};
@@ -14,7 +14,7 @@ use fx_elements::{AXES, Axis, Words, read_u64, read_written, split_at_byte, widt
 use fx_layout::{Key, Layout, Part};
 use fx_tables::Record;
 
-/// The value, if nothing stands in it behind its leading bits.
+/// Returns the value, if all bits after its leading bits are 0.
 fn begin_with(part: Part, value: u128) -> Option<u128>
     requires some { 0 < part.bits }
     requires fewer { part.bits ≤ axis_width part.axis }
@@ -24,7 +24,7 @@ fn begin_with(part: Part, value: u128) -> Option<u128>
     if value % size == 0 { Some(value) } else { None }
 }
 
-/// The first value with the leading bits of an address, their number behind a slash.
+/// Reads the first value with the leading bits of an address, whose number follows a slash.
 #[tactic(auto, unfolding(crate::specs::SumLines::prefix_start))]
 fn read_prefix_start(part: Part, word: &[u8]) -> Option<u128>
     requires some { 0 < part.bits }
@@ -42,7 +42,7 @@ fn read_prefix_start(part: Part, word: &[u8]) -> Option<u128>
     }
 }
 
-/// The first value with the leading bits that are written so.
+/// Reads the first value with the leading bits of the part from a word.
 fn read_start(part: Part, word: &[u8]) -> Option<u128>
     requires some { 0 < part.bits }
     requires fewer { part.bits ≤ axis_width part.axis }
@@ -56,7 +56,7 @@ fn read_start(part: Part, word: &[u8]) -> Option<u128>
     }
 }
 
-/// The fields with this value on the axis.
+/// Returns the fields with this value on the axis.
 fn with_value(fields: Fields, axis: Axis, value: u128) -> Fields
     requires { value ≤ slice_index tops (axis_index axis) }
     ensures at { field result axis ≡ value }
@@ -68,7 +68,7 @@ fn with_value(fields: Fields, axis: Axis, value: u128) -> Fields
     Fields::of(values)
 }
 
-/// Fields that have the values of these parts, which the first words are, and the words behind them.
+/// Reads the values of these parts from the first words; returns fields with these values, and the words after them.
 #[tactic(auto, unfolding(crate::specs::SumLines::values_first))]
 fn read_values<'a>(parts: &[Part], words: Words<'a>) -> Option<(Fields, Words<'a>)>
     requires stand { list_all keys.can_stand parts.now ≡ true }
@@ -87,7 +87,7 @@ fn read_values<'a>(parts: &[Part], words: Words<'a>) -> Option<(Fields, Words<'a
     }
 }
 
-/// The key that the first words are, and the words behind it.
+/// Reads the key from the first words; returns it and the words after it.
 fn read_key<'a>(layout: &Layout, words: Words<'a>) -> Option<(Key, Words<'a>)>
     ensures layout { IfSome result (λ r. r.0.layout ≡ layout.now) }
     ensures value { option_map (λ r. (r.0.values, r.1)) result ≡ key_first layout.now words.entry }
@@ -105,7 +105,7 @@ fn read_key<'a>(layout: &Layout, words: Words<'a>) -> Option<(Key, Words<'a>)>
     }
 }
 
-/// The counts that all of these words are.
+/// Returns the counts if the words are exactly those of counts.
 #[tactic(auto, unfolding(crate::specs::SumLines::counts_of))]
 fn read_counts(words: Words<'_>) -> Option<Counts>
     ensures { result ≡ counts_of words.entry }
@@ -117,7 +117,7 @@ fn read_counts(words: Words<'_>) -> Option<Counts>
     Some(Counts { packets, octets })
 }
 
-/// The record that a line says, if it says one.
+/// Returns the record that a line gives, if it gives one.
 #[tactic(auto, unfolding(crate::specs::SumLines::record_of))]
 fn read_record(layout: &Layout, line: &[u8]) -> Option<Record>
     ensures { result ≡ record_of layout.now line.now }
@@ -127,7 +127,7 @@ fn read_record(layout: &Layout, line: &[u8]) -> Option<Record>
     Some(Record { key, counts })
 }
 
-/// Whether the key comes behind the last one, if there is one.
+/// Returns whether the key follows the last one, if there is one.
 fn is_behind(last: &Option<Key>, key: &Key) -> bool
     ensures { result ≡ comes_behind (option_map (λ k. k.values) last.now) key.now.values }
 {
@@ -137,7 +137,7 @@ fn is_behind(last: &Option<Key>, key: &Key) -> bool
     }
 }
 
-/// The record that a line says, if it says one whose key comes behind the last one.
+/// Returns the record that a line gives, if it gives one whose key follows the last one.
 #[tactic(auto, unfolding(crate::specs::SumLines::record_behind))]
 pub(crate) fn read_record_behind(layout: &Layout, last: &Option<Key>, line: &[u8]) -> Option<Record>
     ensures { result ≡ record_behind layout.now (option_map (λ k. k.values) last.now) line.now }

@@ -16,8 +16,8 @@ use fx_layout::{Layout, Seed};
 use std::alloc::Global;
 use std::marker::Model;
 
-/// What totals of one report come to that were collected apart: the counts under each key, the unassigned records,
-/// and what was noted beside them.
+/// The sum of totals of one report that were collected apart: the counts under each key, the unassigned records, and
+/// the notes that accompany them.
 #[derive(Drop)]
 pub struct Sum {
     layout: Layout,
@@ -37,9 +37,9 @@ impl Model for Sum {
 }
 
 impl Sum {
-    /// The sum of nothing under the keys of this layout, which hashes keys by the seed.
+    /// Creates a sum of nothing under the keys of this layout, which hashes keys with the seed.
     ///
-    /// Fails with 900, at no place, for want of memory.
+    /// Fails with 900, at no place, if out of memory.
     pub fn new(alloc: Global, seed: Seed, layout: Layout) -> Result<Sum, Fault>
         ensures ok { IfOk result (λ sum. sum ≡ no_sum layout) }
         ensures err { IfErr result IsMemory }
@@ -52,8 +52,8 @@ impl Sum {
         })
     }
 
-    /// Adds a text, behind its first line, which says how many keys it has. Where another text comes, its first line
-    /// is read too, and how many keys it has is the answer.
+    /// Adds a text after its first line, which gives its number of keys. If another text follows, its first line is
+    /// read too, and its number of keys is returned.
     fn add_text<R: Source>(
         &mut self,
         lines: &mut LineReader<R>,
@@ -70,22 +70,22 @@ impl Sum {
         Ok(next)
     }
 
-    /// Adds the totals of texts, one or more, one directly behind another: the first begins with the next line, and
-    /// the last ends with the last line. Added are the counts key by key, the unassigned records and the numbers of
-    /// notes, each modulo 2 to the 64; the sum is complete where all texts that say so are. Each line is tallied as
+    /// Adds the totals of one or more texts, one directly after another: the first begins with the next line, and the
+    /// last ends with the last line. The counts are added key by key, as are the unassigned records and the numbers of
+    /// notes, each modulo 2 to the 64; the sum is complete if all texts with such a note are. Each line is tallied as
     /// it is read.
     ///
-    /// A text is a line `keys N`; N lines `KEY packets P octets O`, where KEY has the values of the layout's
-    /// parts in axis order with single spaces between them, as `Totals::put_report` of fx_collect writes them, or is
-    /// `all` for a layout without parts, and the keys ascend, none of them twice; a line `unassigned U`; and notes
-    /// in this order, each at most once: `complete yes` or `complete no` (of a replay), `skipped other A malformed
-    /// B` (of a run over a capture), `gaps G` and `skipped S` (of a stream, both or neither). Numbers are decimal
-    /// without leading zeros, below 2 to the 64. A line feed ends each line.
+    /// A text is a line `keys N`; N lines `KEY packets P octets O`, where KEY has the values of the layout's parts in
+    /// axis order with single spaces between them, as `Totals::put_report` of fx_collect writes them, or is `all` for a
+    /// layout without parts, and the keys strictly ascend; a line `unassigned U`; and notes in this order, each at most
+    /// once: `complete yes` or `complete no` (of a replay), `skipped other A malformed B` (of a run over a capture),
+    /// `gaps G` and `skipped S` (of a stream, both or neither). Numbers are decimal without leading zeros, below 2 to
+    /// the 64. A line feed ends each line.
     ///
-    /// Fails, at the first line where something is wrong, with 861 where the line isn't such a one or is missing, or
-    /// is neither a note nor the first line of another text; at line 1 where there is none. Fails as the reader of
-    /// lines does where that stands (901, 903), and with 900, at no place, for want of memory. After a fault the sum
-    /// is of no use.
+    /// Fails with 861, at the first line where something is wrong, if the line isn't as described or is missing, or is
+    /// neither a note nor the first line of another text; at line 1 if there are no lines. Fails as the reader of lines
+    /// does, at its place (901, 903), and with 900, at no place, if out of memory. After a fault the sum must not be
+    /// used.
     pub fn add_texts<R: Source>(&mut self, lines: &mut LineReader<R>) -> Result<(), Fault>
         ensures ok { OnOk result (MayGive (sum_of_texts self.old) lines.old (Ok self.new)) }
         ensures err { IfErr result (λ e. IsMemory e
@@ -100,9 +100,9 @@ impl Sum {
         }
     }
 
-    /// Puts the keys in order: by the first value that differs.
+    /// Sorts the keys by the first value that differs.
     ///
-    /// Fails with 900, at no place, for want of memory; the sum is as before then.
+    /// Fails with 900, at no place, if out of memory; the sum is unchanged then.
     pub fn sort(&mut self) -> Result<(), Fault>
         ensures sorted { OnOk result (KeysAscend self.new.totals.entries) }
         ensures same { OnOk result (IsPermutation self.old.totals.entries self.new.totals.entries) }
@@ -112,11 +112,11 @@ impl Sum {
         self.totals.sort()
     }
 
-    /// Writes the sum as a text of totals, which [`Sum::add_texts`] reads: the totals, and behind them a line for each
+    /// Writes the sum as a text of totals, which [`Sum::add_texts`] reads: the totals, followed by a line for each
     /// note.
     ///
-    /// The keys are to ascend, as after [`Sum::sort`]. Fails with 902, at no place, where a write fails; how much
-    /// the sink has taken then is open.
+    /// The keys must ascend, as they do after [`Sum::sort`]. Fails with 902, at no place, if a write fails; how much
+    /// the sink has taken then is unspecified.
     pub fn put_text<S: Sink>(&self, sink: &mut S) -> Result<(), Fault>
         requires { KeysAscend self.now.totals.entries }
         ensures ok { OnOk result (Writes (S.taken sink.old) (S.taken sink.new)

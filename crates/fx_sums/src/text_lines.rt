@@ -1,4 +1,4 @@
-//! Going from line to line of a text of totals.
+//! Reading of a text of totals line by line.
 ghost use Rattle.std.specs.Prelude.{◌≡◌, ◌⊎◌, ◌≤◌, ◌<◌, None, Some, Ok, Err, IfOk, IfErr, OnOk, option_map};
 ghost use Rattle.fx_base.specs.Fault.{IsMemory};
 ghost use Rattle.fx_base.specs.Lines.{GoesOnToLines, line_budget};
@@ -14,7 +14,7 @@ use fx_collect::Totals;
 use fx_layout::{Key, Layout};
 use fx_tables::Record;
 
-/// Goes on to the next line, which a line feed has to end, and answers whether there is one.
+/// Advances to the next line, which a line feed must end, and returns whether there is one.
 fn go_on_or_end<R: Source>(lines: &mut LineReader<R>) -> Result<bool, Fault>
     ensures { GoesOnOrEnds lines.old lines.new result }
 {
@@ -28,21 +28,21 @@ fn go_on_or_end<R: Source>(lines: &mut LineReader<R>) -> Result<bool, Fault>
     Ok(true)
 }
 
-/// What is refused where a line is missing behind the last one.
+/// Returns the fault for a missing line after the last one.
 fn missing_line<R: Source>(lines: &LineReader<R>) -> Fault
     ensures { result ≡ missing lines.now.number }
 {
     Fault::at_line(refusals::TOTALS_FORM, lines.number().saturating_add(1))
 }
 
-/// What is refused where the line doesn't say what it should.
+/// Returns the fault for a line of the wrong form.
 fn wrong_line<R: Source>(lines: &LineReader<R>) -> Fault
     ensures { result ≡ wrong lines.now.number }
 {
     Fault::at_line(refusals::TOTALS_FORM, lines.number())
 }
 
-/// Goes on to the next line, which has to be there.
+/// Advances to the next line, which must exist.
 fn go_on<R: Source>(lines: &mut LineReader<R>) -> Result<(), Fault>
     ensures ok { OnOk result (GoesOnToLine lines.old lines.new) }
     ensures err { IfErr result (Refuses next_line lines.old lines.new) }
@@ -53,7 +53,7 @@ fn go_on<R: Source>(lines: &mut LineReader<R>) -> Result<(), Fault>
     Ok(())
 }
 
-/// Reads the next line, which is this word and a number.
+/// Reads the next line, which must be this word and a number.
 pub(crate) fn read_number<R: Source>(lines: &mut LineReader<R>, word: &[u8]) -> Result<u64, Fault>
     ensures on { OnOk result (GoesOnToLine lines.old lines.new) }
     ensures ok { IfOk result (λ n.
@@ -67,7 +67,7 @@ pub(crate) fn read_number<R: Source>(lines: &mut LineReader<R>, word: &[u8]) -> 
     }
 }
 
-/// Reads the next line, which is that of a key behind the last one.
+/// Reads the next line, which must be that of a key after the last one.
 fn read_record<R: Source>(
     lines: &mut LineReader<R>,
     layout: &Layout,
@@ -86,7 +86,7 @@ fn read_record<R: Source>(
     }
 }
 
-/// Tallies so many records, each of which stands on a line, in the order of their keys.
+/// Tallies the given number of records, each on its own line, in the order of their keys.
 fn tally_records<R: Source>(
     totals: &mut Totals,
     layout: &Layout,
@@ -115,8 +115,8 @@ fn tally_records<R: Source>(
     Ok(())
 }
 
-/// Reads the totals of a text under the keys of this layout, behind the line that says how many there are, and adds
-/// them to these.
+/// Reads the totals of a text under the keys of this layout, after the line that gives their number, and adds them to
+/// `totals`.
 pub(crate) fn add_totals<R: Source>(
     totals: &mut Totals,
     layout: &Layout,
@@ -137,7 +137,7 @@ pub(crate) fn add_totals<R: Source>(
     Ok(())
 }
 
-/// Reads notes up to the end, or up to the first line of the next text, and answers how many keys that has.
+/// Reads notes up to the end, or up to the first line of the next text, and returns the number of keys of that text.
 pub(crate) fn read_notes<R: Source>(
     lines: &mut LineReader<R>,
 ) -> Result<(Notes, Option<u64>), Fault>
