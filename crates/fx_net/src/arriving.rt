@@ -1,4 +1,4 @@
-//! Records arrive at collecting processes.
+//! Arrival of records at collecting processes.
 ghost use Rattle.std.specs.Prelude.{◌≡◌, ◌≤◌, None, OnOk, IfErr, slice_get};
 ghost use Rattle.fx_base.specs.Fault.{IsMemory};
 ghost use Rattle.fx_base.specs.Entries.{now_of};
@@ -12,7 +12,7 @@ use fx_link::Link;
 use fx_tables::{Net, Process, Record};
 use std::alloc::Global;
 
-/// The collecting process to which the link at this place leads, if it is there.
+/// Returns the collecting process to which the link at this place leads, if there is such a link.
 fn process_behind(net: &Net, link: usize) -> Option<&Process>
     ensures { now_of result ≡ arriving.process_behind net.now link }
 {
@@ -22,7 +22,7 @@ fn process_behind(net: &Net, link: usize) -> Option<&Process>
     }
 }
 
-/// Whether the link at this place leads to the collecting process that tallies.
+/// Returns whether the link at this place leads to the collecting process that tallies.
 fn leads_to_report(net: &Net, link: usize) -> bool
     ensures { result ≡ arriving.leads_to_report net.now (slice_get net.now.links link) }
 {
@@ -32,7 +32,7 @@ fn leads_to_report(net: &Net, link: usize) -> bool
     }
 }
 
-/// The first record that the receiver of the link at this place has read leaves, if there is one.
+/// Removes and returns the first record that the receiver of the link at this place has read, if there is one.
 fn next_record(links: &mut Vec<Link>, link: usize) -> Option<Record>
     ensures { arriving.IsNext link links.old.items links.new.items result }
 {
@@ -42,7 +42,7 @@ fn next_record(links: &mut Vec<Link>, link: usize) -> Option<Record>
     }
 }
 
-/// How many octets of the link at this place wait to be carried, if it is there.
+/// Returns how many octets of the link at this place wait to be carried, if there is such a link.
 pub(crate) fn queue_length_of(links: &[Link], link: usize) -> Option<usize>
     ensures { result ≡ arriving.queued_at links.now link }
 {
@@ -50,7 +50,8 @@ pub(crate) fn queue_length_of(links: &[Link], link: usize) -> Option<usize>
     Some(link.queue_length())
 }
 
-/// So many octets of the link at this place reach its end, if it is there.
+/// Carries the given number of octets of the link at this place to its end, if there is such a link. Fails with 900, at
+/// no place, if out of memory.
 fn carry_on(links: &mut Vec<Link>, link: usize, count: usize) -> Result<(), Fault>
     requires { count ≤ arriving.queued_on (slice_get links.old.items link) }
     ensures ok { OnOk result (links.new.items
@@ -60,8 +61,8 @@ fn carry_on(links: &mut Vec<Link>, link: usize, count: usize) -> Result<(), Faul
     let Some(link) = links.get_mut(link) else {
         return Ok(());
     };
-    // The octets are those that were written for this link, which its receiver reads without a fault, so only memory can
-    // be wanting.
+    // The octets are those that were written for this link, which its receiver reads without a fault, so the only
+    // possible failure is being out of memory.
     match link.carry(count) {
         Ok(()) => Ok(()),
         Err(_fault) => Err(Fault::bare(refusals::WANT_OF_MEMORY)),
@@ -69,7 +70,7 @@ fn carry_on(links: &mut Vec<Link>, link: usize, count: usize) -> Result<(), Faul
 }
 
 impl Contents {
-    /// A record is tallied where its link leads to the report's process.
+    /// Tallies a record if its link leads to the report's process. Fails with 900, at no place, if out of memory.
     fn tally(&mut self, net: &Net, link: usize, flow: &Record) -> Result<(), Fault>
         ensures ok { OnOk result (self.new ≡ arriving.after_tally net.now link flow.now self.old) }
         ensures err { IfErr result IsMemory }
@@ -80,7 +81,8 @@ impl Contents {
         Ok(())
     }
 
-    /// A record arrives at the end of a link: it is tallied, sent on and taken in.
+    /// Handles a record that arrives at the end of a link: it is tallied, sent on and taken in. Fails with 900, at no
+    /// place, if out of memory.
     fn arrive(&mut self, alloc: Global, net: &Net, link: usize, flow: &Record) -> Result<(), Fault>
         ensures ok { OnOk result (self.new ≡ arriving.after_arrive net.now link flow.now self.old) }
         ensures err { IfErr result IsMemory }
@@ -94,7 +96,8 @@ impl Contents {
         self.take_in(alloc, net, takers, flow.counts)
     }
 
-    /// All records that the receiver of a link has read are handled, in order.
+    /// Handles all records that the receiver of a link has read, in order. Fails with 900, at no place, if out of
+    /// memory.
     fn handle(&mut self, alloc: Global, net: &Net, link: usize) -> Result<(), Fault>
         ensures ok { OnOk result (self.new ≡ arriving.after_handling net.now link self.old) }
         ensures err { IfErr result IsMemory }
@@ -105,10 +108,10 @@ impl Contents {
         Ok(())
     }
 
-    /// So many octets of the link at this place reach its end, and every record of a message that they complete is
-    /// handled at once, in order.
+    /// Carries the given number of octets of the link at this place to its end, and immediately handles every record of
+    /// the messages that they complete, in order.
     ///
-    /// Fails with 900, at no place, for want of memory.
+    /// Fails with 900, at no place, if out of memory.
     pub(crate) fn carry(
         &mut self,
         alloc: Global,

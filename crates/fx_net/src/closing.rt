@@ -1,4 +1,4 @@
-//! The closing phase: the rest of the capture is read, and all that is held is counted.
+//! The closing phase, in which the rest of the capture is read and everything that is held is counted.
 ghost use Rattle.std.specs.Prelude.{◌≡◌, ◌⊎◌, map, false, Some, None, OnOk, IfErr, slice_get};
 ghost use Rattle.std.specs.List.{flat_map};
 ghost use Rattle.fx_tables.specs.Network as network;
@@ -21,7 +21,7 @@ use fx_pcap::Capture;
 use fx_tables::{AggregationEntry, DeviceEntry, Net, Occurrence, Process};
 use std::alloc::Global;
 
-/// How many octets of the link at this place wait to be carried.
+/// Returns how many octets of the link at this place wait to be carried.
 fn queued_whole(links: &[Link], link: usize) -> usize
     ensures { result ≡ queued_on (slice_get links.now link) }
 {
@@ -31,7 +31,7 @@ fn queued_whole(links: &[Link], link: usize) -> usize
     }
 }
 
-/// Whether the link at this place leads to this collecting process.
+/// Returns whether the link at this place leads to this collecting process.
 fn leads_to(net: &Net, link: usize, process: usize) -> bool
     ensures { result ≡ doings.leads_to (slice_get net.now.links link) process }
 {
@@ -41,7 +41,7 @@ fn leads_to(net: &Net, link: usize, process: usize) -> bool
     }
 }
 
-/// The aggregations of the collecting process at this place.
+/// Returns the aggregations of the collecting process at this place.
 fn aggregations_of(net: &Net, process: usize) -> &[AggregationEntry]
     ensures { result.now ≡ network.aggregations_of (slice_get net.now.processes process) }
 {
@@ -52,7 +52,7 @@ fn aggregations_of(net: &Net, process: usize) -> &[AggregationEntry]
 }
 
 impl Contents {
-    /// All records of the holder at this place leave, the least key first, and are put on the links.
+    /// Lets all records of the holder at this place leave, the least key first, and puts them on the links.
     fn empty_out<L: Links>(&mut self, net: &Net, place: usize, links: &mut L) -> Result<(), Fault>
         ensures ok { OnOk result (doings.Ended (doings.Empties net.now place)
             (L.put_on links.old) self.old (L.put_on links.new) self.new) }
@@ -63,7 +63,7 @@ impl Contents {
         self.finish(links)
     }
 
-    /// The holders at these places are emptied one after another, and what leaves each is put on the links.
+    /// Empties the holders at these places one after another, and puts what leaves each on the links.
     fn empty_all<L: Links>(
         &mut self,
         net: &Net,
@@ -81,7 +81,7 @@ impl Contents {
         Ok(())
     }
 
-    /// The caches of these devices are emptied in order, and what leaves each is put on the links.
+    /// Empties the caches of these devices in order, and puts what leaves each on the links.
     fn empty_caches<L: Links>(
         &mut self,
         net: &Net,
@@ -100,7 +100,7 @@ impl Contents {
         Ok(())
     }
 
-    /// These aggregations are emptied in order, and what leaves each is put on the links.
+    /// Empties these aggregations in order, and puts what leaves each on the links.
     fn empty_aggregations<L: Links>(
         &mut self,
         net: &Net,
@@ -119,8 +119,8 @@ impl Contents {
         Ok(())
     }
 
-    /// All octets of the link at this place reach its end, and what the records that they complete send is put on the
-    /// links.
+    /// Carries all octets of the link at this place to its end, and puts what is sent for the records that they
+    /// complete on the links.
     fn carry_out<L: Links>(
         &mut self,
         alloc: Global,
@@ -138,7 +138,7 @@ impl Contents {
         self.finish(links)
     }
 
-    /// The link at this place is carried whole, where it leads to this collecting process.
+    /// Carries all octets of the link at this place, if it leads to this collecting process.
     fn carry_into<L: Links>(
         &mut self,
         alloc: Global,
@@ -159,7 +159,7 @@ impl Contents {
         Ok(())
     }
 
-    /// The links into a collecting process are carried whole, in order.
+    /// Carries all octets of the links into a collecting process, in order.
     fn carry_all_into<L: Links>(
         &mut self,
         alloc: Global,
@@ -179,7 +179,7 @@ impl Contents {
         Ok(())
     }
 
-    /// The links into a collecting process are carried whole, in order, and then its aggregations are emptied.
+    /// Carries all octets of the links into a collecting process, in order, and then empties its aggregations.
     fn finish_process<L: Links>(
         &mut self,
         alloc: Global,
@@ -197,7 +197,7 @@ impl Contents {
         Ok(())
     }
 
-    /// These collecting processes are finished one after another: the links into each, and then its aggregations.
+    /// Finishes these collecting processes one after another: first the links into each, and then its aggregations.
     fn finish_processes<L: Links>(
         &mut self,
         alloc: Global,
@@ -216,7 +216,7 @@ impl Contents {
         Ok(())
     }
 
-    /// All caches are emptied in document order, and then the collecting processes are finished in this order.
+    /// Empties all caches in document order, and then finishes the collecting processes in the given order.
     fn empty_network<L: Links>(
         &mut self,
         alloc: Global,
@@ -236,8 +236,8 @@ impl Contents {
 }
 
 impl<'a> Network<'a> {
-    /// A frame's packet, of the first class that holds it and with that class's first path, makes all its crossings, and
-    /// what is sent is put on the links.
+    /// Meters a frame's packet, of the first class that holds it and with that class's first path, at all its
+    /// crossings, and puts what is sent on the links.
     fn read_one<R: Source, L: Links>(
         &mut self,
         capture: &Capture<R>,
@@ -260,7 +260,7 @@ impl<'a> Network<'a> {
         Ok(())
     }
 
-    /// The remaining packets are read, one after another.
+    /// Reads the remaining packets, one after another.
     fn read_rest<R: Source, L: Links>(
         &mut self,
         capture: &mut Capture<R>,
@@ -280,7 +280,7 @@ impl<'a> Network<'a> {
         Ok(())
     }
 
-    /// The closing phase is gone through, whatever was answered before.
+    /// Goes through the closing phase, whatever was returned before.
     fn try_close<R: Source, L: Links>(
         &mut self,
         capture: &mut Capture<R>,
@@ -301,11 +301,11 @@ impl<'a> Network<'a> {
     }
 
     /// Goes through the closing phase: the remaining packets are read as by `next`; every cache is emptied, in document
-    /// order, the least key first; then, collecting process by collecting process in the order of ranks, the links into it
-    /// are carried whole, in order, and its aggregations are emptied.
+    /// order, the least key first; then, for each collecting process in the order of ranks, all octets of the links
+    /// into it are carried, in order, and its aggregations are emptied.
     ///
-    /// Fails with 804, at no place, if no class holds a packet, and as the capture does; with 902 if the links fail
-    /// and with 900 if memory runs out. From then on each call repeats the fault and changes nothing.
+    /// Fails with 804, at no place, if no class holds a packet, and as the capture does; with 902 if the links fail and
+    /// with 900 if out of memory. From then on each call returns the same fault and changes nothing.
     pub fn close<R: Source, L: Links>(
         &mut self,
         capture: &mut Capture<R>,

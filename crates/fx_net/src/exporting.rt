@@ -1,4 +1,4 @@
-//! Exporting processes send records.
+//! Sending of records by exporting processes.
 ghost use Rattle.std.specs.Prelude.{◌≡◌, OnOk, IfErr};
 ghost use Rattle.fx_base.specs.Fault.{IsMemory};
 ghost use Rattle.fx_base.specs.declared.fault.Place.TheVariants as places;
@@ -12,10 +12,10 @@ use fx_base::{Fault, refusals};
 use fx_link::Link;
 use fx_tables::{Exporter, Net, Record};
 
-/// A record waits on the link at this place for its message, if the link is there.
+/// Adds a record to those waiting for their message on the link at this place, if there is such a link.
 ///
-/// Fails with 900, at no place, for want of memory or of template ids: a link has 65,280 of them, and a network at most 64
-/// layouts.
+/// Fails with 900, at no place, if out of memory or out of template ids: a link has 65,280 of them, and a network at
+/// most 64 layouts.
 fn put(links: &mut Vec<Link>, link: usize, time: u32, flow: &Record) -> Result<(), Fault>
     ensures ok { OnOk result (links.new.items
         ≡ contents.with_changed (exporting.with_waiting time flow.now) links.old.items link) }
@@ -31,7 +31,7 @@ fn put(links: &mut Vec<Link>, link: usize, time: u32, flow: &Record) -> Result<(
     Ok(())
 }
 
-/// A record is sent to a destination; without a link it leaves the network.
+/// Sends a record to a destination; without a link it leaves the network.
 fn put_to(
     links: &mut Vec<Link>,
     destination: Option<usize>,
@@ -48,7 +48,7 @@ fn put_to(
     }
 }
 
-/// A record is sent to all these destinations.
+/// Sends a record to all these destinations.
 fn put_to_all(
     links: &mut Vec<Link>,
     destinations: &[Option<usize>],
@@ -65,7 +65,7 @@ fn put_to_all(
     Ok(())
 }
 
-/// A record is sent to the destination of this number, from 1, if it is there.
+/// Sends a record to the destination of this 1-based number, if there is one.
 fn put_to_one(
     links: &mut Vec<Link>,
     destinations: &[Option<usize>],
@@ -87,7 +87,7 @@ fn put_to_one(
     }
 }
 
-/// An exporting process sends a record: to all its destinations, or to the one of this number.
+/// Sends a record from an exporting process: to all its destinations, or to the one of this number.
 fn export(
     links: &mut Vec<Link>,
     exporter: &Exporter,
@@ -107,7 +107,7 @@ fn export(
     }
 }
 
-/// The number of the destination that the exporting process at this place uses.
+/// Returns the number of the destination that the exporting process at this place uses, 0 if there is no such process.
 fn number_in_use(chosen: &[u64], place: usize) -> u64
     ensures { result ≡ in_use.number_in_use chosen.now place }
 {
@@ -117,7 +117,7 @@ fn number_in_use(chosen: &[u64], place: usize) -> u64
     }
 }
 
-/// The exporting process at this place sends a record, if it is there.
+/// Sends a record from the exporting process at this place, if there is one.
 fn export_at(
     links: &mut Vec<Link>,
     net: &Net,
@@ -137,7 +137,7 @@ fn export_at(
     }
 }
 
-/// The exporting processes at these places send a record, one after another.
+/// Sends a record from the exporting processes at these places, one after another.
 fn export_all(
     links: &mut Vec<Link>,
     net: &Net,
@@ -158,9 +158,9 @@ fn export_all(
 }
 
 impl Contents {
-    /// The exporting processes at these places send a record, one after another.
+    /// Sends a record from the exporting processes at these places, one after another.
     ///
-    /// Fails with 900, at no place, for want of memory.
+    /// Fails with 900, at no place, if out of memory.
     pub(crate) fn send(
         &mut self,
         net: &Net,

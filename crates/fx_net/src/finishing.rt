@@ -1,4 +1,4 @@
-//! What waits on links is put out.
+//! Writing of the messages for records that wait on links.
 ghost use Rattle.std.specs.Prelude.{◌≡◌, ◌⊎◌, map, OnOk, IfErr};
 ghost use Rattle.fx_base.specs.Fault.{IsMemory};
 ghost use Rattle.fx_link.specs.Ongoing as ongoing;
@@ -9,7 +9,7 @@ use crate::contents::Contents;
 use fx_base::Fault;
 use fx_link::{Link, Links};
 
-/// All records that wait on these links have their messages, which are put out, link by link.
+/// Writes the messages of all records that wait on these links, and puts them on the links, one link after another.
 fn finish_all<L: Links>(lines: &mut Vec<Link>, time: u32, links: &mut L) -> Result<(), Fault>
     ensures ok { OnOk result (lines.new.items ≡ map (ongoing.after_finish time) lines.old.items) }
     ensures put { OnOk result (finishing.PutsAll (L.put_on links.old) (L.put_on links.new) time
@@ -26,9 +26,9 @@ fn finish_all<L: Links>(lines: &mut Vec<Link>, time: u32, links: &mut L) -> Resu
 }
 
 impl Contents {
-    /// All records that wait on links have their messages, which are put out, link by link.
+    /// Writes the messages of all records that wait on links, and puts them on the links, one link after another.
     ///
-    /// Fails with 900, at no place, for want of memory, and as the links' octets are put out.
+    /// Fails with 900, at no place, if out of memory, and with the fault of putting octets on a link.
     pub(crate) fn finish<L: Links>(&mut self, links: &mut L) -> Result<(), Fault>
         ensures ok { OnOk result (self.new ≡ finishing.after_finishing self.old) }
         ensures put { OnOk result (finishing.PutsAll (L.put_on links.old) (L.put_on links.new)

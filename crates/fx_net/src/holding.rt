@@ -7,7 +7,7 @@ ghost use Rattle.fx_net.specs.Leaving as leaving;
 use crate::store::HolderStore;
 use fx_store::FlowStore;
 
-/// The store of the holder at this place, and none where it is an immediate cache.
+/// Returns the store of the holder at this place, `None` if it is an immediate cache.
 fn store_at(stores: &[Option<HolderStore>], place: usize) -> Option<&HolderStore>
     ensures { now_of result ≡ contents.stored_at stores.now place }
 {
@@ -17,14 +17,14 @@ fn store_at(stores: &[Option<HolderStore>], place: usize) -> Option<&HolderStore
     }
 }
 
-/// Whether the holder at this place is an immediate cache, which holds nothing.
+/// Returns whether the holder at this place is an immediate cache, which holds nothing.
 pub(crate) fn is_immediate(stores: &[Option<HolderStore>], place: usize) -> bool
     ensures { result ≡ contents.is_immediate (contents.stored_at stores.now place) }
 {
     store_at(stores, place).is_none()
 }
 
-/// How many records the holder at this place has.
+/// Returns how many records the holder at this place has.
 pub(crate) fn count_at(stores: &[Option<HolderStore>], place: usize) -> usize
     ensures { result ≡ leaving.count_of (contents.stored_at stores.now place) }
 {

@@ -1,4 +1,4 @@
-//! Records leave caches and aggregations.
+//! Departure of records from caches and aggregations.
 ghost use Rattle.std.specs.Prelude.{◌≡◌, is_some, OnOk, IfOk, IfErr};
 ghost use Rattle.fx_base.specs.Fault.{IsMemory};
 ghost use Rattle.fx_net.specs.Contents as contents;
@@ -12,14 +12,14 @@ use fx_layout::Key;
 use fx_store::FlowStore;
 use fx_tables::{Net, Record};
 
-/// A record that leaves the holder at a place of the network's table.
+/// A record that leaves the holder at a 0-based place of the network's table.
 #[derive(Drop)]
 pub(crate) struct Leaver {
     pub(crate) holder: usize,
     pub(crate) flow: Record,
 }
 
-/// The entry of the least key of the holder at this place is taken out of its store, if there is one.
+/// Removes and returns the entry of the least key of the holder at this place, if there is one.
 fn take_least(stores: &mut Vec<Option<HolderStore>>, place: usize) -> Option<(Key, Counts)>
     ensures value { result ≡ leaving.least_of (contents.stored_at stores.old.items place) }
     ensures rest { stores.new.items ≡ leaving.without_least stores.old.items place }
@@ -34,9 +34,9 @@ fn take_least(stores: &mut Vec<Option<HolderStore>>, place: usize) -> Option<(Ke
 }
 
 impl Contents {
-    /// The exporting processes that its holder names send a record.
+    /// Sends a record from the exporting processes that its holder names.
     ///
-    /// Fails with 900, at no place, for want of memory.
+    /// Fails with 900, at no place, if out of memory.
     pub(crate) fn leave(&mut self, net: &Net, leaver: &Leaver) -> Result<(), Fault>
         ensures ok { OnOk result (self.new ≡ leaving.after_leave net.now leaver.now self.old) }
         ensures err { IfErr result IsMemory }
@@ -44,9 +44,9 @@ impl Contents {
         self.send(net, net.named_by(leaver.holder), &leaver.flow)
     }
 
-    /// One record leaves after another.
+    /// Sends several leaving records, one after another.
     ///
-    /// Fails with 900, at no place, for want of memory.
+    /// Fails with 900, at no place, if out of memory.
     pub(crate) fn leave_all(&mut self, net: &Net, leavers: &[Leaver]) -> Result<(), Fault>
         ensures ok { OnOk result (self.new ≡ leaving.after_leaves net.now leavers.now self.old) }
         ensures err { IfErr result IsMemory }
@@ -57,9 +57,9 @@ impl Contents {
         Ok(())
     }
 
-    /// The record of the least key of the holder at this place leaves, and whether there was one.
+    /// Lets the record of the least key of the holder at this place leave, and returns whether there was one.
     ///
-    /// Fails with 900, at no place, for want of memory.
+    /// Fails with 900, at no place, if out of memory.
     pub(crate) fn expire_least(&mut self, net: &Net, place: usize) -> Result<bool, Fault>
         ensures ok { OnOk result (self.new ≡ leaving.after_least net.now place self.old) }
         ensures there { IfOk result (λ there. there ≡ is_some (leaving.least_at self.old place)) }
@@ -76,9 +76,9 @@ impl Contents {
         Ok(true)
     }
 
-    /// All records of the holder at this place leave, the least key first.
+    /// Lets all records of the holder at this place leave, the least key first.
     ///
-    /// Fails with 900, at no place, for want of memory.
+    /// Fails with 900, at no place, if out of memory.
     pub(crate) fn empty(&mut self, net: &Net, place: usize) -> Result<(), Fault>
         ensures ok { OnOk result (self.new ≡ leaving.after_emptying net.now place self.old) }
         ensures err { IfErr result IsMemory }

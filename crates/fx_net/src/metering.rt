@@ -1,4 +1,4 @@
-//! Packets are metered where they cross interfaces.
+//! Metering of packets where they cross interfaces.
 ghost use Rattle.std.specs.Prelude.{◌≡◌, OnOk, IfErr};
 ghost use Rattle.fx_base.specs.Fault.{IsMemory};
 ghost use Rattle.fx_runs.specs.Making.{intakes_at};
@@ -12,8 +12,8 @@ use fx_tables::{Crossing, Net, Occurrence};
 use std::alloc::Global;
 
 impl Contents {
-    /// A packet crosses an interface: each cache that meters it there takes its counts in. The list is used for where it is
-    /// metered; what it has before is of no account.
+    /// Meters a packet that crosses an interface: each cache that meters it there takes its counts in. The list `met`
+    /// is used for the places where it is metered; its previous contents don't matter.
     fn cross(
         &mut self,
         alloc: Global,
@@ -33,10 +33,10 @@ impl Contents {
         self.meet(alloc, net, met.as_slice(), fields, counts)
     }
 
-    /// A packet makes all crossings of a path, in order. The list is used for where it is metered, so that no packet
-    /// asks for memory of its own.
+    /// Meters a packet at all crossings of a path, in order. The list `met` is used for the places where it is metered,
+    /// so that no packet needs memory of its own.
     ///
-    /// Fails with 900, at no place, for want of memory.
+    /// Fails with 900, at no place, if out of memory.
     pub(crate) fn cross_all(
         &mut self,
         alloc: Global,

@@ -1,4 +1,4 @@
-//! A running network: what the lines of a schedule do in it.
+//! A running network, and what the lines of a schedule do in it.
 ghost use Rattle.std.specs.Prelude.{◌≡◌, ◌<◌, ◌^◌, true, false, position, None, IfOk, IfErr, OnOk};
 ghost use Rattle.fx_base.specs.Fault.{IsMemory};
 ghost use Rattle.fx_base.specs.Refusals.{want_of_memory};
@@ -25,8 +25,8 @@ use fx_traffic::Traffic;
 use std::alloc::Global;
 use std::marker::Model;
 
-/// A network that runs: it meters the packets of a capture, exports what it has metered in IPFIX messages on its links,
-/// mediates and totals them. It borrows what the network and its traffic are declared to be.
+/// A running network: it meters the packets of a capture, exports what it has metered in IPFIX messages on its links,
+/// mediates and totals them. It borrows the declarations of the network and its traffic.
 #[derive(Drop)]
 pub struct Network<'a> {
     pub(crate) alloc: Global,
@@ -54,20 +54,20 @@ impl<'a> Model for Network<'a> {
     } };
 }
 
-/// The place of the first class that holds these fields, from 0.
+/// Returns the 0-based place of the first class that holds these fields.
 fn class_place(classes: &[Class], fields: &Fields) -> Option<usize>
     ensures { result ≡ position (λ (c : traffic.Class). holds c.region fields.now) classes.now }
 {
     classes.iter().position(|class| class.holds(fields))
 }
 
-/// The packet of a frame, of this class and with this path.
+/// Returns the packet of a frame, of this class and with this path.
 fn packet_of(frame: &Frame<'_>, class: u64, path: u64) -> Packet
     ensures packet { result ≡ running.packet_of (captures.seen_of frame.now) class path }
     ensures frame { doings.IsFrame (running.packet_of (captures.seen_of frame.now) class path)
         (captures.seen_of frame.now) }
 {
-    // For the prover alone: each value stands within its axis.
+    // This gives the prover that each value is within the bounds of its axis.
     let _first = frame.fields.value_at(0);
     Packet {
         fields: frame.fields,
@@ -78,9 +78,9 @@ fn packet_of(frame: &Frame<'_>, class: u64, path: u64) -> Packet
 }
 
 impl<'a> Network<'a> {
-    /// The network before anything is read. Its stores and totals hash keys by the seed.
+    /// Creates the network before anything is read. Its stores and totals hash keys with the seed.
     ///
-    /// Fails with 900, at no place, for want of memory.
+    /// Fails with 900, at no place, if out of memory.
     pub fn open(
         alloc: Global,
         seed: Seed,
@@ -104,8 +104,8 @@ impl<'a> Network<'a> {
         })
     }
 
-    /// A packet of a frame, of this class and with this path, makes all its crossings. The list is used for where it is
-    /// metered.
+    /// Meters the packet of a frame, of this class and with this path, at all its crossings. The list `met` is used for
+    /// the places where it is metered. Fails with 900, at no place, if out of memory.
     pub(crate) fn meter(
         &mut self,
         frame: &Frame<'_>,
@@ -136,9 +136,9 @@ impl<'a> Network<'a> {
         Ok(())
     }
 
-    /// The packet of the frame that a capture is at makes all its crossings, where a class holds it: it is of the first
-    /// such class, and takes that class's first path. Answers whether there is one. The list is used for where it is
-    /// metered.
+    /// Meters the packet of the current frame of a capture at all its crossings, if a class holds it: it is of the
+    /// first such class, and takes that class's first path. Returns whether there is such a class. The list `met` is
+    /// used for the places where it is metered. Fails with 900, at no place, if out of memory.
     pub(crate) fn meter_first<R: Source>(
         &mut self,
         capture: &Capture<R>,
@@ -162,7 +162,7 @@ impl<'a> Network<'a> {
         Ok(true)
     }
 
-    /// What the collector has counted so far.
+    /// Returns what the collector has counted so far.
     pub fn totals(&self) -> &Totals
         ensures { result.now ≡ self.now.contents.totals }
     {

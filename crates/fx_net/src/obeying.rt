@@ -1,4 +1,4 @@
-//! The lines of a schedule are obeyed.
+//! Execution of the lines of a schedule.
 ghost use Rattle.std.specs.Prelude.{◌≡◌, ◌⊎◌, false, Some, None, OnOk, IfErr};
 ghost use Rattle.fx_pcap.specs.Captures as captures;
 ghost use Rattle.fx_plan.specs.Tables.{net_of};
@@ -21,7 +21,7 @@ use fx_link::Links;
 use fx_pcap::Capture;
 use fx_tables::{Class, HolderName, Occurrence};
 
-/// Whether there is a path of this number, from 1, in a class that holds these fields.
+/// Returns whether a class holds these fields and has a path of this 1-based number.
 fn has_path(class: &Class, fields: &Fields, path: u64) -> bool
     ensures { result ≡ running.is_in_class (Some class.now) fields.now path }
 {
@@ -31,7 +31,7 @@ fn has_path(class: &Class, fields: &Fields, path: u64) -> bool
     }
 }
 
-/// Whether there are a class of this number, from 1, that holds these fields and a path of this number in it.
+/// Returns whether a class of this 1-based number holds these fields and has a path of this number.
 fn is_in(classes: &[Class], fields: &Fields, class: u64, path: u64) -> bool
     ensures { result ≡ running.is_in classes.now fields.now class path }
 {
@@ -41,7 +41,7 @@ fn is_in(classes: &[Class], fields: &Fields, class: u64, path: u64) -> bool
     }
 }
 
-/// The exporting process at this place uses this destination from now on.
+/// Makes the exporting process at this place use this destination from now on.
 fn choose(chosen: &mut Vec<u64>, place: usize, destination: u64)
     ensures { chosen.new.items ≡ with_changed (λ _. destination) chosen.old.items place }
 {
@@ -51,7 +51,7 @@ fn choose(chosen: &mut Vec<u64>, place: usize, destination: u64)
 }
 
 impl<'a> Network<'a> {
-    /// The next packet is read. It is of the first class that holds it, and takes that class's first path.
+    /// Reads the next packet. It is of the first class that holds it, and takes that class's first path.
     fn read_next<R: Source>(&mut self, capture: &mut Capture<R>, line: u64) -> Result<(), Stop>
         ensures ok { OnOk result (captures.AtFrame capture.old capture.new
             × doings.ReadsFrame (net_of self.old.network) self.old.classes action.Next
@@ -78,7 +78,7 @@ impl<'a> Network<'a> {
         Ok(())
     }
 
-    /// The next packet is read. It is of this class, and takes this path of the class.
+    /// Reads the next packet. It is of this class, and takes this path of the class.
     fn read_of<R: Source>(
         &mut self,
         capture: &mut Capture<R>,
@@ -118,7 +118,7 @@ impl<'a> Network<'a> {
         self.meter(&frame, class, path, &mut met)
     }
 
-    /// The record of the least key leaves a holder.
+    /// Lets the record of the least key leave a holder.
     fn expire(&mut self, name: HolderName, line: u64) -> Result<(), Stop>
         ensures ok { OnOk result (doings.LeastLeaves (net_of self.old.network) name
             self.old.contents self.new.contents) }
@@ -142,7 +142,7 @@ impl<'a> Network<'a> {
         Ok(())
     }
 
-    /// So many octets of a link reach its end, and the records that they complete are handled.
+    /// Carries the given number of octets of a link to its end, and handles the records that they complete.
     fn carry(&mut self, link: u64, octets: u64, line: u64) -> Result<(), Stop>
         ensures ok { OnOk result (doings.CarriesOn (net_of self.old.network) link octets
             self.old.contents self.new.contents) }
@@ -177,7 +177,7 @@ impl<'a> Network<'a> {
         Ok(())
     }
 
-    /// An exporting process sends to this destination from now on.
+    /// Makes an exporting process send to this destination from now on.
     fn use_destination(
         &mut self,
         device: u64,
@@ -220,7 +220,7 @@ impl<'a> Network<'a> {
         Ok(())
     }
 
-    /// What a line asks for is done.
+    /// Does what a line asks for.
     fn act<R: Source>(
         &mut self,
         asked: Action,
@@ -259,7 +259,7 @@ impl<'a> Network<'a> {
         }
     }
 
-    /// Obeys a line, whatever was answered before.
+    /// Obeys a line, whatever was returned before.
     fn try_line<R: Source, L: Links>(
         &mut self,
         line: &Line<'_>,
@@ -292,15 +292,15 @@ impl<'a> Network<'a> {
 
     /// Does what a line of the schedule asks for, and puts what it sends on the links.
     ///
-    /// A line is `next` or `next CLASS PATH`, `expire DEVICE CACHE`, `emit DEVICE PROCESS AGGREGATION`, `carry LINK OCTETS`
-    /// or `use DEVICE EXPORTER DESTINATION`; numbers count from 1, in document order.
+    /// A line is `next` or `next CLASS PATH`, `expire DEVICE CACHE`, `emit DEVICE PROCESS AGGREGATION`,
+    /// `carry LINK OCTETS` or `use DEVICE EXPORTER DESTINATION`; numbers are 1-based, in document order.
     ///
     /// Fails, at the line, with 801 if it is none of these; with 802 if a number names nothing, the holder holds
-    /// nothing, fewer octets wait on the link or no packet is left; with 803 if the packet isn't in the class or the
-    /// class doesn't have the path, and with 804 if no class holds it. Fails as the capture does if a packet is read, with
-    /// 902 if the links fail and with 900 if memory runs out. A line that fails puts nothing on the links, except
-    /// possibly with 900 or 902, and moves the capture only if it reads a packet. From then on each call repeats the
-    /// fault and changes nothing.
+    /// nothing, fewer octets wait on the link or there are no more packets; with 803 if the packet isn't in the class
+    /// or the class doesn't have the path, and with 804 if no class holds it. Fails as the capture does if a packet is
+    /// read, with 902 if the links fail and with 900 if out of memory. A line that fails puts nothing on the links,
+    /// except possibly with 900 or 902, and moves the capture only if it reads a packet. From then on each call returns
+    /// the same fault and changes nothing.
     pub fn obey<R: Source, L: Links>(
         &mut self,
         line: &Line<'_>,

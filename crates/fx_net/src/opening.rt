@@ -1,4 +1,4 @@
-//! A running network before anything is read.
+//! Opening of a running network, before anything is read.
 ghost use Rattle.std.specs.Prelude.{◌≡◌, ◌++◌, map, IfOk, IfErr, OnOk};
 ghost use Rattle.std.specs.List.{flat_map};
 ghost use Rattle.fx_base.specs.Fault.{IsMemory};
@@ -17,7 +17,7 @@ use fx_tables::{Exporter, Holder, Net};
 use fx_topology::{NetworkDevice, NetworkDocument};
 use std::alloc::Global;
 
-/// The store of a cache, and none where it is immediate.
+/// Returns the store of a cache, `None` if it is immediate. Fails with 900, at no place, if out of memory.
 fn store_of(alloc: Global, seed: Seed, cache: &Cache) -> Result<Option<HolderStore>, Fault>
     ensures ok { IfOk result (λ store. store ≡ opening.store_of cache.now) }
     ensures err { IfErr result IsMemory }
@@ -28,7 +28,7 @@ fn store_of(alloc: Global, seed: Seed, cache: &Cache) -> Result<Option<HolderSto
     Ok(Some(HolderStore::new(alloc, seed, cache.max_flows)?))
 }
 
-/// The stores of these caches come last.
+/// Appends the stores of these caches. Fails with 900, at no place, if out of memory.
 fn push_caches(
     alloc: Global,
     seed: Seed,
@@ -45,7 +45,7 @@ fn push_caches(
     Ok(())
 }
 
-/// The stores of the caches of all devices.
+/// Returns the stores of the caches of all devices. Fails with 900, at no place, if out of memory.
 fn cache_stores(
     alloc: Global,
     seed: Seed,
@@ -62,7 +62,7 @@ fn cache_stores(
     Ok(stores)
 }
 
-/// A store without a bound comes last for each of these aggregations.
+/// Appends a store without a bound for each of these aggregations. Fails with 900, at no place, if out of memory.
 fn push_aggregations(
     alloc: Global,
     seed: Seed,
@@ -79,7 +79,8 @@ fn push_aggregations(
     Ok(())
 }
 
-/// The stores of all caches, and behind them of all aggregations.
+/// Returns the stores of all caches, followed by those of all aggregations. Fails with 900, at no place, if out of
+/// memory.
 fn stores_of(alloc: Global, seed: Seed, plan: &Plan) -> Result<Vec<Option<HolderStore>>, Fault>
     ensures ok { IfOk result (λ stores. stores.items ≡ opening.stores_of plan.now) }
     ensures err { IfErr result IsMemory }
@@ -91,7 +92,7 @@ fn stores_of(alloc: Global, seed: Seed, plan: &Plan) -> Result<Vec<Option<Holder
     Ok(stores)
 }
 
-/// A link that nothing was put on for each of these.
+/// Returns a new link, which nothing was put on, for each of these. Fails with 900, at no place, if out of memory.
 fn links_of(alloc: Global, processes: &[usize]) -> Result<Vec<Link>, Fault>
     ensures ok { IfOk result (λ links. links.items ≡ opening.new_links processes.now) }
     ensures err { IfErr result IsMemory }
@@ -103,7 +104,8 @@ fn links_of(alloc: Global, processes: &[usize]) -> Result<Vec<Link>, Fault>
     Ok(links)
 }
 
-/// The number of the destination that each exporting process uses in the beginning.
+/// Returns the number of the destination that each exporting process uses at the beginning. Fails with 900, at no
+/// place, if out of memory.
 fn first_destinations(alloc: Global, exporters: &[Exporter]) -> Result<Vec<u64>, Fault>
     ensures ok { IfOk result (λ chosen. chosen.items ≡ opening.first_chosen exporters.now) }
     ensures err { IfErr result IsMemory }
@@ -116,7 +118,8 @@ fn first_destinations(alloc: Global, exporters: &[Exporter]) -> Result<Vec<u64>,
 }
 
 impl Contents {
-    /// The contents of these stores and of links that nothing was put on.
+    /// Returns the contents of a network with these stores and with links that nothing was put on. Fails with 900, at
+    /// no place, if out of memory.
     fn on(
         alloc: Global,
         seed: Seed,
@@ -135,9 +138,9 @@ impl Contents {
         })
     }
 
-    /// What a network holds before anything is read.
+    /// Returns what a network holds before anything is read.
     ///
-    /// Fails with 900, at no place, for want of memory.
+    /// Fails with 900, at no place, if out of memory.
     pub(crate) fn open(alloc: Global, seed: Seed, plan: &Plan) -> Result<Contents, Fault>
         ensures ok { IfOk result (λ contents. contents ≡ opening.opening_contents plan.now) }
         ensures err { IfErr result IsMemory }

@@ -1,4 +1,4 @@
-//! A whole run: the lines of a schedule, and then the closing phase.
+//! Whole runs: the lines of a schedule, and then the closing phase.
 ghost use Rattle.std.specs.Prelude.{◌≡◌, ◌⊎◌, None, IfOk, OnOk, IfErr};
 ghost use Rattle.fx_net.specs.Opening.{opening_contents};
 ghost use Rattle.fx_net.specs.Running as running;
@@ -58,7 +58,7 @@ impl<'a> Network<'a> {
         self.close(capture, links)
     }
 
-    /// What the collector has counted.
+    /// Returns what the collector has counted.
     fn into_totals(self) -> Totals
         ensures { result ≡ self.entry.contents.totals }
     {
@@ -66,11 +66,11 @@ impl<'a> Network<'a> {
     }
 }
 
-/// Runs a network over a capture: it obeys the lines of a schedule, goes through the closing phase, and answers the
-/// collector's totals. The capture then tells how many frames were skipped. Stores and totals hash keys by the seed.
+/// Runs a network over a capture: it obeys the lines of a schedule, goes through the closing phase, and returns the
+/// collector's totals. The capture then gives the number of skipped frames. Stores and totals hash keys with the seed.
 ///
 /// Fails with the first refusal: at a line of the schedule as [`Network::obey`], in the closing phase as
-/// [`Network::close`], and where the schedule can't be read as its reader does.
+/// [`Network::close`], and if the schedule can't be read, as its reader does.
 pub fn run<R: Source, Q: Source, L: Links>(
     alloc: Global,
     seed: Seed,

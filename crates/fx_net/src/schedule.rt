@@ -1,4 +1,4 @@
-//! How the lines of a schedule are read.
+//! Reading of the lines of a schedule.
 ghost use Rattle.std.specs.Prelude.{◌≡◌};
 ghost use Rattle.fx_net.specs.LineReading as reading;
 ghost use Rattle.fx_net.specs.Schedule.{ReadsLine};
@@ -6,7 +6,7 @@ ghost use Rattle.fx_net.specs.Schedule.{ReadsLine};
 use crate::action::Action;
 use fx_elements::{Words, is_word};
 
-/// The class and the path behind `next`.
+/// Reads the class and the path after `next`.
 #[tactic(auto, unfolding(crate::specs::LineReading::next_of))]
 fn read_next(words: Words<'_>) -> Option<Action>
     ensures { result ≡ reading.next_of words.entry }
@@ -19,7 +19,7 @@ fn read_next(words: Words<'_>) -> Option<Action>
     Some(Action::NextOf { class, path })
 }
 
-/// The device and the cache behind `expire`.
+/// Reads the device and the cache after `expire`.
 #[tactic(auto, unfolding(crate::specs::LineReading::expire_of))]
 fn read_expire(words: Words<'_>) -> Option<Action>
     ensures { result ≡ reading.expire_of words.entry }
@@ -32,7 +32,7 @@ fn read_expire(words: Words<'_>) -> Option<Action>
     Some(Action::Expire { device, cache })
 }
 
-/// The device, the collecting process and the aggregation behind `emit`.
+/// Reads the device, the collecting process and the aggregation after `emit`.
 #[tactic(auto, unfolding(crate::specs::LineReading::emit_of))]
 fn read_emit(words: Words<'_>) -> Option<Action>
     ensures { result ≡ reading.emit_of words.entry }
@@ -50,7 +50,7 @@ fn read_emit(words: Words<'_>) -> Option<Action>
     })
 }
 
-/// The link and the number of octets behind `carry`.
+/// Reads the link and the number of octets after `carry`.
 #[tactic(auto, unfolding(crate::specs::LineReading::carry_of))]
 fn read_carry(words: Words<'_>) -> Option<Action>
     ensures { result ≡ reading.carry_of words.entry }
@@ -66,7 +66,7 @@ fn read_carry(words: Words<'_>) -> Option<Action>
     Some(Action::Carry { link, octets })
 }
 
-/// The device, the exporting process and the destination behind `use`.
+/// Reads the device, the exporting process and the destination after `use`.
 #[tactic(auto, unfolding(crate::specs::LineReading::use_of))]
 fn read_use(words: Words<'_>) -> Option<Action>
     ensures { result ≡ reading.use_of words.entry }
@@ -84,7 +84,7 @@ fn read_use(words: Words<'_>) -> Option<Action>
     })
 }
 
-/// What the words behind one of this kind ask for.
+/// Returns what the words after a first word of this kind ask for.
 #[tactic(auto, unfolding(crate::specs::LineReading::kind_of))]
 fn read_kind(kind: &[u8], words: Words<'_>) -> Option<Action>
     ensures { result ≡ reading.kind_of kind.now words.entry }
@@ -107,7 +107,7 @@ fn read_kind(kind: &[u8], words: Words<'_>) -> Option<Action>
     None
 }
 
-/// What the words of a line ask for.
+/// Returns what the words of a line ask for.
 #[tactic(auto, unfolding(crate::specs::LineReading::words_of))]
 fn read_words(words: Words<'_>) -> Option<Action>
     ensures { result ≡ reading.words_of words.entry }
@@ -116,7 +116,7 @@ fn read_words(words: Words<'_>) -> Option<Action>
     read_kind(kind, words)
 }
 
-/// What a line asks for.
+/// Returns what a line asks for.
 fn read_line(line: &[u8]) -> Option<Action>
     ensures { result ≡ reading.action_of line.now }
 {
@@ -126,7 +126,7 @@ fn read_line(line: &[u8]) -> Option<Action>
     read_words(Words::new(line))
 }
 
-/// What a line of a schedule, without its line feed, asks for, and none where it asks for nothing.
+/// Returns what a line of a schedule, without its line feed, asks for; `None` if it isn't a valid line.
 pub(crate) fn read_action(line: &[u8]) -> Option<Action>
     ensures { ReadsLine line.now result }
 {

@@ -1,22 +1,22 @@
-//! Why a running network stopped.
+//! Reasons for which a running network stopped.
 ghost use Rattle.std.specs.Prelude.{◌≡◌};
 ghost use Rattle.fx_net.specs.Running as running;
 
 use fx_base::{Fault, Place};
 
-/// A fault that is answered again and again: its number, and where it stands.
+/// A fault that each later call returns again: its number and its place.
 #[derive(Clone, Copy)]
 pub(crate) enum Stop {
-    /// Nowhere in particular.
+    /// At no place.
     Bare { number: u16 },
-    /// At a line of the schedule, from 1.
+    /// At a 1-based line of the schedule.
     Line { number: u16, line: u64 },
-    /// At an octet of the capture, from 0.
+    /// At a 0-based octet of the capture.
     Octet { number: u16, octet: u64 },
 }
 
 impl Stop {
-    /// The fault.
+    /// Returns the fault.
     pub(crate) fn fault(self) -> Fault
         ensures { result ≡ running.fault_of self }
     {

@@ -1,4 +1,4 @@
-//! The stores of caches and aggregations: with a bound or without.
+//! The stores of caches and aggregations, with a bound or without one.
 ghost use Rattle.std.specs.Prelude.{◌≡◌, ◌==◌, [], Some, None, OnOk, OnErr, IfOk, IfErr, IfSome, IfNone, IsOk, IsSome};
 ghost use Rattle.std.specs.FinMap as map;
 ghost use Rattle.fx_base.specs.Fault.{IsMemory};
@@ -13,7 +13,7 @@ use fx_store::{BoundedStore, FlowStore, ListStore};
 use std::alloc::Global;
 use std::marker::Model;
 
-/// How many records a cache with a bound holds at most, whatever its bound is.
+/// The most records of a cache with a bound, whatever its bound is.
 const MOST_FLOWS: u32 = 65_536;
 
 #[derive(Drop)]
@@ -42,10 +42,10 @@ impl Model for HolderStore {
 }
 
 impl HolderStore {
-    /// A store of nothing that holds at most so many records, where 0 is no bound and more than 65,536 are 65,536, and
-    /// hashes keys by the seed.
+    /// Creates an empty store that holds at most `max_flows` records, where 0 means no bound and more than 65,536 means
+    /// 65,536. It hashes keys with the seed.
     ///
-    /// Fails with 900, at no place, for want of memory.
+    /// Fails with 900, at no place, if out of memory.
     pub(crate) fn new(alloc: Global, seed: Seed, max_flows: u32) -> Result<HolderStore, Fault>
         ensures ok { IfOk result (λ s. s ≡ new_store max_flows) }
         ensures err { IfErr result IsMemory }
@@ -65,8 +65,8 @@ impl HolderStore {
 impl FlowStore for HolderStore {
     ghost flows = { λ s. flows_in s };
 
-    /// Adds the counts at the key. Where there is a bound, the store is full and the key is new, the least
-    /// recently added-to entry leaves.
+    /// Adds the counts at the key. If there is a bound, the store is full and the key is new, the least recently
+    /// updated entry leaves.
     fn add(&mut self, key: Key, counts: Counts) -> Result<Option<(Key, Counts)>, Fault>
         ensures ok { IfOk result (λ left. Adds (flows_in self.old) (flows_in self.new) key counts
             left) }
@@ -82,8 +82,8 @@ impl FlowStore for HolderStore {
         }
     }
 
-    /// Adds the counts at the key of a packet. Where there is a bound, the store is full and the key is new, the
-    /// least recently added-to entry leaves.
+    /// Adds the counts at the key of a packet. If there is a bound, the store is full and the key is new, the least
+    /// recently updated entry leaves.
     fn add_packet(
         &mut self,
         layout: &Layout,

@@ -1,4 +1,4 @@
-//! Caches and aggregations take in what comes to them.
+//! Addition of counts to caches and aggregations.
 ghost use Rattle.std.specs.Prelude.{◌≡◌, ◌++◌, [], ◌∷◌, OnOk, IfErr};
 ghost use Rattle.fx_base.specs.Fault.{IsMemory};
 ghost use Rattle.fx_layout.specs.Keys.{key_of};
@@ -17,7 +17,7 @@ use fx_store::FlowStore;
 use fx_tables::{Holding, Net, Occurrence, Record};
 use std::alloc::Global;
 
-/// A record that leaves a holder comes last.
+/// Appends a record that leaves a holder. Fails with 900, at no place, if out of memory.
 fn push_leaver(
     leavers: &mut Vec<Leaver>,
     holder: usize,
@@ -35,7 +35,8 @@ fn push_leaver(
     Ok(())
 }
 
-/// The counts are added at a key of a holder, and what leaves to make room comes last.
+/// Adds the counts at a key of a holder, and appends what leaves to make room. Fails with 900, at no place, if out of
+/// memory.
 fn add(
     stores: &mut Vec<Option<HolderStore>>,
     left: &mut Vec<Leaver>,
@@ -60,7 +61,7 @@ fn add(
     }
 }
 
-/// The record of a holding comes last where its holder is an immediate cache.
+/// Appends the record of a holding if its holder is an immediate cache. Fails with 900, at no place, if out of memory.
 fn push_passing(
     passing: &mut Vec<Leaver>,
     stores: &[Option<HolderStore>],
@@ -77,8 +78,8 @@ fn push_passing(
     Ok(())
 }
 
-/// What leaves while holders take something in: what makes room, and the records of immediate caches, which leave behind
-/// it.
+/// The records that leave while holders take something in: those that make room, and those of immediate caches, which
+/// leave after them.
 #[derive(Drop)]
 struct Leavers {
     left: Vec<Leaver>,
@@ -96,7 +97,7 @@ impl Leavers {
     }
 }
 
-/// A holder takes the counts in at a key, and what leaves comes last.
+/// Makes a holder take the counts in at a key, and appends what leaves. Fails with 900, at no place, if out of memory.
 fn take(
     stores: &mut Vec<Option<HolderStore>>,
     leavers: &mut Leavers,
@@ -114,7 +115,7 @@ fn take(
     add(stores, &mut leavers.left, holding, counts)
 }
 
-/// Holders take the counts in, one after another, each at its key.
+/// Makes holders take the counts in, one after another, each at its key. Fails with 900, at no place, if out of memory.
 fn take_all(
     stores: &mut Vec<Option<HolderStore>>,
     leavers: &mut Leavers,
@@ -135,8 +136,8 @@ fn take_all(
     Ok(())
 }
 
-/// The counts are added at the key that a packet has under the layout of a holder, and what leaves to make room comes
-/// last.
+/// Adds the counts at the key that a packet has under the layout of a holder, and appends what leaves to make room.
+/// Fails with 900, at no place, if out of memory.
 fn add_packet(
     stores: &mut Vec<Option<HolderStore>>,
     left: &mut Vec<Leaver>,
@@ -164,8 +165,8 @@ fn add_packet(
     }
 }
 
-/// The cache of an occurrence takes the counts in at the packet's key there, and what leaves comes last. The key is made
-/// only where its record leaves at once.
+/// Makes the cache of an occurrence take the counts in at the packet's key there, and appends what leaves. The key is
+/// made only if its record leaves at once. Fails with 900, at no place, if out of memory.
 fn take_packet(
     stores: &mut Vec<Option<HolderStore>>,
     leavers: &mut Leavers,
@@ -199,7 +200,8 @@ fn take_packet(
     }
 }
 
-/// The caches of these occurrences take the counts in, one after another, each at the packet's key there.
+/// Makes the caches of these occurrences take the counts in, one after another, each at the packet's key there. Fails
+/// with 900, at no place, if out of memory.
 fn meet_all(
     stores: &mut Vec<Option<HolderStore>>,
     leavers: &mut Leavers,
@@ -223,7 +225,8 @@ fn meet_all(
 }
 
 impl Contents {
-    /// What makes room leaves, and then the records of immediate caches.
+    /// Sends the records that leave to make room, and then those of immediate caches. Fails with 900, at no place, if
+    /// out of memory.
     fn leave_both(&mut self, net: &Net, leavers: &Leavers) -> Result<(), Fault>
         ensures ok { OnOk result (self.new ≡ leaving.after_leaves net.now leavers.now.passing.items
             (leaving.after_leaves net.now leavers.now.left.items self.old)) }
@@ -233,9 +236,10 @@ impl Contents {
         self.leave_all(net, leavers.passing.as_slice())
     }
 
-    /// Holders take the counts in, each at its key: what makes room leaves first, then the records of immediate caches.
+    /// Makes holders take the counts in, each at its key: what makes room leaves first, then the records of immediate
+    /// caches.
     ///
-    /// Fails with 900, at no place, for want of memory.
+    /// Fails with 900, at no place, if out of memory.
     pub(crate) fn take_in(
         &mut self,
         alloc: Global,
@@ -252,10 +256,10 @@ impl Contents {
         self.leave_both(net, &leavers)
     }
 
-    /// The caches of these occurrences take the counts in, each at the packet's key there, and records leave as in
+    /// Makes the caches of these occurrences take the counts in, each at the packet's key there; records leave as in
     /// [`Contents::take_in`].
     ///
-    /// Fails with 900, at no place, for want of memory.
+    /// Fails with 900, at no place, if out of memory.
     pub(crate) fn meet(
         &mut self,
         alloc: Global,
