@@ -1,9 +1,9 @@
-//! The texts of help: what clap doesn't say by itself of the program and of each command.
+//! The help texts: what clap doesn't say by itself about the program and each command.
 
-/// The program's name for its version, and the toolchain that it is proved with.
+/// The version that the program prints, and the toolchain that it is proved with.
 pub const VERSION: &str = "1.0.0 (rattle-kit-13b)";
 
-/// Behind the list of commands.
+/// The text after the list of commands.
 pub const PROGRAM: &str = "\
 The way through:
   once lint NETWORK                    has the network document a fault?
@@ -40,7 +40,7 @@ Exit status:
   5  a read or a write failed, or a file can't be opened: `device 901`, `device 902`
   6  the words don't parse";
 
-/// After the help of `audit`.
+/// The text after the help of `audit`.
 pub const AUDIT: &str = "\
 Example:
   once audit network.json traffic.json > answer.txt
@@ -62,7 +62,7 @@ of its steps does, by name; then what is doubtful in the documents.
 --progress prints on standard error, at most once a second, how many lines of a certificate were
 found.";
 
-/// After the help of `check`.
+/// The text after the help of `check`.
 pub const CHECK: &str = "\
 Example:
   once audit network.json traffic.json > certificate.txt
@@ -108,7 +108,7 @@ text, 406 to 410, 413, 415 about the network. A document that is refused: `refus
 
 --explain adds sentences about the line: its class, path and region by name, and what to do.";
 
-/// After the help of `confirm`.
+/// The text after the help of `confirm`.
 pub const CONFIRM: &str = "\
 Example:
   once audit network.json traffic.json > refutation.txt
@@ -138,7 +138,7 @@ is refused: `refused NUMBER PLACE` (status 2).
 --explain adds sentences about the run: how the packet is counted and what to change; then step by
 step, by name, where the packet is metered, or which observation points pass it over and why.";
 
-/// After the help of `replay`.
+/// The text after the help of `replay`.
 pub const REPLAY: &str = "\
 Example:
   once replay network.json traffic.json run.txt
@@ -208,7 +208,7 @@ Prints the collector's totals at the run's end (status 0): `keys N`, a line for 
 
 --explain says which step it was, by name, and of a run that isn't complete what it leaves undone.";
 
-/// After the help of `collect`.
+/// The text after the help of `collect`.
 pub const COLLECT: &str = "\
 Examples:
   once collect network.json stream.ipfix
@@ -231,7 +231,7 @@ and how much they count, which records are of both directions of an observation 
 packets, and when the first and the last message were exported.
 --progress prints on standard error, at most once a second, how many octets of the stream were read.";
 
-/// After the help of `run`.
+/// The text after the help of `run`.
 pub const RUN: &str = "\
 Example:
   once run network.json traffic.json capture.pcap schedule.txt --links link
@@ -281,7 +281,7 @@ packet, and which of its fields are outside of which class.
 --progress prints on standard error, at most once a second, how many octets of the capture were
 read.";
 
-/// After the help of `lint`.
+/// The text after the help of `lint`.
 pub const LINT: &str = "\
 Example:
   once lint network.json traffic.json
@@ -429,7 +429,7 @@ member that occurs twice, members that aren't read, a destination without a link
 nothing feeds, a path of which no observation point sees a crossing, an interface that is nearly
 the name of an observed one. Exempt classes and the number of other unobserved crossings follow.";
 
-/// After the help of `draw`.
+/// The text after the help of `draw`.
 pub const DRAW: &str = "\
 Examples:
   once draw network.json | dot -Tsvg > network.svg
@@ -451,7 +451,7 @@ refutation in orange the steps of its run, and in red what it comes to. A text t
 
 --explain explains what is refused in sentences.";
 
-/// After the help of `sum`.
+/// The text after the help of `sum`.
 pub const SUM: &str = "\
 Example:
   mkdir totals refused
@@ -496,7 +496,7 @@ collected together, in any order; and sums can be summed. A text that is refused
 
 --explain explains what is refused in sentences, and what is due at that line.";
 
-/// After the help of `explain`.
+/// The text after the help of `explain`.
 pub const EXPLAIN: &str = "\
 Examples:
   once explain 407

@@ -1,4 +1,4 @@
-//! The words of the command line: which call they name.
+//! The command line: which call the program's arguments name.
 #![tactic(auto)]
 
 mod help_text;

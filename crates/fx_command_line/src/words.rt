@@ -1,4 +1,4 @@
-//! The words of the command line.
+//! Parses the program's arguments.
 ghost use Rattle.std.specs.Prelude.{◌≡◌, ◌⊎◌, ◌++◌, ℕ, [], ◌∷◌, IfErr, IfOk, List, MatchResult, Ok, OnOk, codes, false, map, option_map, string_bytes};
 ghost use Rattle.clap.specs.Simple.{on_top};
 ghost use Rattle.clap.specs.Words.{app_of, fault_of, found_of, HasKind, kind_of, new_app, new_rule, rule_of, Text, with_rule};
@@ -13,7 +13,7 @@ use clap::error::ErrorKind;
 use clap::{Arg, ArgMatches, Command, Error, value_parser};
 use std::alloc::{AllocError, Global};
 
-/// A command, with the names of its files.
+/// A command with its arguments.
 #[derive(Debug)]
 pub enum Call {
     /// Replays a run of a network over declared traffic.
@@ -25,7 +25,7 @@ pub enum Call {
         /// The run's text.
         run: String,
     },
-    /// Collects a stream at the report of a network.
+    /// Collects an IPFIX stream for the report of a network.
     Collect {
         /// The network document.
         network: String,
@@ -69,23 +69,23 @@ pub enum Call {
         capture: String,
         /// The schedule's text.
         schedule: String,
-        /// What the names of the links' files begin with, where the links are kept.
+        /// The prefix of the names of the links' files, if the links are kept.
         links: Option<String>,
     },
-    /// Says whether a network document, and a traffic declaration for it, have a fault.
+    /// Reports whether a network document, and a traffic declaration for it if one is given, have a fault.
     Lint {
         /// The network document.
         network: String,
-        /// The traffic declaration, where one is given.
+        /// The traffic declaration, if one is given.
         traffic: Option<String>,
     },
     /// Draws a network as a graph.
     Draw {
         /// The network document.
         network: String,
-        /// The traffic declaration, where one is given.
+        /// The traffic declaration, if one is given.
         traffic: Option<String>,
-        /// The text of a certificate or a refutation, where one is given.
+        /// The text of a certificate or a refutation, if one is given.
         answer: Option<String>,
     },
     /// Adds totals up.
@@ -103,7 +103,7 @@ pub enum Call {
 }
 
 impl Drop for Call {
-    /// Drops its arguments: proved once, and one call wherever a call is dropped.
+    /// Drops its arguments here, so that each drop elsewhere is one call.
     fn drop(self) {
         match self {
             Call::Replay {
@@ -155,10 +155,10 @@ impl Drop for Call {
     }
 }
 
-/// The line of help of a traffic declaration.
+/// The help line of a traffic declaration.
 const TRAFFIC: &str = "The traffic declaration (JSON)";
 
-/// A file that a command wants, with a line of help.
+/// Returns the argument of a file that a command requires, with a help line.
 fn file<'a>(alloc: Global, name: &'a str, help: &'a str) -> Arg<'a>
     ensures rule { rule_of result ≡ file_rule name.entry.now }
     ensures local { result.global ≡ false }
@@ -166,7 +166,7 @@ fn file<'a>(alloc: Global, name: &'a str, help: &'a str) -> Arg<'a>
     Arg::new(alloc, name).required(true).help(help)
 }
 
-/// This command, which now wants one more file.
+/// Returns the command with one more required file.
 fn with_file<'a>(
     alloc: Global,
     command: Command<'a>,
@@ -181,7 +181,7 @@ fn with_file<'a>(
     command.arg(file(alloc, name, help))
 }
 
-/// This command, which now takes one more file, or none.
+/// Returns the command with one more optional file.
 fn with_choice<'a>(
     alloc: Global,
     command: Command<'a>,
@@ -196,7 +196,7 @@ fn with_choice<'a>(
     command.arg(Arg::new(alloc, name).help(help))
 }
 
-/// A command that wants a network.
+/// Returns a command that requires a network.
 fn network_command<'a>(
     alloc: Global,
     name: &'a str,
@@ -210,7 +210,7 @@ fn network_command<'a>(
     with_file(alloc, command, "NETWORK", "The network document (JSON)")
 }
 
-/// A command over a network and a second file.
+/// Returns a command that requires a network and a second file.
 fn over_network<'a>(
     alloc: Global,
     name: &'a str,
@@ -227,7 +227,7 @@ fn over_network<'a>(
     with_file(alloc, command, second, help)
 }
 
-/// A command over a network, and over its traffic where that is given.
+/// Returns a command that requires a network and takes an optional traffic declaration.
 fn over_traffic_if_given<'a>(
     alloc: Global,
     name: &'a str,
@@ -242,7 +242,7 @@ fn over_traffic_if_given<'a>(
     with_choice(alloc, command, "TRAFFIC", TRAFFIC)
 }
 
-/// A command over a network, traffic and a third file.
+/// Returns a command that requires a network, a traffic declaration and a third file.
 fn over_documents<'a>(
     alloc: Global,
     name: &'a str,
@@ -259,7 +259,7 @@ fn over_documents<'a>(
     with_file(alloc, command, third, help)
 }
 
-/// The command `replay`.
+/// Returns the command `replay`.
 fn replay_command<'a>(alloc: Global) -> Result<Command<'a>, AllocError>
     ensures app { IfOk result (λ c. app_of c
         ≡ over_documents (codes "replay") (file_rule (codes "RUN"))) }
@@ -275,7 +275,7 @@ fn replay_command<'a>(alloc: Global) -> Result<Command<'a>, AllocError>
     )
 }
 
-/// The command `collect`.
+/// Returns the command `collect`.
 fn collect_command<'a>(alloc: Global) -> Result<Command<'a>, AllocError>
     ensures app { IfOk result (λ c. app_of c
         ≡ over_network (codes "collect") (file_rule (codes "STREAM"))) }
@@ -291,7 +291,7 @@ fn collect_command<'a>(alloc: Global) -> Result<Command<'a>, AllocError>
     )
 }
 
-/// The command `check`.
+/// Returns the command `check`.
 fn check_command<'a>(alloc: Global) -> Result<Command<'a>, AllocError>
     ensures app { IfOk result (λ c. app_of c
         ≡ over_documents (codes "check") (file_rule (codes "CERTIFICATE"))) }
@@ -307,7 +307,7 @@ fn check_command<'a>(alloc: Global) -> Result<Command<'a>, AllocError>
     )
 }
 
-/// The command `confirm`.
+/// Returns the command `confirm`.
 fn confirm_command<'a>(alloc: Global) -> Result<Command<'a>, AllocError>
     ensures app { IfOk result (λ c.
         app_of c ≡ over_documents (codes "confirm") (file_rule (codes "REFUTATION"))) }
@@ -323,7 +323,7 @@ fn confirm_command<'a>(alloc: Global) -> Result<Command<'a>, AllocError>
     )
 }
 
-/// The option of a limit, from 1 to 1,000,000.
+/// Returns the option `--limit`, a number from 1 to 1,000,000.
 fn limit<'a>(alloc: Global) -> Arg<'a>
     ensures rule { rule_of result ≡ limit_rule }
     ensures local { result.global ≡ false }
@@ -336,7 +336,7 @@ fn limit<'a>(alloc: Global) -> Arg<'a>
         .help("The most split and leaf lines of a certificate")
 }
 
-/// The command `audit`.
+/// Returns the command `audit`.
 fn audit_command<'a>(alloc: Global) -> Result<Command<'a>, AllocError>
     ensures app { IfOk result (λ c.
         app_of c ≡ with_rule
@@ -354,7 +354,7 @@ fn audit_command<'a>(alloc: Global) -> Result<Command<'a>, AllocError>
     command.arg(limit(alloc))
 }
 
-/// The option of the prefix that the links' files have in their names.
+/// Returns the option `--links`, the prefix of the names of the links' files.
 fn links<'a>(alloc: Global) -> Arg<'a>
     ensures rule { rule_of result ≡ links_rule }
     ensures local { result.global ≡ false }
@@ -365,7 +365,7 @@ fn links<'a>(alloc: Global) -> Arg<'a>
         .help("Keeps the octets of each link in a file: PREFIX and the link's number")
 }
 
-/// The command `run`.
+/// Returns the command `run`.
 fn run_command<'a>(alloc: Global) -> Result<Command<'a>, AllocError>
     ensures app { IfOk result (λ c. app_of c ≡ with_rule (over_capture (codes "run")) links_rule) }
     ensures local { IfOk result (λ c. (out-Command c).has_globals ≡ false) }
@@ -382,7 +382,7 @@ fn run_command<'a>(alloc: Global) -> Result<Command<'a>, AllocError>
     command.arg(links(alloc))
 }
 
-/// The command `lint`.
+/// Returns the command `lint`.
 fn lint_command<'a>(alloc: Global) -> Result<Command<'a>, AllocError>
     ensures app { IfOk result (λ c. app_of c
         ≡ over_network (codes "lint") (new_rule (codes "TRAFFIC"))) }
@@ -396,7 +396,7 @@ fn lint_command<'a>(alloc: Global) -> Result<Command<'a>, AllocError>
     )
 }
 
-/// The command `draw`.
+/// Returns the command `draw`.
 fn draw_command<'a>(alloc: Global) -> Result<Command<'a>, AllocError>
     ensures app { IfOk result (λ c. app_of c
         ≡ with_rule (over_network (codes "draw") (new_rule (codes "TRAFFIC")))
@@ -417,7 +417,7 @@ fn draw_command<'a>(alloc: Global) -> Result<Command<'a>, AllocError>
     )
 }
 
-/// The command `sum`.
+/// Returns the command `sum`.
 fn sum_command<'a>(alloc: Global) -> Result<Command<'a>, AllocError>
     ensures app { IfOk result (λ c. app_of c
         ≡ over_network (codes "sum") (file_rule (codes "TOTALS"))) }
@@ -433,7 +433,7 @@ fn sum_command<'a>(alloc: Global) -> Result<Command<'a>, AllocError>
     )
 }
 
-/// The command `explain`.
+/// Returns the command `explain`.
 fn explain_command<'a>(alloc: Global) -> Result<Command<'a>, AllocError>
     ensures app { IfOk result (λ c. app_of c ≡ number_alone (codes "explain")) }
     ensures local { IfOk result (λ c. (out-Command c).has_globals ≡ false) }
@@ -449,7 +449,7 @@ fn explain_command<'a>(alloc: Global) -> Result<Command<'a>, AllocError>
     )
 }
 
-/// The program, before its commands are added.
+/// Returns the program without its commands.
 fn program<'a>(alloc: Global) -> Command<'a>
     ensures { app_of result ≡ on_top wants_command (new_app (codes "once")) }
 {
@@ -460,7 +460,7 @@ fn program<'a>(alloc: Global) -> Command<'a>
         .subcommand_required(true)
 }
 
-/// Adds a command to others, where there was memory to make it.
+/// Appends a command, or fails like the call that made it. Also fails if out of memory.
 fn add<'a>(
     commands: &mut Vec<Command<'a>>,
     command: Result<Command<'a>, AllocError>,
@@ -472,7 +472,7 @@ fn add<'a>(
     Ok(())
 }
 
-/// The program's command line.
+/// Returns the program with all its commands.
 fn command_line<'a>(alloc: Global) -> Result<Command<'a>, AllocError>
     ensures { IfOk result (λ c. app_of c ≡ once_app) }
 {
@@ -490,7 +490,7 @@ fn command_line<'a>(alloc: Global) -> Result<Command<'a>, AllocError>
     program(alloc).subcommands(commands)
 }
 
-/// The name of a file that the words give.
+/// Returns the file name that is given for a required argument.
 fn file_name(alloc: Global, matches: &ArgMatches<'_>, id: &str) -> Result<String, AllocError>
     requires { HasFile (found_of matches.now) id.now }
     ensures { IfOk result (λ name. HoldsFile (found_of matches.now) id.now (string_bytes name)) }
@@ -498,7 +498,7 @@ fn file_name(alloc: Global, matches: &ArgMatches<'_>, id: &str) -> Result<String
     String::from_str(alloc, matches.get_str(id).unwrap())
 }
 
-/// The call of `replay`, by the matches of its words.
+/// Returns the call of `replay`, given the matches of its arguments.
 fn replay_call(alloc: Global, matches: &ArgMatches<'_>) -> Result<Call, AllocError>
     requires { HasFile (found_of matches.now) (codes "NETWORK")
         × HasFile (found_of matches.now) (codes "TRAFFIC")
@@ -512,7 +512,7 @@ fn replay_call(alloc: Global, matches: &ArgMatches<'_>) -> Result<Call, AllocErr
     })
 }
 
-/// The call of `collect`, by the matches of its words.
+/// Returns the call of `collect`, given the matches of its arguments.
 fn collect_call(alloc: Global, matches: &ArgMatches<'_>) -> Result<Call, AllocError>
     requires { HasFile (found_of matches.now) (codes "NETWORK")
         × HasFile (found_of matches.now) (codes "STREAM") }
@@ -524,7 +524,7 @@ fn collect_call(alloc: Global, matches: &ArgMatches<'_>) -> Result<Call, AllocEr
     })
 }
 
-/// The call of `check`, by the matches of its words.
+/// Returns the call of `check`, given the matches of its arguments.
 fn check_call(alloc: Global, matches: &ArgMatches<'_>) -> Result<Call, AllocError>
     requires { HasFile (found_of matches.now) (codes "NETWORK")
         × HasFile (found_of matches.now) (codes "TRAFFIC")
@@ -538,7 +538,7 @@ fn check_call(alloc: Global, matches: &ArgMatches<'_>) -> Result<Call, AllocErro
     })
 }
 
-/// The call of `confirm`, by the matches of its words.
+/// Returns the call of `confirm`, given the matches of its arguments.
 fn confirm_call(alloc: Global, matches: &ArgMatches<'_>) -> Result<Call, AllocError>
     requires { HasFile (found_of matches.now) (codes "NETWORK")
         × HasFile (found_of matches.now) (codes "TRAFFIC")
@@ -552,7 +552,7 @@ fn confirm_call(alloc: Global, matches: &ArgMatches<'_>) -> Result<Call, AllocEr
     })
 }
 
-/// The limit of an audit, by the matches of its words.
+/// Returns the limit of an audit, given the matches of its arguments.
 fn limit_of(matches: &ArgMatches<'_>) -> u64
     requires { (n : ℕ) × HoldsLimit (found_of matches.now) n }
     ensures { HoldsLimit (found_of matches.now) result }
@@ -560,7 +560,7 @@ fn limit_of(matches: &ArgMatches<'_>) -> u64
     matches.get_one::<u64>("limit").unwrap()
 }
 
-/// The call of `audit`, by the matches of its words.
+/// Returns the call of `audit`, given the matches of its arguments.
 fn audit_call(alloc: Global, matches: &ArgMatches<'_>) -> Result<Call, AllocError>
     requires { HasFile (found_of matches.now) (codes "NETWORK")
         × HasFile (found_of matches.now) (codes "TRAFFIC")
@@ -574,7 +574,7 @@ fn audit_call(alloc: Global, matches: &ArgMatches<'_>) -> Result<Call, AllocErro
     })
 }
 
-/// The text under a name, by the matches of its words, if they set one.
+/// Returns the text that is given for an optional argument, if it is set.
 fn text_of(alloc: Global, matches: &ArgMatches<'_>, id: &str) -> Result<Option<String>, AllocError>
     ensures { IfOk result (λ text.
         HoldsOption (found_of matches.now) id.now (option_map string_bytes text)) }
@@ -585,7 +585,7 @@ fn text_of(alloc: Global, matches: &ArgMatches<'_>, id: &str) -> Result<Option<S
     }
 }
 
-/// The call of `run`, by the matches of its words.
+/// Returns the call of `run`, given the matches of its arguments.
 fn run_call(alloc: Global, matches: &ArgMatches<'_>) -> Result<Call, AllocError>
     requires { HasFile (found_of matches.now) (codes "NETWORK")
         × HasFile (found_of matches.now) (codes "TRAFFIC")
@@ -602,7 +602,7 @@ fn run_call(alloc: Global, matches: &ArgMatches<'_>) -> Result<Call, AllocError>
     })
 }
 
-/// The call of `lint`, by the matches of its words.
+/// Returns the call of `lint`, given the matches of its arguments.
 fn lint_call(alloc: Global, matches: &ArgMatches<'_>) -> Result<Call, AllocError>
     requires { HasFile (found_of matches.now) (codes "NETWORK") }
     ensures { IfOk result (IsLintOf (found_of matches.now)) }
@@ -613,7 +613,7 @@ fn lint_call(alloc: Global, matches: &ArgMatches<'_>) -> Result<Call, AllocError
     })
 }
 
-/// The call of `draw`, by the matches of its words.
+/// Returns the call of `draw`, given the matches of its arguments.
 fn draw_call(alloc: Global, matches: &ArgMatches<'_>) -> Result<Call, AllocError>
     requires { HasFile (found_of matches.now) (codes "NETWORK") }
     ensures { IfOk result (IsDrawOf (found_of matches.now)) }
@@ -625,7 +625,7 @@ fn draw_call(alloc: Global, matches: &ArgMatches<'_>) -> Result<Call, AllocError
     })
 }
 
-/// The call of `sum`, by the matches of its words.
+/// Returns the call of `sum`, given the matches of its arguments.
 fn sum_call(alloc: Global, matches: &ArgMatches<'_>) -> Result<Call, AllocError>
     requires { HasFile (found_of matches.now) (codes "NETWORK")
         × HasFile (found_of matches.now) (codes "TOTALS") }
@@ -637,7 +637,7 @@ fn sum_call(alloc: Global, matches: &ArgMatches<'_>) -> Result<Call, AllocError>
     })
 }
 
-/// The call of `explain`, by the matches of its words.
+/// Returns the call of `explain`, given the matches of its arguments.
 fn explain_call(alloc: Global, matches: &ArgMatches<'_>) -> Result<Call, AllocError>
     requires { HasFile (found_of matches.now) (codes "NUMBER") }
     ensures { IfOk result (IsExplainOf (found_of matches.now)) }
@@ -647,7 +647,7 @@ fn explain_call(alloc: Global, matches: &ArgMatches<'_>) -> Result<Call, AllocEr
     })
 }
 
-/// The call that these matches of the program's words name.
+/// Returns the call that the matches of the program's arguments name.
 fn call_of(alloc: Global, matches: &ArgMatches<'_>) -> Result<Call, AllocError>
     requires { (words : List Text) × AreMatchesOf words matches.now }
     ensures { (words : List Text) → AreMatchesOf words matches.now → IfOk result (Names words) }
@@ -682,10 +682,10 @@ fn call_of(alloc: Global, matches: &ArgMatches<'_>) -> Result<Call, AllocError>
     replay_call(alloc, matches.subcommand_matches("replay").unwrap())
 }
 
-/// The call that the words name. The first word is the program's own name.
+/// Returns the call that the arguments name. The first of them is the program's own name.
 ///
-/// The error is clap's: its text is for the user, also where help is asked for. Where the words name a call, only want
-/// of memory is an error (`ErrorKind::OutOfMemory`).
+/// Fails with clap's error, whose text is for the user, also if they ask for help. If the arguments name a call, it
+/// fails only if out of memory (`ErrorKind::OutOfMemory`).
 pub fn read_words(alloc: Global, words: &[String]) -> Result<Call, Error>
     ensures call { MatchResult result (Names (map string_bytes words.now))
         (λ e. (kind_of e ≡ ErrorKind.OutOfMemory)
