@@ -3,7 +3,7 @@
 use clap::error::ErrorKind;
 use std::alloc::{AllocError, Global};
 
-/// The options, each with where it goes.
+/// The options, each with advice on where to write it.
 const OPTIONS: [(&str, &str); 6] = [
     (
         "--explain",
@@ -28,16 +28,16 @@ const OPTIONS: [(&str, &str); 6] = [
     ("--version", "Write `once --version` alone."),
 ];
 
-/// What to do about the number after --limit.
+/// The advice about the number after --limit.
 const LIMIT: &str =
     "Write --limit once, followed by a whole number from 1 to 1000000, as in --limit 20000.";
 
-/// What to do about an option that isn't there.
+/// The advice about an unknown option.
 const NO_OPTION: &str =
     "There is no such option. --explain goes with each command, --progress with audit, collect and run, --limit with audit \
 and --links with run. A file whose name begins with - is named after --, as in `once lint -- -file`.";
 
-/// Returns how many octets are the same at the front of both.
+/// Returns how many octets at the start of both are equal, regardless of case.
 fn same_in_front(a: &[u8], b: &[u8]) -> usize {
     let mut same: usize = 0;
     for (x, y) in a.iter().zip(b.iter()) {
@@ -49,7 +49,7 @@ fn same_in_front(a: &[u8], b: &[u8]) -> usize {
     same
 }
 
-/// Returns how many octets are the same at the end of both.
+/// Returns how many octets at the end of both are equal, regardless of case.
 fn same_behind(a: &[u8], b: &[u8]) -> usize {
     let mut same: usize = 0;
     for (x, y) in a.iter().rev().zip(b.iter().rev()) {
@@ -61,8 +61,8 @@ fn same_behind(a: &[u8], b: &[u8]) -> usize {
     same
 }
 
-/// Returns whether a word may be meant for an option: at most two of its letters that stand together are others, too
-/// many or missing, whatever their case.
+/// Returns whether a word may be a misspelled option: apart from case, they differ in at most two adjacent letters,
+/// which are wrong, added or missing.
 fn is_near(word: &[u8], option: &[u8]) -> bool {
     let longest = word.len().max(option.len());
     same_in_front(word, option)
@@ -71,7 +71,7 @@ fn is_near(word: &[u8], option: &[u8]) -> bool {
         >= longest
 }
 
-/// Returns where the option goes for which a word may be meant.
+/// Returns the advice about the option that a word may be meant for, if there is one.
 fn option_advice(word: &str) -> Option<&'static str> {
     for (option, advice) in OPTIONS {
         if is_near(word.as_bytes(), option.as_bytes()) {
@@ -81,7 +81,7 @@ fn option_advice(word: &str) -> Option<&'static str> {
     None
 }
 
-/// Returns what to do about a word that the command doesn't take.
+/// Returns the advice about an argument that the command doesn't accept.
 fn unknown_word_advice(word: &str) -> &'static str {
     let Some(behind) = word.strip_prefix("-") else {
         return "Leave it out: the usage line has all that the command takes, in this order.";
@@ -92,7 +92,7 @@ fn unknown_word_advice(word: &str) -> &'static str {
     option_advice(word).unwrap_or(NO_OPTION)
 }
 
-/// Returns what to do about a word that is no command: the first, or one after `help` and a command.
+/// Returns the advice about an argument that isn't a command: the first, or one after `help` and a command.
 fn unknown_command_advice(text: &str) -> &'static str {
     if text.contains(" <COMMAND>") {
         "The first word is a command: `once help` lists them."
@@ -101,7 +101,7 @@ fn unknown_command_advice(text: &str) -> &'static str {
     }
 }
 
-/// Returns the argument that an error's text is about: the first in quotation marks.
+/// Returns the argument that an error's text is about: the first between quotation marks, or an empty one.
 fn named_word(text: &str) -> &str {
     match text.split_once("'") {
         Some((_, behind)) => match behind.split_once("'") {
@@ -112,7 +112,7 @@ fn named_word(text: &str) -> &str {
     }
 }
 
-/// Returns what to do about a word too many after a command that people give other words.
+/// Returns the advice about an extra argument, if it is one that users often write.
 fn extra_word_advice(text: &str) -> Option<&'static str> {
     if text.contains(" explain <") {
         Some("Write the number alone, as in `once explain 407`, or `once explain all`.")
@@ -129,7 +129,7 @@ fn extra_word_advice(text: &str) -> Option<&'static str> {
     }
 }
 
-/// Returns what to do about arguments that don't parse, by the kind of the error and its text.
+/// Returns the advice about arguments that don't parse, given the kind of the error and its text.
 fn advice_of(kind: ErrorKind, text: &str) -> Option<&'static str> {
     if text.contains("remove the '--' before it") {
         return None;
@@ -152,7 +152,7 @@ fn advice_of(kind: ErrorKind, text: &str) -> Option<&'static str> {
     }
 }
 
-/// Returns what to do about the value of an option.
+/// Returns the advice about the value of an option.
 fn value_advice(text: &str) -> Option<&'static str> {
     if text.contains("--limit") {
         Some(
@@ -167,7 +167,8 @@ fn value_advice(text: &str) -> Option<&'static str> {
     }
 }
 
-/// Returns a text but for the tip that a word may be a file's name, which is no help where an option is meant.
+/// Returns the parts of an error's text before and after the tip that an argument may be a file's name, which doesn't
+/// help if an option is meant.
 fn without_tip(text: &str) -> (&str, &str) {
     let Some((before, tip)) = text.split_once("\n\n  tip: to pass '") else {
         return (text, "");
@@ -180,7 +181,7 @@ fn without_tip(text: &str) -> (&str, &str) {
 
 /// Returns the text of an error, followed by what to do.
 ///
-/// Fails where memory runs out.
+/// Fails if out of memory.
 pub(crate) fn with_advice(
     alloc: Global,
     kind: ErrorKind,

@@ -1,4 +1,4 @@
-//! How a command ends whose arguments name no call, or can't be read.
+//! Ends commands whose arguments name no call or can't be read.
 ghost use Rattle.std.specs.Prelude.{◌≡◌, ◌≢◌, ◌⊎◌, []};
 ghost use Rattle.clap.specs.Words.{kind_of};
 ghost use Rattle.fx_cli.specs.Ending.{EndsWith, IsExitStatus};
@@ -15,7 +15,7 @@ use std::io;
 /// The exit status of arguments that don't parse.
 const NO_CALL: u8 = 6;
 
-/// Writes a text, and gives this status, or 5 where it can't be written.
+/// Writes a text and returns the given exit status, or 5 if the text can't be written.
 fn put_and_end<S: Sink>(text: &[u8], code: u8, sink: &mut S) -> u8
     ensures { EndsWith S.taken S.failed text.now code sink.old sink.new result }
 {
@@ -25,7 +25,7 @@ fn put_and_end<S: Sink>(text: &[u8], code: u8, sink: &mut S) -> u8
     }
 }
 
-/// Returns the exit status of arguments that name no call, by what is wrong with them.
+/// Returns the exit status of arguments that name no call, given the kind of their error.
 fn status_of_error(kind: ErrorKind) -> u8
     ensures status { result ≡ argument_error_status kind }
     ensures exit { IsExitStatus result }
@@ -39,7 +39,7 @@ fn status_of_error(kind: ErrorKind) -> u8
 
 /// Returns the error's text, followed by what to do.
 ///
-/// Fails where memory runs out.
+/// Fails if out of memory.
 fn error_text(alloc: Global, error: &Error) -> Result<String, AllocError> {
     match error.to_string(alloc) {
         Ok(text) => with_advice(alloc, error.kind(), text.as_str()),
@@ -47,7 +47,7 @@ fn error_text(alloc: Global, error: &Error) -> Result<String, AllocError> {
     }
 }
 
-/// Returns the text of an error, or a line where that is empty.
+/// Returns the text of an error, or a default line if it is empty.
 fn never_empty(text: &[u8]) -> &[u8]
     ensures { result.now ≢ [] }
 {
@@ -59,10 +59,10 @@ fn never_empty(text: &[u8]) -> &[u8]
 }
 
 /// Ends a command whose arguments name no call: writes what is wrong with them and what to do about it, or the help
-/// that they ask for. Returns the exit status.
+/// that they ask for, and returns the exit status.
 ///
-/// 0 where they ask for help, 6 where they don't parse; 4 where memory runs out (`memory 900` is written then), also while
-/// the text is made; 5 where nothing can be written.
+/// The status is 0 if they ask for help, and 6 if they don't parse; 4 if out of memory, also while making the text, in
+/// which case it writes `memory 900`; and 5 if the text can't be written.
 pub fn finish_arguments<S: Sink>(alloc: Global, error: &Error, sink: &mut S) -> u8
     ensures status { EndsWith S.taken S.failed memory_line 4 sink.old sink.new result
         ⊎ EndsWithSomeText S.taken S.failed (argument_error_status (kind_of error.now)) sink.old
@@ -81,10 +81,10 @@ pub fn finish_arguments<S: Sink>(alloc: Global, error: &Error, sink: &mut S) -> 
     }
 }
 
-/// Ends a command whose arguments the system doesn't hand over.
+/// Ends a command whose arguments can't be read from the system: writes why, and returns the exit status.
 ///
-/// 4 if memory runs out, 6 if an argument is no UTF-8 text, else 5 (`device 901`); 5 also where nothing can be
-/// written.
+/// The status is 4 if out of memory, 6 if an argument isn't UTF-8 text, and otherwise 5 (`device 901`); also 5 if the
+/// text can't be written.
 pub fn finish_unread<S: Sink>(kind: io::ErrorKind, sink: &mut S) -> u8
     ensures ended { EndsWith S.taken S.failed
         (unread_text kind) (unread_status kind) sink.old sink.new result }

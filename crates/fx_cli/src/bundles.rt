@@ -1,11 +1,11 @@
-//! Bundles that were read from standard input, for the sentences after their answers.
+//! Explanations of texts from standard input that aren't bundles.
 
 use crate::gathering::Gathered;
 
-/// The line that ends each text.
+/// The line that ends each text of a bundle.
 const MARK: &[u8] = b"%%\n";
 
-/// Returns what is before the first line `%%`, and what is after it.
+/// Returns what precedes the first line `%%` and what follows it, if there is such a line.
 fn first_text(octets: &[u8]) -> Option<(&[u8], &[u8])> {
     if let Some(rest) = octets.strip_prefix(MARK) {
         return Some((b"", rest));
@@ -21,7 +21,7 @@ fn first_text(octets: &[u8]) -> Option<(&[u8], &[u8])> {
     None
 }
 
-/// Returns the place of the first line feed, if there is one.
+/// Returns the 0-based index of the first line feed, if there is one.
 fn first_line_feed(octets: &[u8]) -> Option<usize> {
     for place in 0..octets.len() {
         if octets[place] == b'\n' {
@@ -31,7 +31,7 @@ fn first_line_feed(octets: &[u8]) -> Option<usize> {
     None
 }
 
-/// Returns the first line without its line feed, and what is after it.
+/// Returns the first line without its line feed, and what follows it.
 fn first_line(octets: &[u8]) -> (&[u8], &[u8]) {
     match first_line_feed(octets) {
         Some(end) => match (octets.get(..end), octets.get(end.saturating_add(1)..)) {
@@ -42,7 +42,7 @@ fn first_line(octets: &[u8]) -> (&[u8], &[u8]) {
     }
 }
 
-/// Returns how many lines `%%` these octets have, and whether something follows the last.
+/// Returns the number of lines `%%`, and whether anything follows the last one.
 fn texts_in(octets: &[u8]) -> (u64, bool) {
     let mut rest = octets;
     let mut count: u64 = 0;
@@ -56,7 +56,7 @@ fn texts_in(octets: &[u8]) -> (u64, bool) {
     (count, !rest.is_empty())
 }
 
-/// Returns whether a line has `%%` at its end, or in front, and isn't it.
+/// Returns whether a line ends with `%%` without beginning with it (`at_end`), or begins with `%%` and goes on.
 fn is_nearly_mark(line: &[u8], at_end: bool) -> bool {
     let begins = line.starts_with(b"%%");
     if at_end {
@@ -66,8 +66,8 @@ fn is_nearly_mark(line: &[u8], at_end: bool) -> bool {
     }
 }
 
-/// Returns how many lines have `%%` at their ends, or in front, and aren't it, and the number of the first, where these
-/// begin with the second of all.
+/// Returns the number of lines that only end with `%%` (`at_end`), or only begin with it, and the number of the first
+/// of them. The octets begin with line 2 of the bundle.
 fn nearly_marks(octets: &[u8], at_end: bool) -> (u64, u64) {
     let mut rest = octets;
     let mut count: u64 = 0;
@@ -90,7 +90,8 @@ fn nearly_marks(octets: &[u8], at_end: bool) -> (u64, u64) {
     (count, first)
 }
 
-/// Writes how many lines have `%%` at their ends, or in front, and aren't it, where there are some, and what to do.
+/// Writes how many lines only end with `%%` (`at_end`), or only begin with it, and what to do; nothing if there are
+/// none.
 fn put_nearly_marks(octets: &[u8], at_end: bool, words: &mut Gathered) {
     let (count, first) = nearly_marks(octets, at_end);
     if count == 0 {
@@ -111,7 +112,7 @@ fn put_nearly_marks(octets: &[u8], at_end: bool, words: &mut Gathered) {
     });
 }
 
-/// Writes how many lines `%%` a bundle has and its command wants, and which lines nearly are such.
+/// Writes how many lines `%%` a bundle has and how many its command requires, and which lines are almost `%%`.
 fn put_mark_words(octets: &[u8], count: u64, wanted: u64, words: &mut Gathered) {
     words.text(b"the bundle has ");
     words.number(count);
@@ -125,7 +126,7 @@ fn put_mark_words(octets: &[u8], count: u64, wanted: u64, words: &mut Gathered) 
     }
 }
 
-/// Returns how many texts follow a bundle's first line; 0 if that is no command.
+/// Returns the number of texts that a bundle has after its first line, the command, or 0 if that isn't a command.
 fn texts_of(command: &[u8]) -> u64 {
     match command {
         b"audit" => 2,
@@ -134,13 +135,13 @@ fn texts_of(command: &[u8]) -> u64 {
     }
 }
 
-/// How many octets of a line are shown.
+/// The number of octets of a line that are shown.
 const SHOWN: usize = 40;
 
 /// A byte order mark in UTF-8.
 const ORDER_MARK: &[u8] = b"\xef\xbb\xbf";
 
-/// Writes that a line names no command, and shows it.
+/// Writes that the first line isn't a command, and shows it.
 fn put_first_line(line: &[u8], words: &mut Gathered) {
     words.text(b"the first line of standard input is none of audit, check, confirm and replay: \"");
     for octet in line.get(..SHOWN).unwrap_or(line) {
@@ -159,7 +160,7 @@ fn put_first_line(line: &[u8], words: &mut Gathered) {
     });
 }
 
-/// Writes why octets are no bundle.
+/// Writes why the octets of standard input aren't a bundle.
 pub(crate) fn put_bundle_words(octets: &[u8], words: &mut Gathered) {
     if octets.is_empty() {
         words.text(b"standard input is empty; without arguments a bundle is read from it\n");

@@ -1,4 +1,4 @@
-//! What each command opens, reads and answers.
+//! The commands: each opens its files, reads them and answers.
 ghost use Rattle.std.specs.Prelude.{◌≡◌, ◌⊎◌, IfErr, IfOk, is_some, true, false};
 ghost use Rattle.fx_base.specs.Fault.{fault_at, IsMemory};
 ghost use Rattle.fx_base.specs.Refusals.{failed_read};
@@ -32,7 +32,7 @@ use std::alloc::Global;
 use std::random::RandomSource;
 use std::rt::{Clock, Files};
 
-/// A network document and a traffic declaration, and the lines of a third text.
+/// A network document, a traffic declaration, and the lines of a third text.
 type Texts<F> = (Outside<F>, Outside<F>, LineReader<KeptSource<Outside<F>>>);
 
 /// Opens the files of a network document, a traffic declaration and a third text, in this order.
@@ -55,7 +55,7 @@ fn open_texts<R: AllocGlobal + Files>(
     Ok((network, traffic, lines))
 }
 
-/// Replays the run in these files.
+/// Replays the run in the given files.
 fn replay<R: AllocGlobal + Files + RandomSource, S: Sink>(
     rt: &R,
     network: &str,
@@ -85,7 +85,7 @@ fn replay<R: AllocGlobal + Files + RandomSource, S: Sink>(
     answer
 }
 
-/// Collects the stream in these files.
+/// Collects the stream in the given files.
 fn collect<R: AllocGlobal + Clock + Eprint + Files + RandomSource, S: Sink>(
     rt: &R,
     network: &str,
@@ -117,7 +117,7 @@ fn collect<R: AllocGlobal + Clock + Eprint + Files + RandomSource, S: Sink>(
     answer
 }
 
-/// Checks the certificate in these files.
+/// Checks the certificate in the given files.
 fn check<R: AllocGlobal + Files, S: Sink>(
     rt: &R,
     network: &str,
@@ -147,7 +147,7 @@ fn check<R: AllocGlobal + Files, S: Sink>(
     )
 }
 
-/// Confirms the refutation in these files.
+/// Confirms the refutation in the given files.
 fn confirm<R: AllocGlobal + Files, S: Sink>(
     rt: &R,
     network: &str,
@@ -177,7 +177,7 @@ fn confirm<R: AllocGlobal + Files, S: Sink>(
     answer
 }
 
-/// Audits the network and traffic in these files, with at most `limit` split and leaf lines of a certificate.
+/// Audits the network and traffic in the given files, with at most `limit` split and leaf lines of a certificate.
 fn audit<R: AllocGlobal + Clock + Eprint + Files, S: Sink>(
     rt: &R,
     network: &str,
@@ -205,7 +205,7 @@ fn audit<R: AllocGlobal + Clock + Eprint + Files, S: Sink>(
     )
 }
 
-/// Runs a network over a capture, as a schedule says, and writes the octets of its links to `links`, which it returns.
+/// Runs a network over a capture, as a schedule says, writes the octets of its links to `links`, and returns `links`.
 fn run_on_links<N: Source, T: Source, C: Source, Q: Source, L: Links, S: Sink>(
     alloc: Global,
     seed: Seed,
@@ -236,8 +236,8 @@ fn run_on_links<N: Source, T: Source, C: Source, Q: Source, L: Links, S: Sink>(
     (answer, links)
 }
 
-/// Runs a network over a capture, as a schedule says, with the octets of each link in a file of its own, whose name
-/// begins with a prefix, and by which no file of the input was named.
+/// Runs a network over a capture, as a schedule says, and writes the octets of each link to a file of its own, whose
+/// name begins with `prefix`. Writes no file that has the name of one of `inputs`.
 fn run_onto_files<R: AllocGlobal + Files, N: Source, T: Source, C: Source, Q: Source, S: Sink>(
     rt: &R,
     seed: Seed,
@@ -273,7 +273,7 @@ fn run_onto_files<R: AllocGlobal + Files, N: Source, T: Source, C: Source, Q: So
     answer
 }
 
-/// Runs a network over a capture, as a schedule says, and writes the octets of its links nowhere.
+/// Runs a network over a capture, as a schedule says, without writing the octets of its links.
 fn run_onto_nowhere<N: Source, T: Source, C: Source, Q: Source, S: Sink>(
     alloc: Global,
     seed: Seed,
@@ -295,8 +295,8 @@ fn run_onto_nowhere<N: Source, T: Source, C: Source, Q: Source, S: Sink>(
     answer
 }
 
-/// Runs the network over the capture in these files, as the schedule says. The octets of each link go to a file of its
-/// own where a prefix of their names is given, and nowhere else.
+/// Runs the network over the capture in the given files, as the schedule says. Writes the octets of each link to a file
+/// of its own if a prefix of the files' names is given.
 fn run_capture<R: AllocGlobal + Clock + Eprint + Files + RandomSource, S: Sink>(
     rt: &R,
     network: &str,
@@ -352,7 +352,7 @@ fn run_capture<R: AllocGlobal + Clock + Eprint + Files + RandomSource, S: Sink>(
     answer
 }
 
-/// Lints the network in this file, and the traffic in the other, where there is one.
+/// Lints the network in the first file, and the traffic in the second, if one is given.
 fn lint<R: AllocGlobal + Files, S: Sink>(
     rt: &R,
     network: &str,
@@ -381,7 +381,7 @@ fn lint<R: AllocGlobal + Files, S: Sink>(
     )
 }
 
-/// Adds up the totals in this file.
+/// Adds up the totals in the given file.
 fn sum<R: AllocGlobal + Files + RandomSource, S: Sink>(
     rt: &R,
     network: &str,
@@ -413,11 +413,11 @@ fn sum<R: AllocGlobal + Files + RandomSource, S: Sink>(
     answer
 }
 
-/// Opens the files that a call names, in the order of its arguments, and only then reads them and answers. What
-/// arguments after the answer need is noted.
+/// Opens the files that a call names, in the order of its arguments, then reads them and answers. Notes what the
+/// sentences after the answer need.
 ///
-/// Fails with 901 where a file can't be opened, or the system gives no octets at random to a call that finds keys by a
-/// hash, with 900 where memory runs out, else as the command does.
+/// Fails with 901 if a file can't be opened, or if the system gives no random octets to a call that hashes keys; with
+/// 900 if out of memory; otherwise like the command.
 pub(crate) fn answer_call<R: AllocGlobal + Clock + Eprint + Files + RandomSource, S: Sink>(
     rt: &R,
     call: &Call,

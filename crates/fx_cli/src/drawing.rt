@@ -11,7 +11,7 @@ use fx_drawings::put_drawing;
 use std::alloc::Global;
 use std::rt::Files;
 
-/// Returns a file that may be left out, opened where it is given.
+/// Opens an optional file, if it is given.
 fn open_given<R: Files>(
     rt: &R,
     path: Option<&str>,
@@ -23,7 +23,7 @@ fn open_given<R: Files>(
     }
 }
 
-/// Returns what a file says, where one is given.
+/// Reads an optional file as a whole, if it is given.
 fn read_given<F: Source>(alloc: Global, file: Option<F>) -> Result<Option<Vec<u8>>, Fault> {
     match file {
         Some(mut file) => Ok(Some(read_whole(alloc, &mut file)?)),
@@ -31,7 +31,7 @@ fn read_given<F: Source>(alloc: Global, file: Option<F>) -> Result<Option<Vec<u8
     }
 }
 
-/// Explains why the text of an answer isn't drawn, as the command does that reads such a text.
+/// Explains why the text of a certificate or a refutation isn't drawn, like `check` or `confirm`.
 fn explain_answer(
     alloc: Global,
     network: &[u8],
@@ -65,7 +65,7 @@ fn explain_answer(
     }
 }
 
-/// Explains why documents aren't drawn, as the command does that lints them.
+/// Explains why documents aren't drawn, like `lint`.
 fn explain_documents(
     alloc: Global,
     network: &[u8],
@@ -83,7 +83,7 @@ fn explain_documents(
     }
 }
 
-/// Explains why texts aren't drawn.
+/// Explains why the texts aren't drawn, if sentences are wanted and the fault is in one of the texts.
 fn explain_undrawn(
     alloc: Global,
     network: &[u8],
@@ -102,10 +102,10 @@ fn explain_undrawn(
     };
 }
 
-/// Draws the network in this file, the traffic in another, where there is one, and what the text in a third says of
-/// both, where there is one too. All files are opened before the first is read.
+/// Draws the network in the first file, the traffic in the second, if one is given, and what the text in the third says
+/// of both, if one is given. Opens all files before it reads the first.
 ///
-/// Fails with 901 where a file can't be opened or read, else as [`put_drawing`] does.
+/// Fails with 901 if a file can't be opened or read, and otherwise like [`put_drawing`].
 pub(crate) fn draw<R: AllocGlobal + Files, S: Sink>(
     rt: &R,
     network: &str,

@@ -1,4 +1,4 @@
-//! How a command ends.
+//! Ends commands: the line of a refusal and the exit status.
 ghost use Rattle.std.specs.Prelude.{◌≡◌, ◌++◌, IfErr, IfOk, Ok};
 ghost use Rattle.fx_base.specs.Device.{PutsText};
 ghost use Rattle.fx_cli.specs.Ending.{EndsWith, IsExitStatus, refusal_line, refusal_status, status};
@@ -53,11 +53,11 @@ fn status_of_answer(answer: Answer) -> u8
     }
 }
 
-/// Ends a command: writes the line of a refusal, and returns the program's exit status. An answer's text has been
-/// written before.
+/// Ends a command: writes the line of a refusal, and returns the program's exit status. An answer's text is already
+/// written.
 ///
-/// 0 an answer of yes, 1 of no, 3 of unknown; 2 a refusal (`refused N PLACE`), 4 out of memory (`memory 900`),
-/// 5 a device that failed (`device 901`, `device 902`), also where the line can't be written.
+/// The status is 0 for an answer of yes, 1 for no and 3 for unknown; 2 for a refusal (`refused N PLACE`); 4 if out of
+/// memory (`memory 900`); 5 if a device failed (`device 901`, `device 902`), also if the line can't be written.
 pub fn finish<S: Sink>(outcome: &Result<Answer, Fault>, sink: &mut S) -> u8
     ensures answered { IfOk outcome.now (λ _. (result ≡ status outcome.now)
         × (sink.new ≡ sink.old)) }
@@ -74,8 +74,8 @@ pub fn finish<S: Sink>(outcome: &Result<Answer, Fault>, sink: &mut S) -> u8
     }
 }
 
-/// Ends a command as [`finish`] does, and writes these sentences after its text or line. Where a write fails the status
-/// is 5.
+/// Ends a command like [`finish`], and writes the sentences of `explanation` after its text or line. The status is 5 if
+/// a write fails.
 pub(crate) fn finish_with<S: Sink>(
     outcome: &Result<Answer, Fault>,
     explanation: &[u8],

@@ -10,7 +10,7 @@ use fx_base::{Fault, Sink, put_text};
 use fx_elements::read_u64;
 use fx_words::{put_explanation, put_refusal_list, refusal_of};
 
-/// Explains the refusals of a number.
+/// Writes the explanation of a number, or `unknown number` with an answer of no if no refusal has it.
 fn explain_number<S: Sink>(number: u16, sink: &mut S) -> Result<Answer, Fault>
     ensures answers { AnswersWith S.taken S.failed (IsExplained (Some number)) sink.old sink.new
         result }
@@ -28,7 +28,7 @@ fn explain_number<S: Sink>(number: u16, sink: &mut S) -> Result<Answer, Fault>
     }
 }
 
-/// Returns the number below 65,536 that a word is in decimal digits.
+/// Returns the number that a word gives in decimal digits, if it is less than 65,536.
 fn number_in(word: &str) -> Option<u16>
     ensures { result ≡ small (number_of largest word.now) }
 {
@@ -40,11 +40,10 @@ fn number_in(word: &str) -> Option<u16>
     }
 }
 
-/// Writes what a refusal of a number says, what it comes from, what to do and where to read on; for the word `all` a
-/// line for each number; for another word, or a number that no refusal has, the line `unknown number`, with an answer
-/// of no.
+/// Writes what a refusal of a number says, its causes, what to do and where to read on; for the word `all`, one line per
+/// number; for another word, or a number that no refusal has, the line `unknown number`, with an answer of no.
 ///
-/// Fails with 902, at no place, where a write fails.
+/// Fails with 902, at no place, if a write fails.
 pub fn explain_bytes<S: Sink>(word: &str, sink: &mut S) -> Result<Answer, Fault>
     ensures answers { AnswersWith S.taken S.failed (IsExplainText word.now) sink.old sink.new
         result }

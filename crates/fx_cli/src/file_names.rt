@@ -2,20 +2,20 @@
 
 use fx_command_line::Call;
 
-/// The files that a command reads, by name. A name is empty where the command has no such file.
+/// The names of the files that a command reads. A name is empty if the command has no such file.
 #[derive(Clone, Copy, Drop)]
 pub(crate) struct FileNames<'a> {
-    /// The network's document.
+    /// The network document.
     pub(crate) network: &'a str,
-    /// The traffic's declaration.
+    /// The traffic declaration.
     pub(crate) traffic: &'a str,
     /// The capture that a network runs over.
     pub(crate) capture: &'a str,
-    /// The text or the stream that is read after all others.
+    /// The text or stream that is read last.
     pub(crate) last: &'a str,
 }
 
-/// Those of a bundle, whose third text isn't a file.
+/// The names for a bundle, whose third text isn't a file.
 pub(crate) const BUNDLE: FileNames<'static> = FileNames {
     network: "standard input, the network in the bundle",
     traffic: "standard input, the traffic in the bundle",
@@ -23,7 +23,7 @@ pub(crate) const BUNDLE: FileNames<'static> = FileNames {
     last: "",
 };
 
-/// Returns the names of a network's document and of a last file.
+/// Returns the names of a network document and a last file.
 fn with_network<'a>(network: &'a str, last: &'a str) -> FileNames<'a> {
     FileNames {
         network,
@@ -33,7 +33,7 @@ fn with_network<'a>(network: &'a str, last: &'a str) -> FileNames<'a> {
     }
 }
 
-/// Returns the names of two documents and of a last file.
+/// Returns the names of a network document, a traffic declaration and a last file.
 fn with_documents<'a>(network: &'a str, traffic: &'a str, last: &'a str) -> FileNames<'a> {
     FileNames {
         network,
@@ -43,7 +43,7 @@ fn with_documents<'a>(network: &'a str, traffic: &'a str, last: &'a str) -> File
     }
 }
 
-/// Returns the name of a file that may be left out.
+/// Returns the name of an optional file, or an empty name.
 fn given(name: Option<&str>) -> &str {
     name.unwrap_or("")
 }

@@ -1,4 +1,4 @@
-//! Which file an answer is about, in words.
+//! Sentences that name the file that an answer is about.
 
 use crate::gathering::Gathered;
 use crate::notes::Notes;
@@ -7,11 +7,11 @@ use fx_base::{Fault, Place, refusals};
 use std::fs;
 use std::rt::Files;
 
-/// Where the lines of a bundle's third text are, which have numbers of their own.
+/// The line for a bundle's third text, whose lines have numbers of their own.
 const IN_BUNDLE: &[u8] =
     b"file: standard input, the third text in the bundle, whose lines are counted from 1\n";
 
-/// Returns whether a directory has this name.
+/// Returns whether there is a directory of this name.
 fn is_directory<R: Files>(rt: &R, path: &str) -> bool {
     match fs::metadata(rt, path) {
         Ok(metadata) => metadata.is_dir(),
@@ -19,7 +19,7 @@ fn is_directory<R: Files>(rt: &R, path: &str) -> bool {
     }
 }
 
-/// Returns whether a refusal of this number is that of a run's step, which has no place.
+/// Returns whether a number is that of the refusal of a run's step, which has no place.
 fn is_of_step(number: u16) -> bool {
     matches!(
         number,
@@ -27,14 +27,14 @@ fn is_of_step(number: u16) -> bool {
     )
 }
 
-/// Returns whether a refusal is about what a call reads after its documents.
+/// Returns whether a fault is in what a call reads after its documents.
 fn is_behind_documents(fault: &Fault) -> bool {
     fault.number >= refusals::CERTIFICATE_FIRST
         && fault.number < refusals::WANT_OF_MEMORY
         && (!matches!(fault.place, Place::None) || is_of_step(fault.number))
 }
 
-/// Writes a file's name in a line of its own.
+/// Writes a file's name on a line of its own, and whether it is a directory.
 fn put_file_name<R: Files>(rt: &R, file: &str, words: &mut Gathered) {
     words.text(b"file: ");
     words.text(file.as_bytes());
@@ -44,8 +44,8 @@ fn put_file_name<R: Files>(rt: &R, file: &str, words: &mut Gathered) {
     words.text(b"\n");
 }
 
-/// Writes which file couldn't be opened, read, made or written, or has what is refused, and why it couldn't be opened,
-/// made or read. Which document is refused is explained with what is there.
+/// Writes which file couldn't be opened, read, made or written, or contains what is refused, and why it couldn't be
+/// opened, made or read. A document that is refused is named by the explanation of its content instead.
 pub(crate) fn put_file_words<R: Files>(
     rt: &R,
     notes: &Notes<'_>,
@@ -74,7 +74,7 @@ pub(crate) fn put_file_words<R: Files>(
     }
 }
 
-/// Returns the file whose last read failed: a document, or the one that is read after them.
+/// Returns the name of the file whose last read failed: a document, or the file that is read after the documents.
 fn unread_file<'a>(notes: &Notes<'a>) -> &'a str {
     let names = &notes.sentences.names;
     match notes.sentences.progressed {
@@ -86,7 +86,7 @@ fn unread_file<'a>(notes: &Notes<'a>) -> &'a str {
     }
 }
 
-/// Writes the name of the file that the last text is in.
+/// Writes the name of the file that contains the last text, or that the text is in a bundle.
 pub(crate) fn put_text_name<R: Files>(rt: &R, notes: &Notes<'_>, words: &mut Gathered) {
     match notes.sentences.command {
         None => put_file_name(rt, notes.sentences.names.last, words),
@@ -94,7 +94,7 @@ pub(crate) fn put_text_name<R: Files>(rt: &R, notes: &Notes<'_>, words: &mut Gat
     }
 }
 
-/// Writes that the last text is in a bundle, where it is; a file's name was written before.
+/// Writes that the last text is in a bundle, if it is. If it is in a file, its name is already written.
 pub(crate) fn put_bundled_name(notes: &Notes<'_>, words: &mut Gathered) {
     if notes.sentences.command.is_some() {
         words.text(IN_BUNDLE);

@@ -1,4 +1,4 @@
-//! Files that are read, and files that are written.
+//! Opens files to read and makes files to write.
 ghost use Rattle.std.specs.Prelude.{◌≡◌, IfErr};
 ghost use Rattle.fx_base.specs.Fault.{fault_at};
 ghost use Rattle.fx_base.specs.Refusals.{failed_read, failed_write};
@@ -9,9 +9,9 @@ use fx_base::{Fault, Outside, refusals};
 use std::fs;
 use std::rt::Files;
 
-/// Returns a file, opened to be read from its beginning.
+/// Opens a file for reading from its beginning.
 ///
-/// Fails with 901, at no place, where it can't be opened; which file it is and why is noted.
+/// Fails with 901, at no place, if it can't be opened, and notes which file it is and why.
 pub fn open<R: Files>(rt: &R, path: &str, notes: &mut Notes<'_>) -> Result<Outside<R::File>, Fault>
     ensures { IfErr result (λ e. e ≡ fault_at failed_read places.None) }
 {
@@ -24,9 +24,9 @@ pub fn open<R: Files>(rt: &R, path: &str, notes: &mut Notes<'_>) -> Result<Outsi
     }
 }
 
-/// Returns a file, made to be written from its beginning, or emptied where it is there.
+/// Makes a file for writing from its beginning, or empties it if it exists.
 ///
-/// Fails with 902, at no place, where it can't be made; which file it is and why is noted.
+/// Fails with 902, at no place, if it can't be made, and notes which file it is and why.
 pub fn make<R: Files>(
     rt: &R,
     path: &str,

@@ -3,8 +3,8 @@
 use fx_base::{Fault, Outside, put_number, put_text};
 use std::alloc::Global;
 
-/// Sentences after an answer. If some can't be made, since memory runs out or a read of what they are about fails,
-/// there are none at the end.
+/// Sentences after an answer. If some can't be made, because memory runs out or a read of what they describe fails,
+/// the whole text is empty.
 #[derive(Drop)]
 pub(crate) struct Gathered {
     sink: Outside<Vec<u8>>,
@@ -20,12 +20,12 @@ impl Gathered {
         }
     }
 
-    /// Returns the sink for a function that returns whether it could write, which is to be noted then.
+    /// Returns the sink, for a function whose outcome is then passed to `note`.
     pub(crate) fn sink(&mut self) -> &mut Outside<Vec<u8>> {
         &mut self.sink
     }
 
-    /// Notes whether a text could be made.
+    /// Notes the outcome of making a text.
     pub(crate) fn note(&mut self, outcome: Result<(), Fault>) {
         if outcome.is_err() {
             self.fail();
@@ -59,7 +59,7 @@ impl Gathered {
         self.failed = true;
     }
 
-    /// Returns the whole text, or none where a part couldn't be made.
+    /// Returns the whole text, or an empty one if a part couldn't be made.
     pub(crate) fn into_octets(self, alloc: Global) -> Vec<u8> {
         let Gathered { sink, failed } = self;
         if failed {

@@ -1,6 +1,6 @@
 //! The first octets of a file.
 
-/// How many octets are kept: as many as a capture's file header has.
+/// The number of octets that are kept: the length of a capture's file header.
 const ROOM: usize = 24;
 
 /// The first octets of a file, at most 24.
@@ -11,7 +11,7 @@ pub(crate) struct Head {
 }
 
 impl Head {
-    /// Returns those of a file of which nothing was read.
+    /// Returns the first octets of a file of which nothing has been read.
     pub(crate) fn new() -> Head {
         Head {
             octets: [0; ROOM],
@@ -19,7 +19,7 @@ impl Head {
         }
     }
 
-    /// Appends octets to those kept, until the room is used up.
+    /// Appends octets, up to 24 in all.
     pub(crate) fn keep(&mut self, octets: &[u8]) {
         for octet in octets {
             if self.count >= ROOM {

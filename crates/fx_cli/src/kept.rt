@@ -1,24 +1,24 @@
-//! Sources that keep a copy of what they give.
+//! Sources that keep a copy of the octets they return.
 ghost use Rattle.std.specs.Prelude.{◌≡◌};
 
 use fx_base::{Fault, Source};
 use std::alloc::Global;
 
-/// A copy of octets, kept as long as there is memory for it.
+/// A copy of octets, kept until memory runs out.
 #[derive(Drop)]
 pub struct OctetCopy {
     octets: Option<Vec<u8>>,
 }
 
 impl OctetCopy {
-    /// Returns an empty copy, or none where nothing is to be kept.
+    /// Returns an empty copy, which keeps octets only if `keeps` is true.
     pub fn new(alloc: Global, keeps: bool) -> OctetCopy {
         OctetCopy {
             octets: if keeps { Some(Vec::new(alloc)) } else { None },
         }
     }
 
-    /// Keeps these octets too. Where there is no memory for them, nothing is kept from then on.
+    /// Appends octets. If out of memory, drops the copy and keeps nothing from then on.
     fn keep(&mut self, octets: &[u8]) {
         let Some(kept) = &mut self.octets else {
             return;
@@ -28,13 +28,13 @@ impl OctetCopy {
         }
     }
 
-    /// Returns the octets, where they were kept.
+    /// Returns the octets, if they were kept.
     pub fn octets(&self) -> Option<&[u8]> {
         self.octets.as_deref()
     }
 }
 
-/// A source, and a copy of what it gives.
+/// A source with a copy of the octets it returns.
 #[derive(Drop)]
 pub struct KeptSource<R> {
     source: R,
@@ -42,7 +42,7 @@ pub struct KeptSource<R> {
 }
 
 impl<R: Source> KeptSource<R> {
-    /// This source, whose octets are kept in a copy.
+    /// Returns the source, with `copy` to keep its octets in.
     pub fn new(source: R, copy: OctetCopy) -> KeptSource<R>
         ensures source { result.source ≡ source }
         ensures copy { result.copy ≡ copy }

@@ -19,8 +19,9 @@ fn link_path(alloc: Global, prefix: &str, link: u64) -> Result<String, AllocErro
     Ok(path)
 }
 
-/// Makes, or empties, the file of each link, whose name is a prefix and the link's number, from 1, in decimal. It makes
-/// no file whose very name is that of one that the run reads. Nothing is known of what a file has taken.
+/// The maker of the links' files. It makes or empties the file of each link, whose name is a prefix followed by the
+/// link's 1-based number in decimal, but no file that has exactly the name of one that the run reads. Nothing is
+/// specified about what a file has taken.
 #[derive(Drop)]
 pub struct LinkFiles<'a, R: Files> {
     alloc: Global,
@@ -31,8 +32,8 @@ pub struct LinkFiles<'a, R: Files> {
 }
 
 impl<'a, R: Files> LinkFiles<'a, R> {
-    /// Takes the prefix of the files' names, the names of the files that the run reads, and where a file that fails is
-    /// noted.
+    /// Returns the maker, given the prefix of the files' names, the names of the files that the run reads, and the note
+    /// of a file that fails.
     pub fn new(
         alloc: Global,
         rt: &'a R,
@@ -49,7 +50,7 @@ impl<'a, R: Files> LinkFiles<'a, R> {
         }
     }
 
-    /// Returns the file that failed, if it is noted.
+    /// Returns the note of the file that failed.
     pub fn into_failed_file(self) -> FailedFile
         ensures { result ≡ self.entry.failed_file }
     {
@@ -63,7 +64,7 @@ impl<'a, R: Files> LinkFiles<'a, R> {
         failed_file
     }
 
-    /// Returns whether the run reads a file by this very name.
+    /// Returns whether the run reads a file of exactly this name.
     fn is_input(&self, path: &str) -> bool {
         self.inputs.contains(&path)
     }

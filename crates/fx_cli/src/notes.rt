@@ -1,4 +1,4 @@
-//! What a command is asked to print beside its answer, and what it notes of its files for that.
+//! What a command is asked to print besides its answer, and what it notes about its files for that.
 ghost use Rattle.std.specs.Prelude.{◌≡◌};
 
 use crate::file_names::FileNames;
@@ -11,7 +11,7 @@ use std::alloc::{AllocError, Global};
 use std::io;
 use std::rt::Clock;
 
-/// Which file couldn't be opened, made or written, and why, where that is to be noted.
+/// A note of the file that couldn't be opened, made or written, and why, if that is to be noted.
 #[derive(Drop)]
 pub struct FailedFile {
     alloc: Global,
@@ -20,7 +20,7 @@ pub struct FailedFile {
 }
 
 impl FailedFile {
-    /// Returns a note of no file yet; whether one is to be noted.
+    /// Returns a note of no file yet, which notes a file only if `keeps` is true.
     pub fn new(alloc: Global, keeps: bool) -> FailedFile {
         FailedFile {
             alloc,
@@ -36,7 +36,7 @@ impl FailedFile {
         }
     }
 
-    /// Notes a file that isn't written since the command reads it.
+    /// Notes a file that isn't written because the command reads it.
     pub fn read_too(&mut self, path: &str) {
         if self.keeps {
             self.description = format!(in self.alloc;
@@ -45,7 +45,7 @@ impl FailedFile {
         }
     }
 
-    /// Notes a file that can't be written, unless it is one that can't be made.
+    /// Notes a file that can't be written, unless a file is noted already.
     pub fn unwritten(&mut self, path: &str) {
         if self.keeps && self.description.is_none() {
             self.description = String::from_str(self.alloc, path).ok();
@@ -63,13 +63,13 @@ impl FailedFile {
         }
     }
 
-    /// Returns the file's name and, if the system has reported it, the reason.
+    /// Returns the file's name and the reason, if one is known; nothing if no file is noted.
     pub fn description(&self) -> Option<&str> {
         self.description.as_deref()
     }
 }
 
-/// What a command is asked to print beside its answer.
+/// What a command is asked to print besides its answer.
 pub struct Notes<'a> {
     alloc: Global,
     progress: bool,
@@ -80,7 +80,7 @@ pub struct Notes<'a> {
 }
 
 impl Drop for Notes<'_> {
-    /// Drops its parts in one place.
+    /// Drops its parts here, so that each drop elsewhere is one call.
     fn drop(self) {
         let Self {
             alloc: _,
@@ -91,7 +91,9 @@ impl Drop for Notes<'_> {
     }
 }
 
-/// Returns a file's name, and why it couldn't be opened or made.
+/// Returns a file's name and why it couldn't be opened or made.
+///
+/// Fails if out of memory.
 fn sentence(alloc: Global, path: &str, error: io::Error) -> Result<String, AllocError> {
     let name = if path.is_empty() {
         "(a word without letters)"
@@ -107,7 +109,7 @@ fn sentence(alloc: Global, path: &str, error: io::Error) -> Result<String, Alloc
 }
 
 impl<'a> Notes<'a> {
-    /// Returns notes of nothing yet, for a command over these files; whether progress is to be printed.
+    /// Returns empty notes for a command over files of these names. Progress is printed only if `progress` is true.
     pub(crate) fn new(
         alloc: Global,
         wanted: Wanted,
@@ -123,17 +125,17 @@ impl<'a> Notes<'a> {
         }
     }
 
-    /// Returns where a file that fails is noted, of those that the command itself makes.
+    /// Returns a note for the files that the command itself makes.
     pub fn failing_files(&self) -> FailedFile {
         FailedFile::new(self.alloc, self.sentences.are_wanted())
     }
 
-    /// Returns the progress of what begins now, which is printed if that is asked for.
+    /// Returns the progress of what begins now, which is printed if that was asked for.
     pub fn progress<'b, R: Eprint + Clock>(&self, rt: &'b R) -> Progress<'b, R> {
         Progress::new(rt, self.progress)
     }
 
-    /// Returns a source of which a copy is kept, where sentences are wanted.
+    /// Returns the source, with a copy of its octets kept if sentences are wanted.
     pub(crate) fn kept<R: Source>(&self, source: R) -> KeptSource<R>
         ensures { result.source ≡ source }
     {
@@ -148,7 +150,7 @@ impl<'a> Notes<'a> {
         self.sentences.progressed = Progressed::Opened;
     }
 
-    /// Notes where a bundle has no answer since standard input can't be read.
+    /// Notes that standard input can't be read, if that is why a bundle has no answer.
     pub(crate) fn unread_bundle(&mut self, answer: &Result<Answer, Fault>) {
         if let Err(fault) = answer {
             if fault.number == refusals::FAILED_READ {

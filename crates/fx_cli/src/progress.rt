@@ -1,4 +1,4 @@
-//! How far a command has come, printed on standard error.
+//! The progress of a command, printed on standard error.
 ghost use Rattle.std.specs.Prelude.{◌≡◌};
 
 use crate::head::Head;
@@ -7,13 +7,14 @@ use fx_search::Watch;
 use std::rt::Clock;
 use std::time::{Duration, Instant};
 
-/// The least time between two lines, in seconds.
+/// The minimum time between two lines, in seconds.
 const PAUSE: u64 = 1;
 
-/// After how many lines of a certificate the clock is looked at: a look takes as long as finding some of them.
+/// The number of lines of a certificate between two readings of the clock, each of which takes as long as finding a few
+/// lines.
 const LINES_A_LOOK: u64 = 64;
 
-/// When a line is printed next, if lines are asked for.
+/// The time of the last line of progress, or of the beginning; none if no lines are printed.
 #[derive(Drop)]
 pub struct Progress<'a, R> {
     rt: &'a R,
@@ -21,13 +22,13 @@ pub struct Progress<'a, R> {
 }
 
 impl<'a, R: Eprint + Clock> Progress<'a, R> {
-    /// Returns the progress of what begins now. None is printed if none is asked for, or the system has no clock.
+    /// Returns the progress of what begins now. Nothing is printed unless `asked` is true and the system has a clock.
     pub fn new(rt: &'a R, asked: bool) -> Progress<'a, R> {
         let last = if asked { Instant::now(rt).ok() } else { None };
         Progress { rt, last }
     }
 
-    /// Returns whether a line is to be printed now; if so, the next one is when as much time has passed again.
+    /// Returns whether a line is due now. If so, the next is due after another pause.
     fn is_due(&mut self) -> bool {
         let Some(last) = self.last else {
             return false;
@@ -43,7 +44,7 @@ impl<'a, R: Eprint + Clock> Progress<'a, R> {
     }
 }
 
-/// A source, of which is printed how many octets it has given.
+/// A source that prints how many octets were read from it.
 #[derive(Drop)]
 pub struct ProgressSource<'a, R, S> {
     source: S,
@@ -54,7 +55,7 @@ pub struct ProgressSource<'a, R, S> {
 }
 
 impl<'a, R: Eprint + Clock, S: Source> ProgressSource<'a, R, S> {
-    /// This source, which is the file of this path.
+    /// Returns the source, which is the file at `path`.
     pub fn new(source: S, path: &'a str, progress: Progress<'a, R>) -> ProgressSource<'a, R, S>
         ensures { result.source ≡ source }
     {
@@ -67,12 +68,12 @@ impl<'a, R: Eprint + Clock, S: Source> ProgressSource<'a, R, S> {
         }
     }
 
-    /// Returns the first octets that it has given, at most as many as a capture's file header has.
+    /// Returns the first octets that were read, at most the length of a capture's file header.
     pub fn head(&self) -> &[u8] {
         self.head.octets()
     }
 
-    /// Reports how many octets were given, where it is time. A line that can't be written is left out.
+    /// Counts the octets that were read, and prints the count if a line is due. Ignores a failed write.
     fn tell(&mut self, count: usize)
         ensures { self.new.source ≡ self.old.source }
     {
@@ -100,7 +101,7 @@ impl<'a, R: Eprint + Clock, S: Source> Source for ProgressSource<'a, R, S> {
     }
 }
 
-/// An audit's search, of which is printed how many lines of a certificate it has found.
+/// An observer of an audit's search that prints how many lines of a certificate were found.
 #[derive(Drop)]
 pub struct ProgressSearch<'a, R> {
     limit: u64,
@@ -108,7 +109,7 @@ pub struct ProgressSearch<'a, R> {
 }
 
 impl<'a, R: Eprint + Clock> ProgressSearch<'a, R> {
-    /// Returns a search for a certificate of at most `limit` split and leaf lines.
+    /// Returns an observer of a search for a certificate of at most `limit` split and leaf lines.
     pub fn new(limit: u64, progress: Progress<'a, R>) -> ProgressSearch<'a, R> {
         ProgressSearch { limit, progress }
     }

@@ -1,4 +1,4 @@
-//! Numbers at random, by which keys are hashed.
+//! Random seeds for hashing keys.
 ghost use Rattle.std.specs.Prelude.{◌≡◌, IfErr};
 ghost use Rattle.fx_base.specs.Fault.{fault_at};
 ghost use Rattle.fx_base.specs.declared.fault.Place.TheVariants as places;
@@ -8,9 +8,9 @@ use fx_base::{Fault, refusals};
 use fx_layout::Seed;
 use std::random::RandomSource;
 
-/// Returns a seed that nobody can foresee, of 16 octets that the system gives at random.
+/// Returns an unpredictable seed, made of 16 random octets from the system.
 ///
-/// Fails with 901, at no place, where it gives none.
+/// Fails with 901, at no place, if the system gives none.
 pub fn seed_at_random<R: RandomSource>(rt: &R) -> Result<Seed, Fault>
     ensures { IfErr result (λ e. e ≡ fault_at failed_read places.None) }
 {
