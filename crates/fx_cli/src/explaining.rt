@@ -40,8 +40,8 @@ fn number_in(word: &str) -> Option<u16>
     }
 }
 
-/// Writes what a refusal of a number says, its causes, what to do and where to read on; for the word `all`, one line per
-/// number; for another word, or a number that no refusal has, the line `unknown number`, with an answer of no.
+/// Writes what a refusal of a number says, its causes, what to do and where to read on; for the word `all`, one line
+/// per number; for another word, or a number that no refusal has, the line `unknown number`, with an answer of no.
 ///
 /// Fails with 902, at no place, if a write fails.
 pub fn explain_bytes<S: Sink>(word: &str, sink: &mut S) -> Result<Answer, Fault>
