@@ -38,12 +38,30 @@ def octets_of(row, name, default=b""):
         return file.read()
 
 
+def words_of(row):
+    """The program's arguments."""
+    return shlex.split(octets_of(row, "words").decode())
+
+
+def ways(words, option):
+    """The arguments with an option before all and after all; after `--` it would be a file's name."""
+    yield [*option, *words]
+    if words and "--" not in words:
+        yield [*words, *option]
+
+
+@contextlib.contextmanager
+def folder_of(row):
+    """The folder of a row, or a copy of it if the program writes files there or one is cut."""
+    if b"--links" not in octets_of(row, "words") and not os.path.exists(os.path.join(row, "cuts")):
+        yield row
+        return
+    with tempfile.TemporaryDirectory() as folder:
+        yield shutil.copytree(row, os.path.join(folder, "row"))
+
+
 def faults(program, row):
-    with contextlib.ExitStack() as folders:
-        folder = row
-        if "--links" in octets_of(row, "words").decode() or os.path.exists(os.path.join(row, "cuts")):
-            folder = os.path.join(folders.enter_context(tempfile.TemporaryDirectory()), "row")
-            shutil.copytree(row, folder)
+    with folder_of(row) as folder:
         if os.path.exists(os.path.join(row, "cuts")):
             yield from faults_of_cuts(program, folder)
         else:
@@ -51,17 +69,22 @@ def faults(program, row):
             yield from faults_of_links(folder)
 
 
-def faults_of_cuts(program, folder):
-    name = octets_of(folder, "cuts").decode().strip()
-    whole, words = octets_of(folder, name), shlex.split(octets_of(folder, "words").decode())
-    for line in octets_of(folder, "cuts.txt").decode().splitlines():
+def cuts_of(row):
+    """The lengths to which a row's file is cut, each with the exit status and what must be printed."""
+    for line in octets_of(row, "cuts.txt").decode().splitlines():
         length, status, text = line.split(" ", 2)
+        yield int(length), int(status), text.replace("\\n", "\n").encode()
+
+
+def faults_of_cuts(program, folder):
+    name, words = octets_of(folder, "cuts").decode().strip(), words_of(folder)
+    whole = octets_of(folder, name)
+    for length, status, wanted in cuts_of(folder):
         with open(os.path.join(folder, name), "wb") as file:
-            file.write(whole[: int(length)])
+            file.write(whole[:length])
         ran = run([program] + words, folder)
-        wanted = text.replace("\\n", "\n").encode()
-        if ran.returncode != int(status) or ran.stdout != wanted or ran.stderr:
-            yield "cut to %s octets: status %d and %r" % (length, ran.returncode, ran.stdout[:300])
+        if ran.returncode != status or ran.stdout != wanted or ran.stderr:
+            yield "cut to %d octets: status %d and %r" % (length, ran.returncode, ran.stdout[:300])
 
 
 def faults_of_links(folder):
@@ -77,11 +100,20 @@ def faults_of_links(folder):
             yield "link%s must not exist" % kind
 
 
+@contextlib.contextmanager
+def output_of(row):
+    """What a row's standard output is."""
+    name = octets_of(row, "output").decode().strip()
+    if not name:
+        yield PIPE
+        return
+    with open(name, "wb") as file:
+        yield file
+
+
 def faults_in(program, row):
-    words = shlex.split(octets_of(row, "words").decode())
-    output = octets_of(row, "output").decode().strip()
-    with contextlib.ExitStack() as files:
-        to = files.enter_context(open(output, "wb")) if output else PIPE
+    words = words_of(row)
+    with output_of(row) as to:
         ran = run([program] + words, row, octets_of(row, "stdin"), stdout=to)
     wanted, status = octets_of(row, "stdout", None), int(octets_of(row, "status"))
     if wanted is not None and ran.stdout != wanted:

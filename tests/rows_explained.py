@@ -9,12 +9,11 @@ Prints a line for each row that fails, and last `N passed, M failed`. The exit s
 """
 import os
 import re
-import shlex
 import sys
 
 import rows
 from program import run
-from rows import ROWS, octets_of
+from rows import ROWS, octets_of, ways, words_of
 
 # A line after which a person has to do something.
 ASKS = re.compile(rb"(refused|no|unknown|device|memory) \d+")
@@ -23,17 +22,9 @@ ASKS = re.compile(rb"(refused|no|unknown|device|memory) \d+")
 PASSED_OVER = ("output", "cuts")
 
 
-def ways(words):
-    """The arguments with the flag before all and after all; after `--` it would be a file's name."""
-    yield ["--explain"] + words
-    if "--" not in words:
-        yield words + ["--explain"]
-
-
 def faults(program, row):
-    words = shlex.split(octets_of(row, "words").decode())
     wanted, status = octets_of(row, "stdout", None), int(octets_of(row, "status"))
-    for way in ways(words):
+    for way in ways(words_of(row), ["--explain"]):
         ran = run([program] + way, row, octets_of(row, "stdin"))
         if ran.returncode != status:
             yield "status %d instead of %d" % (ran.returncode, status)

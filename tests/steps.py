@@ -53,6 +53,7 @@ STEPS = [
     script("tools", PROGRAM),
     script("rows", PROGRAM),
     script("rows_explained", PROGRAM),
+    script("json_rows", PROGRAM, needs=("python3-jsonschema",), module="jsonschema"),
     script("terminal", PROGRAM),
     script("progress", PROGRAM, alone=True),
     script("pages", PROGRAM),
