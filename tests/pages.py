@@ -3,14 +3,16 @@
 
 Blocks that are indented by four spaces and begin with `$ ` are run, those of one heading in one session from the top of the
 repository: each line after `$ `, with PROGRAM as `once`, tools/once-import, once-mend, once-part and once-report; what it prints must be the lines that follow. Blocks
-without `$ ` are about a network of the reader's. Prints a line for each that differs, and last how many passed.
+without `$ ` are about a network of the reader's. Commands with jq are left out if there is none. Prints a line for each that differs, and last how many passed.
 """
 import os
 import re
+import shutil
 import sys
 import tempfile
 
 from program import WITH_OUTPUT, run
+from verdict import not_run
 
 TOP = os.path.dirname(os.path.dirname(os.path.abspath(__file__)))
 PAGES = ["README.md", "docs/GUIDE.md", "tools/README.md"]
@@ -60,6 +62,9 @@ def main(program):
                 environment = {**os.environ, "PATH": made + ":" + os.environ["PATH"]}
                 ran = run(["bash", "-c", script], TOP, seconds=600, stderr=WITH_OUTPUT, text=True, env=environment)
                 for (command, wanted), found in zip(session, ran.stdout.split("\0")):
+                    if "| jq " in command and not shutil.which("jq"):
+                        not_run("%s: %s" % (page, command), "there is no jq (Debian's package jq)")
+                        continue
                     passed, failed = passed + (found == wanted), failed + (found != wanted)
                     if found != wanted:
                         print("%s: %s: printed %r instead of %r" % (page, command, found, wanted))

@@ -56,7 +56,7 @@ STEPS = [
     script("json_rows", PROGRAM, needs=("python3-jsonschema",), module="jsonschema"),
     script("terminal", PROGRAM),
     script("progress", PROGRAM, alone=True),
-    script("pages", PROGRAM),
+    script("pages", PROGRAM, needs=("jq",)),
     script("drawings", PROGRAM, needs=("graphviz",)),
     Step("manual", ("packaging/manual.py", PROGRAM, "--compare")),
     script("long_certificates", PROGRAM),
