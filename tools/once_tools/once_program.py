@@ -30,7 +30,7 @@ def find_once(named: str | None) -> str:
 def run_once(program: str, *arguments: str | Path) -> Run:
     """Returns what a command of `once` answers."""
     try:
-        ran = subprocess.run([program, *map(str, arguments)], capture_output=True, text=True, errors="backslashreplace")
+        ran = subprocess.run([program, *map(str, arguments)], capture_output=True, encoding="utf-8", errors="backslashreplace")
     except OSError as error:
         raise Failed(Place(""), f"'{program}' cannot be run: {error.strerror}", "name `once` by --once PROGRAM") from error
     return Run(ran.returncode, ran.stdout, ran.stderr)
