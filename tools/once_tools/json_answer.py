@@ -178,4 +178,4 @@ def ask_once(program: str, command: str, *arguments: str | Path, place: Place = 
 def unexpected(answer: Answer, place: Place = NOWHERE) -> Failed:
     """Returns the failure that an answer is where another one is due."""
     said = "; ".join((answer.first_line, *answer.explanation))
-    return Failed(place, f"`once {answer.command}` answered: {said}", NAMED)
+    return Failed(place, f"`once {answer.command}` answered: {said}", f"see `once explain {answer.number}`" if answer.number else NAMED)

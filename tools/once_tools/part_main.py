@@ -9,7 +9,7 @@ from typing import Sequence
 
 from once_tools.ending import Parser, exit_status
 from once_tools.once_program import find_once
-from once_tools.parts.auditing import Answer, audit_all, status_of
+from once_tools.parts.auditing import Outcome, audit_all, status_of
 from once_tools.parts.cutting import Sources, cut
 from once_tools.parts.manifest import read_manifest
 from once_tools.parts.verifying import verify
@@ -70,16 +70,16 @@ def run_cut(arguments: argparse.Namespace) -> int:
 
 
 def run_audit(arguments: argparse.Namespace) -> int:
-    program, answers = find_once(arguments.once), []
+    program, outcomes = find_once(arguments.once), []
     for one in audit_all(program, read_manifest(arguments.folder).parts, arguments.jobs):
-        answers.append(one.answer)
+        outcomes.append(one.outcome)
         size = f"{counted(len(one.part.classes), 'class', 'classes')}, {counted(len(one.part.devices), 'device', 'devices')}"
-        print(f"part {one.part.name}: {size}: {one.answer.name.lower()}", flush=True)
+        print(f"part {one.part.name}: {size}: {one.outcome.name.lower()}", flush=True)
         for line in one.says:
             print(f"  {printable(line)}", flush=True)
-    counts = [f"{answers.count(one)} {one.name.lower()}" for one in Answer if one in answers]
-    print(f"{counted(len(answers), 'part', 'parts')}: {', '.join(counts) or 'nothing to audit'}")
-    return status_of(answers).value
+    counts = [f"{outcomes.count(one)} {one.name.lower()}" for one in Outcome if one in outcomes]
+    print(f"{counted(len(outcomes), 'part', 'parts')}: {', '.join(counts) or 'nothing to audit'}")
+    return status_of(outcomes).value
 
 
 def run_verify(arguments: argparse.Namespace) -> int:

@@ -30,7 +30,7 @@ def test_a_refusal() -> None:
                            Reason("it is not there", "a typing error", "correct it", "FORMATS"))
     assert found.first_line == "refused 107 /devices/0" and found.file == "n.json" and found.details == ("there are: file: t.json",)
     assert line_of(unexpected(found, Place("part 1")).finding) == "wrong part 1: `once lint` answered: refused 107 /devices/0; file: n.json; " \
-                                                                   "there are: file: t.json; name the program `once` by --once PROGRAM"
+                                                                   "there are: file: t.json; see `once explain 107`"
 
 
 @pytest.mark.parametrize("place, wanted", [

@@ -5,6 +5,7 @@ import copy
 import importlib
 import json
 import random
+import shlex
 import shutil
 import sys
 from pathlib import Path
@@ -333,14 +334,25 @@ def test_what_makes_no_difference() -> None:
     assert faults(whole, (other[0], whole[1])) == []
 
 
+def prints(answer: str, status: int, output: str) -> str:
+    """Returns the words of a shell that answer as `once` does."""
+    members = {"format": "once-answer/1", "command": "", "answer": answer, "status": status, "output": output, "files": {}}
+    return f"printf '%s\\n' {shlex.quote(json.dumps(members))}; exit {status}"
+
+
+CERTIFICATE, REFUTATION = prints("certificate", 0, "once-certificate 1\nend\n"), prints("refutation", 1, "once-refutation 2\n")
+
+
 @pytest.mark.parametrize(("script", "status", "said"), [
-    ("[ $1 = audit ] && printf 'once-certificate 1\\nend\\n' || { echo no 401 line 1; exit 1; }", 5,
+    (f"[ $1 = audit ] && {{ {CERTIFICATE}; }}; {prints('no', 1, 'no 401 line 1')}", 5,
      "wrong part 0001: `once check` does not accept the certificate of `once audit`: `once check` answers no 401 line 1; report this fault of `once`"),
     ("echo out of memory >&2; exit 4", 5, "wrong part 0001: `once audit` answered: out of memory; "),
-    ("[ $1 = audit ] && { echo once-refutation 2; exit 1; } || echo no 505", 5, "wrong part 0001: `once confirm` answered: no 505; "),
-    ("echo unknown 601; exit 3", 3, ""),
+    (f"[ $1 = audit ] && {{ {REFUTATION}; }}; {prints('no', 1, 'no 505')}", 5, "wrong part 0001: `once confirm` answered: no 505; "),
+    (prints("unknown", 3, "unknown 601"), 3, ""),
+    (prints("device", 5, "device 901"), 5, "wrong part 0001: `once audit` answered: device 901; "),
     ("echo nothing; exit 2", 5, "wrong part 0001: `once audit` answered: nothing; "),
-], ids=["certificate", "memory", "refutation", "unknown", "refusal"])
+    ("echo \"error: unexpected argument '--format' found\"; exit 6", 5, "wrong part 0001: `once` does not have the option --format json; use once 1.0.0 or later"),
+], ids=["certificate", "memory", "refutation", "unknown", "device", "refusal", "older"])
 def test_answers_that_once_should_not_give(script: str, status: int, said: str, parts: Path, tmp_path: Path, capsys: pytest.CaptureFixture[str]) -> None:
     shutil.copytree(parts, tmp_path, dirs_exist_ok=True)
     program = tmp_path / "once"
