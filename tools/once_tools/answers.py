@@ -1,11 +1,11 @@
-"""Answers of `once`: certificates, refutations and refusals, read for what they say about a network."""
+"""What the answers of `once` say about a network: the packet of a refutation, and the place of a refusal."""
 from __future__ import annotations
 
 from dataclasses import dataclass, field
 from typing import Mapping
 
 from once_tools.elements import AXES
-
+from once_tools.json_answer import Answer
 
 
 @dataclass
@@ -53,8 +53,13 @@ def refusal_of(text: str) -> Refusal | None:
     return None
 
 
+def fault_in(answer: Answer) -> Refutation | Refusal | None:
+    """Returns the refutation or the refusal that an answer is, None if it is neither."""
+    if answer.answer == "refused" and answer.number is not None:
+        return Refusal(answer.number, answer.place.text)
+    return refutation_of(answer.output) if answer.answer == "refutation" else None
+
+
 def is_certificate(text: str) -> bool:
     """Returns whether a text is a certificate."""
     return text.startswith("once-certificate ")
-
-

@@ -3,7 +3,7 @@ from __future__ import annotations
 
 from typing import Mapping, Sequence
 
-from once_tools.answers import Refutation, refusal_of, refutation_of
+from once_tools.answers import Refusal, Refutation
 from once_tools.elements import ADDRESSES
 from once_tools.model import Finding, Grade, Place
 from once_tools.network_view import DeviceView, Json, NetworkView, Sighting, entries, texts
@@ -140,8 +140,9 @@ def blame_refutation(network: Json, traffic: Json, refutation: Refutation) -> li
     return judged(view, sightings, path, str(one.get("name", "")), "exempt" in one, refutation.packet)
 
 
-def blame_refusal(network: Json, number: int, pointer: str) -> list[Finding]:
+def blame_refusal(network: Json, refusal: Refusal) -> list[Finding]:
     """Returns the line that makes `once` refuse a network."""
+    number, pointer = refusal.number, refusal.pointer
     parts = pointer.split("/")
     devices = NetworkView(network).devices
     if len(parts) > 4 and parts[1] == "devices" and parts[2].isdigit() and int(parts[2]) < len(devices):
@@ -153,9 +154,8 @@ def blame_refusal(network: Json, number: int, pointer: str) -> list[Finding]:
                     f"see `once explain {number}`", number=number)]
 
 
-def blame(network: Json, traffic: Json, answer: str) -> list[Finding]:
-    """Returns what an answer of `once` says about lines of configurations; nothing for a certificate."""
-    refutation, refusal = refutation_of(answer), refusal_of(answer)
-    if refutation:
-        return blame_refutation(network, traffic, refutation)
-    return blame_refusal(network, refusal.number, refusal.pointer) if refusal else []
+def blame(network: Json, traffic: Json, fault: Refutation | Refusal | None) -> list[Finding]:
+    """Returns what a refutation or a refusal says about lines of configurations; nothing for other answers."""
+    if isinstance(fault, Refutation):
+        return blame_refutation(network, traffic, fault)
+    return blame_refusal(network, fault) if fault else []

@@ -8,11 +8,10 @@ from enum import Enum
 from pathlib import Path
 from typing import Iterator
 
-from once_tools.answers import is_certificate
 from once_tools.documents import text_of
+from once_tools.json_answer import ask_once
 from once_tools.model import Failed, Place
 from once_tools.network_view import DeviceView, Json, entries, table, texts
-from once_tools.once_program import run_once
 
 
 class Verdict(Enum):
@@ -25,7 +24,7 @@ class Verdict(Enum):
 
 
 RIGHT = (Verdict.ONCE, Verdict.EXEMPT)
-VERDICTS = {1: Verdict.WRONG, 3: Verdict.UNKNOWN}
+VERDICTS = {"refutation": Verdict.WRONG, "unknown": Verdict.UNKNOWN}
 
 
 @dataclass(frozen=True)
@@ -117,13 +116,13 @@ def audited_alone(program: str, network: Json, traffic: Json, one: Json, folder:
     alone: Json = {**traffic, "classes": [one]}
     (folder / "network.json").write_text(text_of(dict(network)), encoding="utf-8")
     (folder / "traffic.json").write_text(text_of(dict(alone)), encoding="utf-8")
-    answer = run_once(program, "audit", folder / "network.json", folder / "traffic.json")
-    if answer.status == 0 and is_certificate(answer.output):
+    answer = ask_once(program, "audit", folder / "network.json", folder / "traffic.json")
+    if answer.answer == "certificate":
         return certified(answer.output, network, alone)[str(one.get("name", ""))]
-    if answer.status not in VERDICTS:
-        raise Failed(Place(""), f"`once audit` of class '{one.get('name', '')}' alone ended with status {answer.status}: "
-                                f"{(answer.output + answer.errors).strip()}", "audit the documents by `once audit`")
-    return ClassState(VERDICTS[answer.status])
+    if answer.answer not in VERDICTS:
+        raise Failed(Place(""), f"`once audit` of class '{one.get('name', '')}' alone ended with status {answer.status}: {answer.output.strip()}",
+                     "audit the documents by `once audit`")
+    return ClassState(VERDICTS[answer.answer])
 
 
 def states_of(program: str, folder: Path) -> dict[str, ClassState]:

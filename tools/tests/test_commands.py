@@ -98,6 +98,9 @@ def test_blame_of_kept_documents(once: str, tmp_path: Path) -> None:
     assert found.stdout.startswith("warning r.cfg:19: 'ip flow monitor M input': this and r.cfg:23: 'ip flow monitor M output' "
                                    "meter the same packets: 'up' comes in at r GigabitEthernet0/0 and leaves at r "
                                    "GigabitEthernet0/1, so each counts twice")
+    answer = subprocess.run([once, "audit", "--format", "json", "made/network.json", "made/traffic.json"], cwd=tmp_path, capture_output=True, text=True)
+    (tmp_path / "answer").write_text(answer.stdout)
+    assert run("blame", "made/network.json", "answer", cwd=tmp_path) == found
 
 
 @pytest.mark.parametrize("text, status", [("once-certificate 1\nend\n", 0), ("nonsense", 2), ("once-refutation 2\n", 2),
@@ -185,6 +188,13 @@ def test_a_program_that_fails_is_no_certificate(tmp_path: Path, does: str, statu
     project(tmp_path, PROJECT)
     found = run("audit", "project.toml", "--once", program_that(tmp_path, does), cwd=tmp_path)
     assert found.returncode == status and "no answer" in found.stdout
+
+
+def test_a_program_that_is_too_old(tmp_path: Path) -> None:
+    project(tmp_path, PROJECT)
+    found = run("audit", "project.toml", "--once", program_that(tmp_path, "echo \"error: unexpected argument '--format' found\"; exit 6"), cwd=tmp_path)
+    assert (found.returncode, found.stdout) == (5, "")
+    assert found.stderr == "wrong: `once` does not have the option --format json; use once 1.0.0 or later, as it is installed beside this program\n"
 
 
 def test_a_certificate_of_documents_that_differ_says_so(once: str, tmp_path: Path) -> None:

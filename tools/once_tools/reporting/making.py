@@ -6,7 +6,7 @@ import tempfile
 from dataclasses import dataclass, replace
 from pathlib import Path
 
-from once_tools.answers import Refutation, refutation_of
+from once_tools.answers import Refutation, refusal_of, refutation_of
 from once_tools.blame import blame
 from once_tools.model import Failed, Finding, Grade, Place
 from once_tools.network_view import Json, entries, table
@@ -113,7 +113,7 @@ def with_answer(page: Page, asked: Asked, refutation: Refutation | None, network
     name = next((one.name for one in page.classes if one.number == number), "")
     story = replace(asked.story, packet=packet_words(asked.story, number, name, path))
     return replace(page, story=story, refuted=(number, path), totals=total_rows(story.held, story.due),
-                   causes=causes_of(blame(network, traffic, asked.text)))
+                   causes=causes_of(blame(network, traffic, refutation)))
 
 
 def digests_of(question: Question) -> list[File]:
@@ -134,7 +134,7 @@ def with_fault(page: Page, wanted: Wanted, fault: Explained, network: Json, traf
     if page.status is Status.UNDECIDED:
         return page, [fault.line]
     place = place_of(fault, wanted.question)
-    return replace(page, fault_at=where(place), causes=causes_of(blame(network, traffic, fault.line))), [line_of(remark_of(fault, place))]
+    return replace(page, fault_at=where(place), causes=causes_of(blame(network, traffic, refusal_of(fault.line)))), [line_of(remark_of(fault, place))]
 
 
 def page_of(program: str, wanted: Wanted, asked: Asked, page: Page) -> Made:
