@@ -11,7 +11,8 @@ from dataclasses import dataclass
 from pathlib import Path
 from typing import Iterator
 
-from once_tools.answers import is_certificate, refusal_of, refutation_of
+from once_tools.answers import Refutation, fault_in
+from once_tools.json_answer import Answer, ask_once
 from once_tools.mending.changes import Case, Change
 from once_tools.mending.delivery import choices, fewer_ways, more_delivery
 from once_tools.mending.keys import declaration, more_keys
@@ -19,7 +20,6 @@ from once_tools.mending.metering import less_metering, more_metering
 from once_tools.mending.refused import longer_counter, without_sampling
 from once_tools.mending.patches import Document, patched
 from once_tools.model import Failed, Place
-from once_tools.once_program import run_once
 
 
 # How many documents are audited at once.
@@ -38,10 +38,10 @@ class Proposal:
 
 
 @dataclass(frozen=True)
-class Answer:
+class Audited:
     """What `once audit` answers; `is_accepted` says that it is a certificate that `once check` accepts."""
 
-    text: str
+    answer: Answer
     is_accepted: bool = False
 
 
@@ -58,28 +58,28 @@ class Auditor:
     def __init__(self, program: str, folder: Path) -> None:
         self.program, self.folder, self.numbers = program, folder, itertools.count()
 
-    def audit(self, network: Document, traffic: Document) -> Answer:
+    def audit(self, network: Document, traffic: Document) -> Audited:
         """Returns what `once audit` answers, and whether `once check` says yes to it if it is a certificate."""
         folder = self.folder / str(next(self.numbers))
         folder.mkdir()
         files = [folder / name for name in ("network.json", "traffic.json", "certificate.txt")]
         for file, document in zip(files, (network, traffic)):
             file.write_text(json.dumps(document), encoding="utf-8")
-        text = run_once(self.program, "audit", *files[:2]).output
-        if not is_certificate(text):
-            return Answer(text)
-        files[2].write_text(text, encoding="utf-8")
-        return Answer(text, run_once(self.program, "check", *files).output.startswith("yes"))
+        answer = ask_once(self.program, "audit", *files[:2])
+        if answer.answer != "certificate":
+            return Audited(answer)
+        files[2].write_text(answer.output, encoding="utf-8")
+        return Audited(answer, ask_once(self.program, "check", *files).answer == "yes")
 
 
-def candidates(network: Document, traffic: Document, answer: str) -> Iterator[Change]:
+def candidates(network: Document, traffic: Document, answer: Answer) -> Iterator[Change]:
     """Yields the changes that may mend what an answer of `once audit` is about."""
-    refutation, refusal = refutation_of(answer), refusal_of(answer)
-    if refutation:
-        yield from candidates_for(Case(network, traffic, refutation))
-    elif refusal:
-        yield from without_sampling(network, refusal.number, refusal.pointer)
-        yield from longer_counter(network, refusal.number, refusal.pointer)
+    fault = fault_in(answer)
+    if isinstance(fault, Refutation):
+        yield from candidates_for(Case(network, traffic, fault))
+    elif fault:
+        yield from without_sampling(network, fault)
+        yield from longer_counter(network, fault)
 
 
 def candidates_for(case: Case) -> Iterator[Change]:
@@ -127,8 +127,8 @@ class Search:
         with ThreadPoolExecutor(AT_ONCE) as pool:
             while self.waiting and len(found) < self.limits.proposals and time.monotonic() < self.ends:
                 taken = self.take(found)
-                for node, answer in zip(taken, pool.map(lambda it: self.auditor.audit(it[4], it[5]), taken)):
-                    found += self.look_at(node, answer)
+                for node, audit in zip(taken, pool.map(lambda it: self.auditor.audit(it[4], it[5]), taken)):
+                    found += self.look_at(node, audit)
         return found[:self.limits.proposals]
 
     def take(self, found: list[Proposal]) -> list[Node]:
@@ -140,12 +140,12 @@ class Search:
                 taken.append(node)
         return taken
 
-    def look_at(self, node: Node, answer: Answer) -> list[Proposal]:
+    def look_at(self, node: Node, audit: Audited) -> list[Proposal]:
         """Returns the proposal that these changes are; else has those wait that have one change more."""
         _, weight, _, changes, network, traffic = node
-        if is_certificate(answer.text):
-            return [Proposal(changes, network, traffic)] if answer.is_accepted else []
-        for change in candidates(network, traffic, answer.text) if len(changes) < self.limits.changes else []:
+        if audit.answer.answer == "certificate":
+            return [Proposal(changes, network, traffic)] if audit.is_accepted else []
+        for change in candidates(network, traffic, audit.answer) if len(changes) < self.limits.changes else []:
             self.push((*changes, change), weight + change.weight, patched(network, change.network), patched(traffic, change.traffic))
         return []
 
@@ -154,7 +154,7 @@ def mend(program: str, network: Document, traffic: Document, limits: Limits) -> 
     """Returns the proposals for two documents; that of no change if they are certified already. Raises `Failed` if `once` refuses them."""
     with tempfile.TemporaryDirectory(prefix="once-mend-") as folder:
         auditor = Auditor(program, Path(folder))
-        answer = auditor.audit(network, traffic).text
-        if not is_certificate(answer) and not refutation_of(answer) and not list(candidates(network, traffic, answer)):
-            raise Failed(Place(""), f"once audit answers '{answer.strip() or 'nothing'}'", "see `once explain` and the number")
+        answer = auditor.audit(network, traffic).answer
+        if answer.answer not in ("certificate", "refutation") and not list(candidates(network, traffic, answer)):
+            raise Failed(Place(""), f"once audit answers '{answer.output.strip()}'", "see `once explain` and the number")
         return Search(auditor, limits).run(network, traffic)
