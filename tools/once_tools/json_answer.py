@@ -81,13 +81,15 @@ class Answer:
 
     @property
     def file(self) -> str:
-        """Returns the name of the file that the answer is about; an empty text if the explanation names none."""
-        return next((name for name in self.files.values() if f"file: {name}" in self.explanation), "")
+        """Returns the name of the file that the explanation begins with, an empty text if it begins with none."""
+        told = "".join(f"{one}\n" for one in self.explanation)
+        return max((name for name in self.files.values() if told.startswith(f"file: {name}\n")), key=len, default="")
 
     @property
     def details(self) -> tuple[str, ...]:
-        """Returns the sentences of the explanation but for that with the name of the file."""
-        return tuple(one for one in self.explanation if one != f"file: {self.file}")
+        """Returns the explanation without the name of the file, which may have several lines, and the notes."""
+        named = self.file.count("\n") + 1 if self.file else 0
+        return (*self.explanation[named:], *self.notes)
 
     def said(self, label: str) -> str:
         """Returns the sentence of the explanation that follows a label, as `verdict: `; an empty text if none does."""
@@ -129,11 +131,11 @@ def key_words(key: Value) -> str:
     return " ".join(members[axis] for axis in AXES if axis in members) or "all"
 
 
-def totals_in(entry: Value, name: str) -> Totals:
-    """Returns the totals that a member is, none if it is missing."""
-    found = present(entry, name)
-    if found is None:
+def totals_in(entry: Value, name: str, *answers: str) -> Totals:
+    """Returns the totals that a member of these answers is, none for other answers."""
+    if entry.text_at("answer") not in answers:
         return Totals()
+    found = entry.member(name)
     rows = (Total(key_words(one.member("key")), one.number_at("packets"), one.number_at("octets")) for one in found.listed("keys"))
     return Totals(tuple(rows), found.number_at("unassigned"))
 
@@ -149,7 +151,7 @@ def answer_in(text: str) -> Answer:
         return Answer("", word, status, f"{word} {number}\n", number)
     return Answer(entry.text_at("command"), word, status, entry.text_at("output"), number, spot_in(entry),
                   {role: name.text() for role, name in entry.member("files").each()}, entry.texts("explanation"), entry.texts("notes"),
-                  reason_in(entry), totals_in(entry, "totals"), totals_in(entry, "plain"))
+                  reason_in(entry), totals_in(entry, "totals", "refuted", "totals"), totals_in(entry, "plain", "refuted"))
 
 
 def answer_of(command: str, run: Run, place: Place = NOWHERE) -> Answer:

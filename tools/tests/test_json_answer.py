@@ -33,6 +33,11 @@ def test_a_refusal() -> None:
                                                                    "there are: file: t.json; see `once explain 107`"
 
 
+def test_a_name_of_two_lines() -> None:
+    found = answer_in(json.dumps({**REFUSED, "files": {"network": "n", "traffic": "n\n t"}, "explanation": ["file: n", " t", "it is no text"]}))
+    assert found.file == "n\n t" and found.details == ("it is no text",)
+
+
 @pytest.mark.parametrize("place, wanted", [
     (None, Spot()), ({"kind": "line", "line": 3}, Spot("line", 3)), ({"kind": "octet", "octet": 0}, Spot("octet")),
     ({"kind": "pointer", "pointer": ""}, Spot("pointer")), ({"kind": "text", "text": "3.1 4.1"}, Spot("text", text="3.1 4.1"))])
@@ -42,7 +47,7 @@ def test_places(place: object, wanted: Spot) -> None:
 
 def test_totals_have_their_keys_in_the_order_of_the_axes() -> None:
     key = {"destinationIPv6Prefix": "2001:db8:0:0:0:0:0:0/32", "destinationTransportPort": 443, "protocolIdentifier": 6, "sourceIPv4Prefix": "10.0.0.0/24"}
-    found = answer_in(json.dumps({**REFUSED, "totals": totals((key, 2, 2 ** 64 - 1), unassigned=3), "plain": totals(({}, 1, 60))}))
+    found = answer_in(json.dumps({**REFUSED, "answer": "refuted", "totals": totals((key, 2, 2 ** 64 - 1), unassigned=3), "plain": totals(({}, 1, 60))}))
     assert found.totals == Totals((Total("10.0.0.0/24 6 443 2001:db8:0:0:0:0:0:0/32", 2, 2 ** 64 - 1),), 3)
     assert found.plain == Totals((Total("all", 1, 60),))
 
@@ -81,7 +86,8 @@ def test_what_it_prints_as_text(name: str, once: str) -> None:
     (Run(0, json.dumps({**REFUSED, "format": "once-answer/2"})), "the object has the format 'once-answer/2', and 'once-answer/1' is read; use once 1.0.0 or later"),
     (Run(2, json.dumps({**REFUSED, "status": "2"})), "the object /status is no whole number"),
     (Run(2, json.dumps({**REFUSED, "place": {"kind": "line", "octet": 1}})), "the object /place has no member 'line'"),
-    (Run(2, json.dumps({**REFUSED, "totals": totals(({}, 1, 2)), "plain": {"keys": [1], "unassigned": 0}})), "the object /plain/keys/0 is no object"),
+    (Run(2, json.dumps({**REFUSED, "answer": "totals"})), "the object has no member 'totals'"),
+    (Run(2, json.dumps({**REFUSED, "answer": "refuted", "totals": totals(), "plain": {"keys": [1], "unassigned": 0}})), "the object /plain/keys/0 is no object"),
     (Run(139, json.dumps(REFUSED)), "`once audit` ended with status 139, and its answer has 2"),
 ])
 def test_what_is_no_answer(run: Run, says: str) -> None:

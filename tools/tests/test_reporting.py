@@ -10,10 +10,11 @@ from pathlib import Path
 from xml.etree import ElementTree
 
 import pytest
-from conftest import TESTS, needed
+from conftest import TESTS, module, needed
+from once_tools.json_answer import Answer, Total, Totals
 from once_tools.once_program import run_once
 from once_tools.reporting import picture, premises
-from once_tools.reporting.answer import Step, Total, Totals, story_in
+from once_tools.reporting.answer import Step, story_of
 from once_tools.reporting.pointers import line_at
 from report_pages import EXAMPLES, EXEMPT, NAMES, SHARED, TOP, TWICE, documents, made, page, report, value_of
 
@@ -225,39 +226,35 @@ def test_bad_input_ends_without_a_traceback(words: list[str], status: int, says:
     assert ended == status and says in printed and "Traceback" not in printed and "has a fault" not in printed
 
 
-STORY = """refuted
-run
-keys 2
-10.0.0.0/24 6 packets 2 octets 3000
-10.0.1.0/24 17 packets 18446744073709551615 octets 0
-unassigned 3
-plain
-keys 0
-unassigned 0
-verdict: a packet of class 1 "a: 2. b" on path 1 is counted 2 times instead of once
-what to do: Take it out, and audit again: "in the end"
-the packet: class 1 "a: 2. b", path 1, source 10.0.0.0, octets 1
-1. packet 1 crosses edge eth0 ingress: verdict: none
-aggregation "by net" doesn't take it in
-2. a record leaves cache "flows" of edge
-no record reaches the report
-in the end the collector holds
-keys 0
-unassigned 0
-traffic: other crossings: 46
-"""
+STORY = Answer("confirm", "refuted", 0, "refuted\n", explanation=(
+    'verdict: a packet of class 1 "a: 2. b" on path 1 is counted 2 times instead of once', 'what to do: Take it out, and audit again: "in the end"',
+    'the packet: class 1 "a: 2. b", path 1, source 10.0.0.0, octets 1', "1. packet 1 crosses edge eth0 ingress: verdict: none",
+    'aggregation "by net" doesn\'t take it in', '2. a record leaves cache "flows" of edge', "no record reaches the report", "in the end the collector holds",
+    "keys 0", "unassigned 0"), totals=Totals((Total("10.0.0.0/24 6", 2, 3000),), 3))
 
 
-def test_a_story_is_read_as_it_is_printed() -> None:
-    story = story_in(STORY)
-    assert story.held == Totals((Total("10.0.0.0/24 6", 2, 3000), Total("10.0.1.0/24 17", 2 ** 64 - 1, 0)), 3) and story.due == Totals()
+def test_the_story_of_a_refutation() -> None:
+    story = story_of(STORY)
+    assert story.held == STORY.totals and story.due == Totals()
     assert story.steps == (Step("packet 1 crosses edge eth0 ingress: verdict: none", ('aggregation "by net" doesn\'t take it in',)),
                            Step('a record leaves cache "flows" of edge'))
     assert story.ending == "no record reaches the report" and story.todo == 'Take it out, and audit again: "in the end"'
     assert story.verdict == 'a packet of class 1 "a: 2. b" on path 1 is counted 2 times instead of once'
-    for cut in ("refuted", "refuted\nrun\nkeys 1", STORY.replace("plain", "plane"), STORY.replace("keys 0", "keys x")):
-        with pytest.raises((ValueError, IndexError)):
-            story_in(cut)
+
+
+@pytest.mark.parametrize("does, says", [
+    ("exit 0", "wrong: `once lint` answered: nothing, with status 0; name the program `once` by --once PROGRAM\n"),
+    ("echo ok", "wrong: `once lint` answered: ok; name the program `once` by --once PROGRAM\n"),
+    ("echo \"error: unexpected argument '--format' found\"; exit 6",
+     "wrong: `once` does not have the option --format json; use once 1.0.0 or later, as it is installed beside this program\n"),
+])
+def test_a_program_that_does_not_answer(does: str, says: str, tmp_path: Path, capsys: pytest.CaptureFixture[str]) -> None:
+    module("jinja2")
+    program = tmp_path / "once"
+    program.write_text(f"#!/bin/sh\n{does}\n", encoding="utf-8")
+    program.chmod(0o755)
+    assert report(str(program), *documents(SHARED), "--out", tmp_path / "made.html") == 5
+    assert capsys.readouterr().err == says and not (tmp_path / "made.html").exists()
 
 
 def test_lines_of_pointers() -> None:

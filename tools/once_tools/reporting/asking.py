@@ -5,11 +5,13 @@ from dataclasses import dataclass
 from pathlib import Path
 
 from once_tools.answers import is_certificate
+from once_tools.json_answer import Answer, ask_once, unexpected
 from once_tools.model import Failed, Place
-from once_tools.once_program import Run, run_once
-from once_tools.reporting.answer import Explained, Status, Story, answer_in, explained, notes_in, story_in, version_in
+from once_tools.once_program import run_once
+from once_tools.reporting.answer import Status, Story, story_of
 
-REFUSED, UNKNOWN = 2, 3
+# What an audit leaves undone.
+UNDONE = {"refused": Status.REFUSED, "unknown": Status.UNDECIDED}
 
 
 @dataclass(frozen=True)
@@ -31,7 +33,7 @@ class Asked:
     text: str = ""
     file: Path | None = None
     story: Story | None = None
-    fault: Explained | None = None
+    fault: Answer | None = None
     notes: tuple[str, ...] = ()
 
 
@@ -40,56 +42,39 @@ def argument(path: Path) -> str:
     return f"./{path}" if str(path).startswith("-") else str(path)
 
 
-def failed(command: str, run: Run) -> Failed:
-    """Returns the failure of a command that answered otherwise than it should."""
-    said = (run.output + run.errors).strip() or f"nothing, with status {run.status}"
-    return Failed(Place(""), f"`once {command}` answered: {said}", "name the program `once` by --once PROGRAM")
-
-
-def refused(version: str, command: str, run: Run, status: Status, notes: tuple[str, ...] = ()) -> Asked:
-    """Returns the answer that a numbered fault is."""
-    fault = explained(run.output)
-    if fault is None:
-        raise failed(command, run)
-    return Asked(status, version, fault=fault, notes=notes)
-
-
 def verified(program: str, question: Question, file: Path, version: str, notes: tuple[str, ...]) -> Asked:
     """Returns what `once check` or `once confirm` says of the answer in a file."""
     text = file.read_bytes().decode("utf-8", "replace")
     command = "check" if is_certificate(text) else "confirm"
-    run = run_once(program, command, "--explain", *map(argument, (question.network, question.traffic, file)))
-    if run.status in (1, REFUSED):
-        return refused(version, command, run, Status.NOT_ACCEPTED, notes)
-    if command == "check" and run.status == 0 and run.output.startswith("yes\n"):
+    found = ask_once(program, command, *map(argument, (question.network, question.traffic, file)))
+    if found.answer in ("no", "refused"):
+        return Asked(Status.NOT_ACCEPTED, version, fault=found, notes=notes)
+    if found.answer == "yes":
         return Asked(Status.ONCE, version, text, file, notes=notes)
-    try:
-        story = story_in(run.output)
-    except (ValueError, IndexError) as error:
-        raise failed(command, run) from error
-    return Asked(Status.WRONG, version, text, file, story, notes=notes)
+    if found.answer == "refuted":
+        return Asked(Status.WRONG, version, text, file, story_of(found), notes=notes)
+    raise unexpected(found)
 
 
 def ask(program: str, question: Question, folder: Path) -> Asked:
     """Returns what `once` answers; an answer that it finds is written into a folder."""
     documents = [argument(question.network), argument(question.traffic)]
-    version = version_in(run_once(program, "--version").output)
-    lint = run_once(program, "lint", "--explain", *documents)
-    if lint.status == REFUSED:
-        return refused(version, "lint", lint, Status.REFUSED)
-    if lint.status:
-        raise failed("lint", lint)
-    notes = notes_in(lint.output)
+    version = run_once(program, "--version").output.partition("\n")[0].strip()
+    lint = ask_once(program, "lint", *documents)
+    if lint.answer == "refused":
+        return Asked(Status.REFUSED, version, fault=lint)
+    if lint.answer != "ok":
+        raise unexpected(lint)
     if question.answer:
-        return verified(program, question, question.answer, version, notes)
-    audit = run_once(program, "audit", "--explain", *([f"--limit={question.limit}"] if question.limit else []), *documents)
-    if audit.status in (REFUSED, UNKNOWN):
-        return refused(version, "audit", audit, Status.REFUSED if audit.status == REFUSED else Status.UNDECIDED, notes)
-    if audit.status not in (0, 1):
-        raise failed("audit", audit)
-    file = folder / ("certificate.txt" if audit.status == 0 else "refutation.txt")
-    file.write_text(answer_in(audit.output), encoding="utf-8")
-    asked = verified(program, question, file, version, notes)
-    if asked.status is Status.NOT_ACCEPTED:
-        raise Failed(Place(""), f"`once` does not accept the answer of its own audit: {asked.fault.line if asked.fault else ''}", "report this fault of `once`")
+        return verified(program, question, question.answer, version, lint.notes)
+    audit = ask_once(program, "audit", *([f"--limit={question.limit}"] if question.limit else []), *documents)
+    if audit.answer in UNDONE:
+        return Asked(UNDONE[audit.answer], version, fault=audit, notes=lint.notes)
+    if audit.answer not in ("certificate", "refutation"):
+        raise unexpected(audit)
+    file = folder / f"{audit.answer}.txt"
+    file.write_text(audit.output, encoding="utf-8")
+    asked = verified(program, question, file, version, lint.notes)
+    if asked.fault:
+        raise Failed(Place(""), f"`once` does not accept the answer of its own audit: {asked.fault.first_line}", "report this fault of `once`")
     return asked

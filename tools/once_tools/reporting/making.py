@@ -6,13 +6,13 @@ import tempfile
 from dataclasses import dataclass, replace
 from pathlib import Path
 
-from once_tools.answers import Refutation, refusal_of, refutation_of
+from once_tools.answers import Refutation, fault_in, refutation_of
 from once_tools.blame import blame
+from once_tools.json_answer import Answer, ask_once
 from once_tools.model import Failed, Finding, Grade, Place
 from once_tools.network_view import Json, entries, table
-from once_tools.once_program import run_once
 from once_tools.report import line_of, printable, where
-from once_tools.reporting.answer import Explained, Status, line_in
+from once_tools.reporting.answer import Status, line_in
 from once_tools.reporting.asking import Asked, Question, argument, ask
 from once_tools.reporting.classes import classes_in, devices_crossed
 from once_tools.reporting.imported import read_report
@@ -48,20 +48,20 @@ def document(path: Path) -> Json:
         return {}
 
 
-def place_of(fault: Explained, question: Question) -> Place:
+def place_of(fault: Answer, question: Question) -> Place:
     """Returns the file and line that a fault is at."""
     files = [one for one in (question.network, question.traffic, question.answer) if one is not None]
     path = next((one for one in files if argument(one) == fault.file), None)
     if path is None:
         return Place("")
-    pointed = line_at(path.read_bytes().decode("utf-8", "replace"), fault.place) if fault.place.startswith("/") else 0
+    pointed = line_at(path.read_bytes().decode("utf-8", "replace"), fault.place.text) if fault.place.text.startswith("/") else 0
     return Place(str(path), pointed or line_in(fault))
 
 
-def remark_of(fault: Explained, place: Place) -> Finding:
+def remark_of(fault: Answer, place: Place) -> Finding:
     """Returns a fault as a finding, for standard error."""
-    says = "; ".join([fault.line, *fault.details[:1]])
-    return Finding(Grade.WRONG, place, says, fault.todo, number=fault.number)
+    says = "; ".join([fault.first_line, *fault.details[:1]])
+    return Finding(Grade.WRONG, place, says, fault.reason.todo, number=fault.number)
 
 
 def drawing_of(drawing: str, name: str, title: str) -> Drawing:
@@ -93,8 +93,8 @@ def overview_drawing(network: Json, traffic: Json, refutation: Refutation | None
 def with_pictures(program: str, wanted: Wanted, asked: Asked, refutation: Refutation | None, page: Page, network: Json, traffic: Json) -> Page:
     """Returns the page with its pictures."""
     files = [wanted.question.network, wanted.question.traffic, *([asked.file] if asked.file else [])]
-    drawn = run_once(program, "draw", *map(argument, files))
-    if drawn.status:
+    drawn = ask_once(program, "draw", *map(argument, files))
+    if drawn.answer != "graph":
         nothing = Drawing(reason=f"`once draw` answered {drawn.output.strip()}")
         return replace(page, network=nothing, run=nothing if page.story else None)
     page = replace(page, network=drawing_of(drawn.output, "network-picture", network_title(network)), overview=overview_drawing(network, traffic, refutation))
@@ -129,12 +129,12 @@ def answer_files(question: Question, asked: Asked) -> list[File]:
     return [digest("Answer", question.answer)] if question.answer else []
 
 
-def with_fault(page: Page, wanted: Wanted, fault: Explained, network: Json, traffic: Json) -> tuple[Page, list[str]]:
+def with_fault(page: Page, wanted: Wanted, fault: Answer, network: Json, traffic: Json) -> tuple[Page, list[str]]:
     """Returns the page with the place of a fault, and what is printed about it."""
     if page.status is Status.UNDECIDED:
-        return page, [fault.line]
+        return page, [fault.first_line]
     place = place_of(fault, wanted.question)
-    return replace(page, fault_at=where(place), causes=causes_of(blame(network, traffic, refusal_of(fault.line)))), [line_of(remark_of(fault, place))]
+    return replace(page, fault_at=where(place), causes=causes_of(blame(network, traffic, fault_in(fault)))), [line_of(remark_of(fault, place))]
 
 
 def page_of(program: str, wanted: Wanted, asked: Asked, page: Page) -> Made:

@@ -9,12 +9,13 @@ from dataclasses import dataclass, field
 from pathlib import Path
 from typing import TYPE_CHECKING
 
+from once_tools.json_answer import Answer, Total, Totals
 from once_tools.keys import spelled
 from once_tools.model import Finding, Place, Unusable
 from once_tools.network_view import Json, key_fields, table
 from once_tools.report import printable, sentence, where
 from once_tools.reporting import premises
-from once_tools.reporting.answer import Explained, Status, Story, Total, Totals
+from once_tools.reporting.answer import Status, Story
 from once_tools.reporting.classes import ClassRow
 from once_tools.reporting.imported import ImportReport
 
@@ -80,7 +81,7 @@ class Page:
     key: str = ""
     collector: str = ""
     story: Story | None = None
-    fault: Explained | None = None
+    fault: Answer | None = None
     fault_at: str = ""
     notes: tuple[str, ...] = ()
     classes: list[ClassRow] = field(default_factory=list)
