@@ -26,7 +26,7 @@ GROUPS = {
     "documents": "fx_walk fx_config fx_ranks fx_selectors fx_topology fx_plan fx_traffic",
     "deciders": "fx_check fx_parts fx_refute fx_steps fx_search",
     "simulation": "fx_store fx_net fx_conform fx_sums",
-    "explaining": "fx_words fx_explanation fx_explain_documents fx_explain_runs fx_explain_streams fx_drawings",
+    "explaining": "fx_words fx_explanation fx_explain_documents fx_explain_runs fx_explain_streams fx_drawings fx_json_answers",
     "program": "fx_audit fx_command_line fx_cli once",
     "tests": "fx_callers fx_tests_documents fx_tests_network fx_tests_program fx_tests_values",
 }
