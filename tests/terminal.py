@@ -26,13 +26,16 @@ from verdict import report_named
 
 FLAG = "Write %s once, without a value and before any --, after which all arguments are files; it goes with %s."
 WORDS = FLAG % ("--explain", "each command")
+FORMAT = (
+    "Write --format json once, before any --, after which all arguments are files; it goes with each command, and without it the answer is text."
+)
 PROGRESS = FLAG % ("--progress", "audit, collect and run")
 OPTION_OF_ONE = "%s goes with %s alone, after that word and before any --: `once %s`."
 LIMIT = OPTION_OF_ONE % ("--limit", "audit", "audit NETWORK TRAFFIC --limit N")
 LINKS = OPTION_OF_ONE % ("--links", "run", "run NETWORK TRAFFIC CAPTURE SCHEDULE --links PREFIX")
 NUMBER = "Write --limit once, followed by a whole number from 1 to 1000000, as in --limit 20000."
 OPTION = (
-    "There is no such option. --explain goes with each command, --progress with audit, collect and run, --limit with audit "
+    "There is no such option. --explain and --format json go with each command, --progress with audit, collect and run, --limit with audit "
     "and --links with run. A file whose name begins with - is named after --, as in `once lint -- -file`."
 )
 COMMAND = "The first word is a command: `once help` lists them."
@@ -53,6 +56,11 @@ ADVICE = {
     "check n t c --Explain": WORDS,
     "explain check n t c": "Write the number alone, as in `once explain 407`, or `once explain all`.",
     "lint --explain=yes n": WORDS,
+    "audit n t --format yaml": FORMAT,
+    "audit n t --format": FORMAT,
+    "--format=text lint n": FORMAT,
+    "--format json --format json lint n": FORMAT,
+    "audit -- n t --format json": FORMAT,
     "audit n t --progress=1": PROGRESS,
     "audit n t --progress --progress": PROGRESS,
     "audit -- n t --progress": PROGRESS,

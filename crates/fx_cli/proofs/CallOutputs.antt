@@ -113,7 +113,7 @@ given_alike : (words : List Text) (a d : _) (b e : Option _) → Names words (Li
 given_alike words a d b e n m = sym (second_given string_bytes (string_bytes a) b) ∙ ap has_second (one_list n m) ∙ second_given string_bytes (string_bytes d) e
 
 -- so the calls that they name print the same texts
-same_text : (words : List Text) (one other : Call) → Names words one → Names words other → (answer : Answer) (text : List ℕ) → IsCallText one answer text → IsCallText other answer text
+pub same_text : (words : List Text) (one other : Call) → Names words one → Names words other → (answer : Answer) (text : List ℕ) → IsCallText one answer text → IsCallText other answer text
 same_text words (Replay a b c) (Replay d e f) n m answer text is = is
 same_text words (Collect a b) (Collect d e) n m answer text is = is
 same_text words (Check a b c) (Check d e f) n m answer text is = is
@@ -144,7 +144,7 @@ links_given_alike : (words : List Text) (a b c h d e f g : _) (k l : Option _) �
 links_given_alike words a b c h d e f g k l n m = sym (mapped_given string_bytes k) ∙ ap (λ (o : Option Text). is_some o) (links_alike n m) ∙ mapped_given string_bytes l
 
 -- and they have the same refusals
-same_refusal : (words : List Text) (one other : Call) → Names words one → Names words other → (e : Fault) → IsCallRefusal one e → IsCallRefusal other e
+pub same_refusal : (words : List Text) (one other : Call) → Names words one → Names words other → (e : Fault) → IsCallRefusal one e → IsCallRefusal other e
 same_refusal words (Replay a b c) (Replay d e f) n m fault is = is
 same_refusal words (Collect a b) (Collect d e) n m fault is = is
 same_refusal words (Check a b c) (Check d e f) n m fault is = is

@@ -1,3 +1,5 @@
 pub mod AnswersGiven
 pub mod CallOutputs
 pub mod CallRefusals
+pub mod EndsInJson
+pub mod Options

@@ -7,6 +7,7 @@ use Rattle.fx_command_line.specs.declared.words.Call.{Call}
 use Rattle.fx_cli.specs.Ending.{EndsWith}
 use Rattle.fx_cli.specs.Running.{EndsAs, EndsExplained, HasFailedExplained, HasFailedToWrite, IsBundleOutput, IsBundleRefusal, IsCallRefusal, IsCallText, IsRefusal}
 use Rattle.fx_cli.specs.OptionFlag.{AddsHelp, RemovesOptions, wants_help}
+use Rattle.fx_cli.specs.InJson.{EndsInJson}
 use Rattle.fx_cli.specs.ArgumentErrors.{EndsWithoutCall, memory_line}
 
 -- the arguments after the name of the program name a call, which is answered; without any, the bundle on standard input is
@@ -21,14 +22,23 @@ pub record EndsByArgumentsExplained {A S : Type 0} (text_of : A → Text) (taken
   pub call : (call : Call) → Names (map text_of arguments) call → EndsExplained (IsCallText call) (IsCallRefusal call) (taken old) (taken new) (KeepsGoing (failed old) (failed new)) (HasFailedExplained taken failed new) code
   pub no_call : 2 ≤ length arguments → NamesNoCall (map text_of arguments) → EndsWithoutCall taken failed (map text_of arguments) old new code
 
-abbrev pub EndsExplainedIf : Bool → {A S : Type 0} → (A → Text) → (S → Option (List ℕ)) → (S → Bool) → List A → S → S → ℕ → Type 0
-EndsExplainedIf false text_of taken failed arguments old new code = EndsByArguments text_of taken failed arguments old new code
-EndsExplainedIf true text_of taken failed arguments old new code = EndsByArgumentsExplained text_of taken failed arguments old new code
+-- the same with a JSON object; without memory for the call there is the line of that refusal
+pub record EndsByArgumentsInJson {A S : Type 0} (text_of : A → Text) (taken : S → Option (List ℕ)) (failed : S → Bool) (arguments : List A) (old new : S) (code : ℕ) : Type 0 where
+  pub bundle : length arguments < 2 → EndsInJson IsBundleOutput (IsRefusal IsBundleRefusal) taken failed old new code
+  pub call : (call : Call) → Names (map text_of arguments) call → EndsInJson (IsCallText call) (IsCallRefusal call) taken failed old new code ⊎ EndsWith taken failed memory_line 4 old new code
+  pub no_call : 2 ≤ length arguments → NamesNoCall (map text_of arguments) → EndsWithoutCall taken failed (map text_of arguments) old new code
 
--- the options `--progress` and `--explain` are removed, and what is left is answered: in words where `--explain` was there
+-- a JSON object (`true` first), sentences after the answer (`true` second), or the answer alone
+abbrev pub EndsInForm : Bool → Bool → {A S : Type 0} → (A → Text) → (S → Option (List ℕ)) → (S → Bool) → List A → S → S → ℕ → Type 0
+EndsInForm true explained text_of taken failed arguments old new code = EndsByArgumentsInJson text_of taken failed arguments old new code
+EndsInForm false false text_of taken failed arguments old new code = EndsByArguments text_of taken failed arguments old new code
+EndsInForm false true text_of taken failed arguments old new code = EndsByArgumentsExplained text_of taken failed arguments old new code
+
+-- the options `--progress`, `--explain` and `--format json` are removed, and what is left is answered in the form that they ask for
 abbrev pub EndsByOptions : {A S : Type 0} → (A → Text) → (S → Option (List ℕ)) → (S → Bool) → List A → S → S → ℕ → Type 0
 EndsByOptions {A} {S} text_of taken failed given old new code =
-    (rest : List A) × (explained : Bool) × (progress : Bool) × RemovesOptions text_of given rest explained progress × EndsExplainedIf explained text_of taken failed rest old new code
+    (rest : List A) × (json : Bool) × (explained : Bool) × (progress : Bool) × RemovesOptions text_of given rest json explained progress
+    × EndsInForm json explained text_of taken failed rest old new code
 
 -- arguments that the system gives are answered so, with `--help` added where somebody waits at a terminal, unless memory
 -- runs out for that

@@ -1,5 +1,6 @@
--- Options that every command takes: `--explain` and `--progress`.
-use Rattle.std.specs.Prelude.{◌≡◌, ◌⊎◌, ◌≤◌, ◌<◌, ◌+◌, ◌==◌, ◌&&◌, ◌++◌, ℕ, Bool, true, false, List, [], ◌∷◌, drop, length, take, Option, None, Some, codes, slice_get}
+-- Options that every command takes: `--explain`, `--format json` and `--progress`.
+use Rattle.std.specs.Prelude.{◌≡◌, ◌⊎◌, ◌≤◌, ◌<◌, ◌+◌, ◌==◌, ◌&&◌, ◌||◌, ◌++◌, ℕ, Bool, true, false, List, [], ◌∷◌, drop, length, take, Option, None, Some, codes, slice_get}
+use Rattle.std.specs.List.{remove}
 use Rattle.std.specs.Str.{bytes_eq}
 use Rattle.clap.specs.Words.{Text}
 
@@ -26,11 +27,40 @@ abbrev pub RemovesFlag : {A : Type 0} → Text → (A → Text) → List A → L
 RemovesFlag {A} flag text_of old new true = (place : ℕ) × IsFlagPlace flag text_of old (Some place) × (new ≡ take place old ++ drop (place + 1) old)
 RemovesFlag {A} flag text_of old new false = IsFlagPlace flag text_of old None × (new ≡ old)
 
--- `--progress` is removed where it is among the arguments, and then `--explain`
-pub record RemovesOptions {A : Type 0} (text_of : A → Text) (given rest : List A) (explained progress : Bool) : Type 0 where
+-- the argument at this index is the text (`true`), or another or none (`false`)
+abbrev pub IsAt : {A : Type 0} → Text → (A → Text) → List A → ℕ → Bool → Type 0
+IsAt {A} text text_of words index true = (word : A) × (slice_get words index ≡ Some word) × (bytes_eq (text_of word) text ≡ true)
+IsAt {A} text text_of words index false = (word : A) → slice_get words index ≡ Some word → bytes_eq (text_of word) text ≡ false
+
+-- the argument after this index has the value, and both are removed (`true`); or it has not, and the arguments stay as they are (`false`)
+abbrev pub RemovesBoth : {A : Type 0} → Text → (A → Text) → ℕ → List A → List A → Bool → Type 0
+RemovesBoth {A} value text_of place old new true = IsAt value text_of old (place + 1) true × (new ≡ remove (remove old (place + 1)) place)
+RemovesBoth {A} value text_of place old new false = IsAt value text_of old (place + 1) false × (new ≡ old)
+
+-- the option is among the arguments and has this value, the argument after it, and both are removed (`true`); or it isn't, or has
+-- another value, and the arguments stay as they are (`false`)
+abbrev pub RemovesOption : {A : Type 0} → Text → Text → (A → Text) → List A → List A → Bool → Type 0
+RemovesOption {A} flag value text_of old new true =
+    (place : ℕ) × IsFlagPlace flag text_of old (Some place) × RemovesBoth value text_of place old new true
+RemovesOption {A} flag value text_of old new false =
+    (IsFlagPlace flag text_of old None × (new ≡ old)) ⊎ ((place : ℕ) × IsFlagPlace flag text_of old (Some place) × RemovesBoth value text_of place old new false)
+
+-- `--format json` is removed where it is among the arguments, and then `--format=json`; whether one of them was there
+pub record RemovesFormat {A : Type 0} (text_of : A → Text) (given rest : List A) (json : Bool) : Type 0 where
   pub mid : List A
-  pub progress_is : RemovesFlag (codes "--progress") text_of given mid progress
-  pub explain_is : RemovesFlag (codes "--explain") text_of mid rest explained
+  pub apart : Bool
+  pub joined : Bool
+  pub apart_is : RemovesOption (codes "--format") (codes "json") text_of given mid apart
+  pub joined_is : RemovesFlag (codes "--format=json") text_of mid rest joined
+  pub json_is : json ≡ (apart || joined)
+
+-- `--progress` is removed where it is among the arguments, then `--explain`, then the format
+pub record RemovesOptions {A : Type 0} (text_of : A → Text) (given rest : List A) (json explained progress : Bool) : Type 0 where
+  pub unmeasured : List A
+  pub unexplained : List A
+  pub progress_is : RemovesFlag (codes "--progress") text_of given unmeasured progress
+  pub explain_is : RemovesFlag (codes "--explain") text_of unmeasured unexplained explained
+  pub format_is : RemovesFormat text_of unexplained rest json
 
 -- `--help` is added after the arguments (`true`), or nothing is (`false`)
 abbrev pub AddsHelp : {A : Type 0} → (A → Text) → List A → List A → Bool → Type 0

@@ -4,10 +4,14 @@ use clap::error::ErrorKind;
 use std::alloc::{AllocError, Global};
 
 /// The options, each with advice on where to write it.
-const OPTIONS: [(&str, &str); 6] = [
+const OPTIONS: [(&str, &str); 7] = [
     (
         "--explain",
         "Write --explain once, without a value and before any --, after which all arguments are files; it goes with each command.",
+    ),
+    (
+        "--format",
+        "Write --format json once, before any --, after which all arguments are files; it goes with each command, and without it the answer is text.",
     ),
     (
         "--progress",
@@ -34,7 +38,7 @@ const LIMIT: &str =
 
 /// The advice about an unknown option.
 const NO_OPTION: &str =
-    "There is no such option. --explain goes with each command, --progress with audit, collect and run, --limit with audit \
+    "There is no such option. --explain and --format json go with each command, --progress with audit, collect and run, --limit with audit \
 and --links with run. A file whose name begins with - is named after --, as in `once lint -- -file`.";
 
 /// Returns how many octets at the start of both are equal, regardless of case.

@@ -43,7 +43,7 @@ report's key. skipped: frames that are no packets of IP (other), or that end bef
 
 /// What a command was asked.
 #[derive(Clone, Copy)]
-enum Asked {
+pub(crate) enum Asked {
     Audit,
     Check,
     Confirm,
@@ -85,6 +85,14 @@ fn asked_in_bundle(command: Option<Command>) -> Asked {
     }
 }
 
+/// Returns what a call asks, or the bundle that has this command.
+pub(crate) fn asked_of(call: Option<&Call>, command: Option<Command>) -> Asked {
+    match call {
+        Some(call) => asked_by(call),
+        None => asked_in_bundle(command),
+    }
+}
+
 /// Returns the sentences after an answer or a refusal; none if there is no memory for them.
 pub(crate) fn explanation_of<R: AllocGlobal + Files>(
     rt: &R,
@@ -93,27 +101,26 @@ pub(crate) fn explanation_of<R: AllocGlobal + Files>(
     outcome: &Result<Answer, Fault>,
 ) -> Vec<u8> {
     let mut words = Gathered::new(rt.alloc());
-    let asked = match call {
-        Some(call) => asked_by(call),
-        None => asked_in_bundle(notes.sentences.command),
-    };
+    let asked = asked_of(call, notes.sentences.command);
     match outcome {
         Ok(Answer::Yes) => put_yes_words(asked, notes, &mut words),
         Ok(Answer::No) => put_no_words(rt, asked, notes, &mut words),
-        Ok(Answer::Unknown) => put_reason_words(refusals::SEARCH_TOO_LARGE, &mut words),
+        Ok(Answer::Unknown) => put_reason_words(refusals::SEARCH_TOO_LARGE, notes, &mut words),
         Err(fault) => {
             put_file_words(rt, notes, fault, &mut words);
             put_refused_words(asked, notes, fault, &mut words);
-            put_reason_words(fault.number, &mut words);
+            put_reason_words(fault.number, notes, &mut words);
         }
     }
     words.into_octets(rt.alloc())
 }
 
-/// Writes what a refusal of this number means, and what to do.
-fn put_reason_words(number: u16, words: &mut Gathered) {
-    let written = put_reason(words.sink(), number);
-    words.note(written);
+/// Writes what a refusal of this number means, and what to do. A JSON object has this as a member of its own.
+fn put_reason_words(number: u16, notes: &Notes<'_>, words: &mut Gathered) {
+    if !notes.sentences.gathers_facts() {
+        let written = put_reason(words.sink(), number);
+        words.note(written);
+    }
 }
 
 /// Writes what an answer of yes says.
@@ -163,9 +170,9 @@ fn put_no_words<R: AllocGlobal + Files>(
         Asked::Check | Asked::Confirm => {
             words.all_of(sentences.take_words());
             if let Some(number) = sentences.refused {
-                put_reason_words(number, words);
+                put_reason_words(number, notes, words);
             }
-            words.all_of(sentences.take_notes());
+            words.all_of(notes.sentences.take_notes());
         }
         _ => {}
     }

@@ -2,6 +2,7 @@
 #![tactic(auto)]
 
 mod advice;
+mod answer_words;
 mod argument_errors;
 mod bundles;
 mod commands;
@@ -14,6 +15,7 @@ mod file_words;
 mod files;
 mod gathering;
 mod head;
+mod in_json;
 mod kept;
 mod link_files;
 mod notes;

@@ -3,7 +3,7 @@ ghost use Rattle.std.specs.Prelude.{◌≡◌, ◌⊎◌, ◌≤◌, ◌<◌, If
 ghost use Rattle.fx_audit.specs.Outputs.{AnswersWith};
 ghost use Rattle.fx_cli.specs.Ending.{EndsWith, IsExitStatus};
 ghost use Rattle.fx_cli.specs.Arguments.{EndsByOptions, EndsByGivenArguments, EndsAfterFlush};
-ghost use Rattle.fx_cli.specs.OptionFlag.{AddsHelp, RemovesFlag, wants_help};
+ghost use Rattle.fx_cli.specs.OptionFlag.{AddsHelp, wants_help};
 ghost use Rattle.fx_cli.specs.Running.{EndsAs, EndsExplained, HasFailedExplained, HasFailedToWrite, IsBundleRefusal, IsBundleOutput, IsCallRefusal, IsCallText, IsRefusal};
 ghost use Rattle.fx_command_line.specs.Words.{Names, NamesNoCall};
 ghost use Rattle.fx_command_line.specs.declared.words.Call.{Call};
@@ -16,8 +16,9 @@ use crate::commands::answer_call;
 use crate::ending::{WRITE_FAILED, finish, finish_with};
 use crate::explained_answer::explanation_of;
 use crate::file_names::{BUNDLE, names_of};
+use crate::in_json::answer_in_json;
 use crate::notes::Notes;
-use crate::option_flag::place_of_flag;
+use crate::option_flag::{take_flag, take_format};
 use crate::seeds::seed_at_random;
 use crate::sentences::{Wanted, wanted_of};
 use fx_audit::{Answer, bundle_explained};
@@ -30,7 +31,7 @@ use std::rt::{Clock, Env, Files};
 use std::{env, mem};
 
 /// Answers the bundle on standard input.
-fn answer_input<R: AllocGlobal + Input + RandomSource, S: Sink>(
+pub(crate) fn answer_input<R: AllocGlobal + Input + RandomSource, S: Sink>(
     rt: &R,
     notes: &mut Notes<'_>,
     sink: &mut S,
@@ -197,21 +198,8 @@ fn or_help(
     Ok(arguments)
 }
 
-/// Removes an option that every command has from the arguments. Returns whether it was there.
-fn take_flag(arguments: &mut Vec<String>, flag: &str) -> bool
-    ensures { RemovesFlag flag.now string_bytes arguments.old.items arguments.new.items result }
-{
-    match place_of_flag(arguments.as_slice(), flag) {
-        Some(place) => {
-            arguments.remove(place);
-            true
-        }
-        None => false,
-    }
-}
-
-/// Answers arguments with their options: `--explain` adds sentences after the answer, and `--progress` reports how far
-/// the command has come.
+/// Answers arguments with their options: `--explain` adds sentences after the answer, `--format json` has the answer and
+/// these sentences in a JSON object, and `--progress` reports how far the command has come.
 fn answer_given<R: AllocGlobal + Clock + Eprint + Files + Input + RandomSource, S: Sink>(
     rt: &R,
     mut arguments: Vec<String>,
@@ -222,7 +210,10 @@ fn answer_given<R: AllocGlobal + Clock + Eprint + Files + Input + RandomSource, 
     ensures exit { IsExitStatus result }
 {
     let progress = take_flag(&mut arguments, "--progress");
-    if take_flag(&mut arguments, "--explain") {
+    let explained = take_flag(&mut arguments, "--explain");
+    if take_format(&mut arguments) {
+        answer_in_json(rt, arguments.as_slice(), progress, sink)
+    } else if explained {
         answer_explained(rt, arguments.as_slice(), progress, sink)
     } else {
         answer_arguments(rt, arguments.as_slice(), progress, sink)

@@ -16,6 +16,7 @@ use fx_explain_runs::{
     put_unconfirmed_refutation,
 };
 use fx_explain_streams::{StreamWatch, put_left_out, put_refused_capture, put_refused_message};
+use fx_json_answers::{certificate_fact, refutation_fact};
 use fx_layout::Layout;
 use fx_machine::State;
 use fx_plan::Plan;
@@ -23,7 +24,8 @@ use fx_refute::Refutation;
 use fx_run_text::{Choices, Step};
 use fx_tables::Packet;
 use fx_traffic::Traffic;
-use std::alloc::Global;
+use serde_json::Value;
+use std::alloc::{AllocError, Global};
 use std::mem;
 
 /// How far a command has come with its files.
@@ -72,8 +74,14 @@ pub(crate) struct Sentences<'a> {
     pub(crate) refused: Option<u16>,
     /// The line of that.
     line: Option<u64>,
-    /// The key of totals that were refused.
-    key: Option<Layout>,
+    /// The key of the report.
+    pub(crate) key: Option<Layout>,
+    /// Whether facts are gathered for a JSON object.
+    gathers_facts: bool,
+    /// Facts about the answer or the refusal.
+    facts: Vec<Value>,
+    /// The line for which the last text was refused.
+    refused_line: Option<u64>,
     /// The steps of a run that were tried, without their choices.
     steps: Vec<Step>,
     /// About the answer or the refusal.
@@ -94,6 +102,9 @@ impl Drop for Sentences<'_> {
             refused: _,
             line: _,
             key: _,
+            gathers_facts: _,
+            facts: _,
+            refused_line: _,
             steps: _,
             words: _,
             notes: _,
@@ -113,6 +124,9 @@ impl<'a> Sentences<'a> {
             refused: None,
             line: None,
             key: None,
+            gathers_facts: false,
+            facts: Vec::new(alloc),
+            refused_line: None,
             steps: Vec::new(alloc),
             words: Gathered::new(alloc),
             notes: Gathered::new(alloc),
@@ -137,6 +151,50 @@ impl<'a> Sentences<'a> {
     /// Returns those about what the documents say silently, of which there are none from then on.
     pub(crate) fn take_notes(&mut self) -> Gathered {
         mem::replace(&mut self.notes, Gathered::new(self.alloc))
+    }
+
+    /// Gathers facts for a JSON object from now on.
+    pub(crate) fn gather_facts(&mut self) {
+        self.gathers_facts = true;
+    }
+
+    /// Returns whether facts are gathered.
+    pub(crate) fn gathers_facts(&self) -> bool {
+        self.gathers_facts
+    }
+
+    /// Returns the facts about the answer, of which there are none from then on.
+    pub(crate) fn take_facts(&mut self) -> Vec<Value> {
+        mem::replace(&mut self.facts, Vec::new(self.alloc))
+    }
+
+    /// Returns the line for which the last text was refused, as a place.
+    pub(crate) fn refused_place(&self) -> Place {
+        match self.refused_line {
+            Some(line) => Place::Line(line),
+            None => Place::None,
+        }
+    }
+
+    /// Notes a fact. If it could not be made, there is no explanation.
+    fn note_fact(&mut self, made: Result<Value, AllocError>) {
+        match made {
+            Ok(fact) => {
+                if self.facts.push(fact).is_err() {
+                    self.words.fail();
+                }
+            }
+            Err(_) => self.words.fail(),
+        }
+    }
+
+    /// Notes the line for which a text is refused, as the answer prints it: 501 has none.
+    fn note_line(&mut self, fault: &Fault) {
+        if let Place::Line(line) = &fault.place {
+            if fault.number != refusals::REFUTATION_FORM {
+                self.refused_line = Some(*line);
+            }
+        }
     }
 
     /// Writes the name of a file that is refused.
@@ -165,6 +223,7 @@ impl Sentences<'_> {
     /// Notes for what the last text is refused.
     fn note_refusal(&mut self, fault: &Fault) {
         self.refused = Some(fault.number);
+        self.note_line(fault);
         if let Place::Line(line) = &fault.place {
             self.line = Some(*line);
         }
@@ -277,6 +336,9 @@ fn is_explained(fault: &Fault) -> bool {
 impl Explainer for Sentences<'_> {
     fn on_network(&mut self, octets: &[u8], plan: &Plan) {
         self.progressed = Progressed::Network;
+        if self.gathers_facts {
+            self.key = Some(plan.net().report_layout().copy());
+        }
         if self.wants_notes() {
             let written = put_network_notes(self.alloc, octets, plan, self.notes.sink());
             self.notes.note(written);
@@ -318,8 +380,12 @@ impl Explainer for Sentences<'_> {
         fault: &Fault,
     ) {
         self.refused = Some(fault.number);
+        self.note_line(fault);
+        let documents = lent(documents);
+        if self.gathers_facts {
+            self.note_fact(certificate_fact(self.alloc, &documents, due, line));
+        }
         if self.are_wanted() && is_explained(fault) {
-            let documents = lent(documents);
             let sink = self.words.sink();
             let written = put_refused_certificate(self.alloc, &documents, due, line, fault, sink);
             self.words.note(written);
@@ -327,8 +393,11 @@ impl Explainer for Sentences<'_> {
     }
 
     fn on_refutation(&mut self, documents: &AcceptedDocuments, refutation: &Refutation) {
+        let documents = lent(documents);
+        if self.gathers_facts {
+            self.note_fact(refutation_fact(self.alloc, &documents, refutation));
+        }
         if self.are_wanted() {
-            let documents = lent(documents);
             let sink = self.words.sink();
             let written = put_refutation_story(self.alloc, &documents, refutation, sink);
             self.words.note(written);
@@ -348,6 +417,7 @@ impl Explainer for Sentences<'_> {
     fn on_refused_packet(&mut self, documents: &AcceptedDocuments, refutation: &Refutation) {
         self.refused = Some(refusals::REFUTATION_PACKET);
         self.line = Some(PACKET_LINE);
+        self.refused_line = self.line;
         if self.are_wanted() {
             self.put_packet(documents, PACKET_LINE, refutation.packet());
         }
@@ -362,6 +432,7 @@ impl Explainer for Sentences<'_> {
         fault: &Fault,
     ) {
         self.refused = Some(refusals::REFUTATION_STEP);
+        self.refused_line = Some(number.saturating_add(PACKET_LINE));
         let before = number.saturating_sub(1) as usize;
         let steps = refutation.steps();
         if let (true, Some(step)) = (self.are_wanted(), steps.get(before)) {

@@ -27,6 +27,8 @@ at its end and followed by a line `%%`:
 
 --explain, with any command or a bundle: prints after the answer, in sentences, what it means and
 what to do. Nothing is printed after a graph, nor after what `explain` prints about a number.
+--format json, with any command or a bundle: prints one JSON object instead, in one line, with the
+answer, its text in \"output\", totals by key, and these sentences; the exit status is the same.
 --progress, with audit, collect and run: how far it has come, on standard error.
 It is printed at most once a second.
 
@@ -38,7 +40,7 @@ Exit status:
   3  `unknown 601`: an audit found neither within its limits
   4  out of memory: `memory 900`
   5  a read or a write failed, or a file can't be opened: `device 901`, `device 902`
-  6  the words don't parse";
+  6  the arguments don't parse";
 
 /// The text after the help of `audit`.
 pub const AUDIT: &str = "\

@@ -10,14 +10,14 @@ before_or_at place end less = grind (arith, less)
 one_of_some : {A : Type 0} (a b : A) (o : Option A) → o ≡ Some a → o ≡ Some b → b ≡ a
 one_of_some a b o x y = ap (λ (v : Option _). unwrap_or v a) (sym y ∙ x)
 
-pub returns-then-eq : goal.returns-then-eq
-returns-then-eq c =
+pub returns-then-eq-clause-place : goal.returns-then-eq-clause-place
+returns-then-eq-clause-place c =
     let is = slice_get_read c.args.words.now (length c.args.words.now) c.loop-place.place c.index-words-place.result refl c.loop-place-test.true c.index-words-place.is in
     let last : is_last_flag (string_bytes c.index-words-place.result) ≡ true = search rules in
     (c.loop-place.place, c.loop-place.invariant.unmarked, inr (c.index-words-place.result, is, last))
 
-pub returns-then-eq-2 : goal.returns-then-eq-2
-returns-then-eq-2 c =
+pub returns-then-eq-2-clause-place : goal.returns-then-eq-2-clause-place
+returns-then-eq-2-clause-place c =
     let is = slice_get_read c.args.words.now (length c.args.words.now) c.loop-place.place c.index-words-place.result refl c.loop-place-test.true c.index-words-place.is in
     let flag : is_flag c.args.flag.now (string_bytes c.index-words-place.result) ≡ true = search rules in
     (c.loop-place.invariant.unmarked, c.loop-place.invariant.from, (c.index-words-place.result, is, flag))
