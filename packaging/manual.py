@@ -76,17 +76,17 @@ class Program:
         return run.stdout
 
     def flags(self):
-        """The options that are taken out of all words, as the help has them, a line each: name, commands, text."""
+        """Returns the options that every command takes, as the help has them, one per line: name, value if it has one, commands, text."""
         lines = [line for name, section in self.help.others() for line in [name or "", *section]]
-        found = re.findall(r"^(--[a-z]+), with ([a-z, ]+): (.*)$", "\n".join(lines), re.M)
-        return [(flag, re.findall(r"[a-z]+", commands), text) for flag, commands, text in found]
+        found = re.findall(r"^(--[a-z]+)(?: ([a-z]+))?, with ([a-z, ]+): (.*)$", "\n".join(lines), re.M)
+        return [(flag, value, re.findall(r"[a-z]+", commands), text) for flag, value, commands, text in found]
 
     def options_of(self, command):
         """The options of a command: clap's own, and those flags that it takes."""
         yield from self.options(self.helps[command])
-        for flag, commands, text in self.flags():
+        for flag, value, commands, text in self.flags():
             if "any" in commands or command in commands:
-                yield [flag], None, text
+                yield [flag], value, text
 
     def files(self, command):
         """The placeholders of a command's files, in order."""
@@ -221,7 +221,8 @@ def bash(program):
     yield "    for ((i = 1; i < COMP_CWORD; i++)); do"
     yield "        case ${COMP_WORDS[i]} in"
     values = sorted({names[-1] for its in program.helps.values() for names, value, _ in program.options(its) if value})
-    yield "            %s) [[ ${COMP_WORDS[i+1]} == = ]] && ((i++)); ((i++)) ;;" % "|".join(values)
+    fixed = [(flag, value) for flag, value, _, _ in program.flags() if value]
+    yield "            %s) [[ ${COMP_WORDS[i+1]} == = ]] && ((i++)); ((i++)) ;;" % "|".join([*(flag for flag, _ in fixed), *values])
     yield "            -*) ;;"
     yield "            *) if [[ $command ]]; then ((place++)); else command=${COMP_WORDS[i]}; fi ;;"
     yield "        esac"
@@ -240,6 +241,8 @@ def bash(program):
     yield "    esac"
     yield "    file=${files[place]--}"
     yield "    case $before in"
+    for flag, value in fixed:
+        yield '        %s) COMPREPLY=($(compgen -W "%s" -- "$current")); return ;;' % (flag, value)
     for value in values:
         kinds = {kind for its in program.helps.values() for names, kind, _ in program.options(its) if names[-1] == value}
         ending = ENDINGS[kinds.pop()]
@@ -261,6 +264,9 @@ def quoted(text):
 
 
 def action(placeholder):
+    """Returns how zsh completes a value: one of a file by its placeholder, or one that the help has in small letters."""
+    if placeholder.islower():
+        return "(%s)" % placeholder
     ending = ENDINGS[placeholder]
     return " " if ending is None else "_files -g \"*.%s\"" % ending if ending else "_files"
 

@@ -4,7 +4,7 @@ _once()
     local current=${COMP_WORDS[COMP_CWORD]} before=${COMP_WORDS[COMP_CWORD-1]} command= place=0 i options files file
     for ((i = 1; i < COMP_CWORD; i++)); do
         case ${COMP_WORDS[i]} in
-            --limit|--links) [[ ${COMP_WORDS[i+1]} == = ]] && ((i++)); ((i++)) ;;
+            --format|--limit|--links) [[ ${COMP_WORDS[i+1]} == = ]] && ((i++)); ((i++)) ;;
             -*) ;;
             *) if [[ $command ]]; then ((place++)); else command=${COMP_WORDS[i]}; fi ;;
         esac
@@ -12,21 +12,22 @@ _once()
     [[ $before == = ]] && before=${COMP_WORDS[COMP_CWORD-2]}
     [[ $current == = ]] && before=${COMP_WORDS[COMP_CWORD-1]} current=
     case $command in
-        replay) options="-h --help --explain" files=(json json txt) ;;
-        collect) options="-h --help --explain --progress" files=(json ipfix) ;;
-        check) options="-h --help --explain" files=(json json txt) ;;
-        confirm) options="-h --help --explain" files=(json json txt) ;;
-        audit) options="--limit -h --help --explain --progress" files=(json json) ;;
-        run) options="--links -h --help --explain --progress" files=(json json pcap txt) ;;
-        lint) options="-h --help --explain" files=(json json) ;;
-        draw) options="-h --help --explain" files=(json json txt) ;;
-        sum) options="-h --help --explain" files=(json txt) ;;
-        explain) options="-h --help --explain" files=(-) ;;
+        replay) options="-h --help --explain --format" files=(json json txt) ;;
+        collect) options="-h --help --explain --format --progress" files=(json ipfix) ;;
+        check) options="-h --help --explain --format" files=(json json txt) ;;
+        confirm) options="-h --help --explain --format" files=(json json txt) ;;
+        audit) options="--limit -h --help --explain --format --progress" files=(json json) ;;
+        run) options="--links -h --help --explain --format --progress" files=(json json pcap txt) ;;
+        lint) options="-h --help --explain --format" files=(json json) ;;
+        draw) options="-h --help --explain --format" files=(json json txt) ;;
+        sum) options="-h --help --explain --format" files=(json txt) ;;
+        explain) options="-h --help --explain --format" files=(-) ;;
         help) [[ $place -eq 0 ]] && COMPREPLY=($(compgen -W "replay collect check confirm audit run lint draw sum explain help" -- "$current")); return ;;
         *) COMPREPLY=($(compgen -W "replay collect check confirm audit run lint draw sum explain help -h --help -V --version" -- "$current")); return ;;
     esac
     file=${files[place]--}
     case $before in
+        --format) COMPREPLY=($(compgen -W "json" -- "$current")); return ;;
         --limit) file=- ;;
         --links) file='' ;;
         *) [[ $current == -* ]] && COMPREPLY=($(compgen -W "$options" -- "$current")) && return ;;
