@@ -10,9 +10,9 @@ use fx_explanation::Documents;
 use fx_json_answers::{
     Answered, Context, TextBuffer, certificate_fact, put_answer, refutation_fact,
 };
+use fx_layout::Layout;
 use fx_refute::read_refutation;
 use std::alloc::Global;
-use std::process::Abort;
 
 /// What a refused replay prints.
 const REFUSED: &[u8] =
@@ -55,27 +55,33 @@ fn writes_a_refusal_as_json(rt: HostRuntime) {
     assert!(rt; is_put & !text.has_failed() & (text.octets() == REFUSED));
 }
 
-#[test]
-fn writes_totals_as_json(rt: HostRuntime) {
-    let plan = plan_of(&rt, rt.alloc(), NETWORK);
+/// Returns whether the totals of a confirmed refutation are written as JSON, under this key.
+fn writes_totals(alloc: Global, key: &Layout) -> bool {
+    let place = Place::None;
     let answered = Answered {
         command: "confirm",
         answer: "refuted",
         status: 0,
         number: None,
-        place: &Place::None,
+        place: &place,
         output: CONFIRMED,
     };
     let context = Context {
         files: &[],
-        totals_key: Some(plan.net().report_layout()),
-        facts: Vec::new(rt.alloc()),
+        totals_key: Some(key),
+        facts: Vec::new(alloc),
         explanation: b"",
         notes: b"",
     };
-    let mut text = TextBuffer::new(rt.alloc());
-    let is_put = ends(put_answer(rt.alloc(), &answered, context, &mut text), 0);
-    assert!(rt; is_put & text.octets().ends_with(TOTALS.as_bytes()));
+    let mut text = TextBuffer::new(alloc);
+    let is_put = ends(put_answer(alloc, &answered, context, &mut text), 0);
+    is_put & text.octets().ends_with(TOTALS.as_bytes())
+}
+
+#[test]
+fn writes_totals_as_json(rt: HostRuntime) {
+    let plan = plan_of(&rt, rt.alloc(), NETWORK);
+    assert!(rt; writes_totals(rt.alloc(), plan.net().report_layout()));
 }
 
 #[test]
