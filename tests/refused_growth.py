@@ -3,11 +3,12 @@
 
 Of each row the first growth is refused with all later ones, then the second with all later ones, and so on until a run meets no
 refusal: each must print `memory 900` alone and end with status 4, except the last, which prints what the row does. Then the same with
-each growth refused alone. What a refused run has put on a link is the beginning of what it should be, of whole messages. Last, of
-certificates of one leaf and of 1,000,000 lines: as many growths are asked for; none is asked for from the first read of the
+each growth refused alone. What a refused run has put on a link is the beginning of what it should be, of whole messages. The same with
+`--format json`, where a refusal is a JSON object, or the answer's own object lacks what explains it. Last, of certificates of one leaf and of 1,000,000 lines: as many growths are asked for; none is asked for from the first read of the
 certificate on; and if all from there on would be refused the answer is the same. Prints a line for each run and ends with 1 if one
 fails.
 """
+import json
 import os
 import re
 import shutil
@@ -37,6 +38,16 @@ SWEPT = (
     "run-with-a-bounded-cache",
     "run-with-an-aggregation",
 )
+
+# Rows that are swept with `--format json` too.
+IN_JSON = (
+    "certificate-of-one-leaf-as-bundle",
+    "stream-of-two-messages",
+    "audit-that-finds-a-certificate",
+    "refutation-where-nobody-collects-the-fallback",
+)
+# The members of an object that may be missing or empty if memory runs out for them alone.
+BESIDE = ("explanation", "facts", "notes")
 
 
 def octets_of(row, name, default=b""):
@@ -116,6 +127,43 @@ def sweep(shim, row, behind):
             number += 1
 
 
+def object_in(said):
+    """Returns the JSON object in a line, or None if it is none."""
+    try:
+        found = json.loads(said) if said.endswith(b"\n") else None
+    except ValueError:
+        return None
+    return found if isinstance(found, dict) else None
+
+
+def is_object(said, status, wanted):
+    """Returns whether this is the object of a refusal for lack of memory, or the wanted one, perhaps without what explains it."""
+    found = object_in(said)
+    if found is None or found.get("status") != status:
+        return False
+    if status == 4:
+        return found["answer"] == "memory" and found["number"] == 900 and found.get("output", "memory 900\n") == "memory 900\n"
+    return all(found.get(name) == value or name in BESIDE and not found[name] for name, value in wanted.items())
+
+
+def sweep_json(shim, row, behind):
+    """Returns whether each growth of a row that is refused is answered with an object, and what to say of it. The first ones are those of the
+    arguments, after which the answer is still text."""
+    words, given = ["--format", "json", *octets_of(row, "words").decode().split()], octets_of(row, "stdin")
+    folder, number, is_read = os.path.join(ROWS, row), 1, False
+    wanted = object_in(shim.run(words, given, folder)[0])
+    while wanted is not None:
+        said, status, told = shim.run(words, given, folder, GROWTH_REFUSED=number, GROWTHS_REFUSED=int(behind))
+        if told[0] < number:
+            return is_read and object_in(said) == wanted, "%d growths" % told[0]
+        is_text = (said, status) == (b"memory 900\n", 4)
+        is_read = is_read or not is_text
+        if is_read and not is_object(said, status, wanted):
+            return False, "growth %d refused: status %d, printed %r" % (number, status, said[:200])
+        number += 1
+    return False, "printed no object"
+
+
 def lengths(shim, folder):
     """Whether memory grows before the first read of the certificate, whatever its length, and what to say of it."""
     counts = []
@@ -147,6 +195,11 @@ def main(program):
         runs = [
             (row + end, lambda row=row, behind=behind: sweep(shim, row, behind))
             for row in SWEPT
+            for behind, end in ((True, ", and all later ones"), (False, ", alone"))
+        ]
+        runs += [
+            (row + ", as JSON" + end, lambda row=row, behind=behind: sweep_json(shim, row, behind))
+            for row in IN_JSON
             for behind, end in ((True, ", and all later ones"), (False, ", alone"))
         ]
         runs.append(("certificates of one leaf and of 1,000,000 lines", lambda: lengths(shim, folder)))
