@@ -374,8 +374,8 @@ def held_in(link, capture):
 
 # a file, what it has, and its captures: a constant, frames, link type, octet order, whether nanoseconds, first second
 FILES = [
-    ("ipv6", "Packets of IPv6 behind Ethernet: little-endian, microseconds", [("IPV6", of_ipv6, 1, "<", False, 1)]),
-    ("tags", "Tags, other EtherTypes and IPv4 behind Ethernet: big-endian, nanoseconds",
+    ("ipv6", "Packets of IPv6 after an Ethernet header: little-endian, microseconds", [("IPV6", of_ipv6, 1, "<", False, 1)]),
+    ("tags", "Tags, other EtherTypes and IPv4 after an Ethernet header: big-endian, nanoseconds",
      [("TAGS", tagged, 1, ">", True, 1)]),
     ("raw", "Packets of both versions by themselves: little-endian, nanoseconds; big-endian, microseconds",
      [("LITTLE", raw_frames, 101, "<", True, 1), ("BIG", raw_frames_too, 101, ">", False, 2**32 - 14)])]

@@ -82,8 +82,8 @@ class Answer:
     @property
     def file(self) -> str:
         """Returns the name of the file that the explanation begins with, an empty text if it begins with none."""
-        told = "".join(f"{one}\n" for one in self.explanation)
-        return max((name for name in self.files.values() if told.startswith(f"file: {name}\n")), key=len, default="")
+        text = "".join(f"{one}\n" for one in self.explanation)
+        return max((name for name in self.files.values() if text.startswith(f"file: {name}\n")), key=len, default="")
 
     @property
     def details(self) -> tuple[str, ...]:

@@ -6,7 +6,7 @@ use fx_link::{Links, Nowhere, Sinks};
 use std::alloc::Global;
 use std::process::Abort;
 
-/// A capture of three packets of raw IP from 10.0.0.1, of 100, 200 and 300 octets, at the seconds 1, 2 and 3.
+/// A capture (pcap) of three raw IP packets from 10.0.0.1: 100, 200 and 300 octets long, 1, 2 and 3 seconds after 1970.
 pub(crate) const CAPTURE: [u8; 132] = [
     0xa1, 0xb2, 0xc3, 0xd4, 0, 2, 0, 4, 0, 0, 0, 0, 0, 0, 0, 0, 0, 4, 0, 0, 0, 0, 0, 0x65, // the file header
     0, 0, 0, 1, 0, 0, 0, 0, 0, 0, 0, 0x14, 0, 0, 0, 0x64, // the first record

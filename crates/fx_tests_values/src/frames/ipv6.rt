@@ -1,4 +1,4 @@
-//! Packets of IPv6 behind Ethernet: little-endian, microseconds.
+//! Packets of IPv6 after an Ethernet header: little-endian, microseconds.
 //! `tests/make_capture_frames.py` writes this file, with scapy 2.5.0 and tshark 4.0.17.
 use crate::frames::Held::{self, Malformed, Other, Packet};
 

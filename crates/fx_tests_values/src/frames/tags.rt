@@ -1,4 +1,4 @@
-//! Tags, other EtherTypes and IPv4 behind Ethernet: big-endian, nanoseconds.
+//! Tags, other EtherTypes and IPv4 after an Ethernet header: big-endian, nanoseconds.
 //! `tests/make_capture_frames.py` writes this file, with scapy 2.5.0 and tshark 4.0.17.
 use crate::frames::Held::{self, Malformed, Other, Packet};
 
