@@ -19,20 +19,22 @@ OPTION = ["--format", "json"]
 SWEPT_IN_JSON = (*IN_JSON, "run-with-a-schedule")
 
 
-def says_device(said, number):
-    """Returns whether this is the line of a device that failed, or the object of it."""
+def says_device(said, number, is_json):
+    """Returns whether this is the line of a device that failed, or as JSON the object of it."""
     line = b"device %d\n" % number
+    if not is_json:
+        return said == line
     found = object_in(said) or {}
-    return said == line or (found.get("answer"), found.get("number"), found.get("status"), found.get("output")) == ("device", number, 5, line.decode())
+    return (found.get("answer"), found.get("number"), found.get("status"), found.get("output")) == ("device", number, 5, line.decode())
 
 
-def ends_right(kind, said, status, wanted):
+def ends_right(kind, said, status, wanted, is_json):
     """Whether a run of which a call failed ends as it should."""
     if status != 5:
         return False
     if kind == "READ":
-        return says_device(said, 901)
-    return says_device(said, 902) or (wanted.startswith(said) and said != wanted)
+        return says_device(said, 901, is_json)
+    return says_device(said, 902, is_json) or (wanted.startswith(said) and said != wanted)
 
 
 def sweep(shim, row, kind, behind, option=()):
@@ -42,6 +44,7 @@ def sweep(shim, row, kind, behind, option=()):
     with tempfile.TemporaryDirectory() as room:
         folder = shutil.copytree(os.path.join(ROWS, row), os.path.join(room, "row"))
         if option:
+            # (json_rows.py checks the object itself)
             wanted = shim.run(words, given, folder)[:2]
         while True:
             asked = {kind + "_FAILED": number, "DEVICES_FAILED": int(behind)}
@@ -53,7 +56,7 @@ def sweep(shim, row, kind, behind, option=()):
                 return False, "call %d failed: wrong octets on %s" % (number, links)
             if is_whole:
                 return number > 1 and (said, status) == wanted, "%d calls" % calls
-            if not ends_right(kind, said, status, wanted[0]):
+            if not ends_right(kind, said, status, wanted[0], bool(option)):
                 return False, "call %d failed: status %d, printed %r" % (number, status, said[:200])
             number += 1
 
