@@ -1,4 +1,4 @@
--- What an audit is answered with, and what it prints.
+-- What an audit answers, and what it prints.
 use Rattle.std.specs.Prelude.{◌≡◌, ℕ, List, [], ◌∷◌, ◌++◌, codes}
 use Rattle.fx_base.specs.Lines.{text_lines}
 use Rattle.fx_cert.specs.declared.item.Item.{Item}
@@ -21,8 +21,8 @@ use Rattle.fx_audit.specs.declared.answer.Answer.TheVariants.{Yes, No, Unknown}
 abbrev pub unknown_line : List ℕ
 unknown_line = codes "unknown 601" ++ 10 ∷ []
 
--- the text is a certificate's, of at most so many split and leaf lines: each packet is counted once, modulo 2 to the 64
--- however large the sums are
+-- the text is a certificate of at most `limit` split and leaf lines: each packet is counted exactly once, and also once
+-- modulo 2 to the 64, however large the sums are
 pub record IsCertified (network : NetworkDocument) (classes : List Class) (limit : ℕ) (text : List ℕ) : Type 0 where
   pub once : ExactlyOnce (net_of network) classes
   pub modulo : OnceModulo (net_of network) classes
@@ -31,25 +31,25 @@ pub record IsCertified (network : NetworkDocument) (classes : List Class) (limit
   pub found : IsFound (net_of network) classes limit items
   pub text_is : text ≡ certificate_text items
 
--- the text is that of a refutation: not every complete run counts each packet once
+-- the text is a refutation: not every complete run counts each packet exactly once
 pub record IsRefutedBy (network : NetworkDocument) (classes : List Class) (text : List ℕ) : Type 0 where
   pub not_once : ExactlyOnce (net_of network) classes → ⊥
   pub refutation : Refutation
   pub refutes : Refutes (net_of network) classes refutation
   pub text_is : text ≡ refutation_text Two refutation
 
--- a certificate within the limit and a refutation need too much
+-- both a certificate within the limit and a refutation would be too large
 pub record IsUnsettled (network : NetworkDocument) (classes : List Class) (limit : ℕ) (text : List ℕ) : Type 0 where
   pub too_large : IsTooLarge (net_of network) (targets_of classes) (most_lines limit)
   pub text_is : text ≡ unknown_line
 
--- the answer of an audit in this network and traffic, and the text that it prints
+-- the answer of an audit of this network and traffic, and the text that it prints
 abbrev pub IsAuditedIn : NetworkDocument → List Class → ℕ → Answer → List ℕ → Type 0
 IsAuditedIn network classes limit Yes text = IsCertified network classes limit text
 IsAuditedIn network classes limit No text = IsRefutedBy network classes text
 IsAuditedIn network classes limit Unknown text = IsUnsettled network classes limit text
 
--- what is found is answered with yes or no, and this text is printed
+-- the answer and the printed text for what a search found: yes for a certificate, no for a refutation
 abbrev pub IsFoundText : Found → Answer → List ℕ → Type 0
 IsFoundText (found.Certificate items) answer text = (answer ≡ Yes) × (text ≡ certificate_text items.items)
 IsFoundText (found.Refutation r) answer text = (answer ≡ No) × (text ≡ refutation_text Two r)

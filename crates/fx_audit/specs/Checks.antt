@@ -1,4 +1,4 @@
--- What a checked certificate is answered with, and what is printed.
+-- What the check of a certificate answers, and what it prints.
 use Rattle.std.specs.Prelude.{◌≡◌, ◌⊎◌, ℕ, ◌≤◌, List, [], ◌∷◌, ◌++◌, codes, Option, Some, None}
 use Rattle.fx_base.specs.declared.fault.Fault.{Fault}
 use Rattle.fx_base.specs.declared.fault.Place.TheVariants as places
@@ -27,11 +27,11 @@ no_line e = codes "no " ++ (fault_text e ++ 10 ∷ [])
 
 -- ---- what is answered
 
--- the number is one of these
+-- the number is in the range
 abbrev pub IsWithin : ℕ → ℕ → ℕ → Type 0
 IsWithin first last number = (first ≤ number) × (number ≤ last)
 
--- a refusal with this number makes the answer no
+-- a refusal with this number means that the answer is no
 abbrev pub MeansNo : ℕ → Type 0
 MeansNo number = IsWithin certificate_first certificate_last number
 
@@ -39,13 +39,13 @@ abbrev pub IsFaultOf : Fault → Option Refusal → Type 0
 IsFaultOf e None = ⊥
 IsFaultOf e (Some r) = e ≡ r.fault
 
--- the first refusal of a certificate for these classes in a network, by a text that the reader may have left
+-- the first refusal of a certificate for these classes in a network, for a text that the reader may have left
 abbrev pub IsRefusedText : NetworkDocument → List Class → Lines → Fault → Type 0
 IsRefusedText network classes lines e =
     MayHaveLeft lines.left (λ text. IsFaultOf e (first_refusal (judge_of (net_of network)) lines.number 0 (whole (targets_of classes)) (text_lines text)))
 
--- each packet is counted once, modulo 2 to the 64 however large the sums are; the certificate shows it, and nothing in
--- it is refused
+-- each packet is counted exactly once, and also once modulo 2 to the 64, however large the sums are; the certificate shows
+-- it, and no line of it is refused
 pub record IsYes (network : NetworkDocument) (classes : List Class) (lines : Lines) (text : List ℕ) : Type 0 where
   pub once : ExactlyOnce (net_of network) classes
   pub modulo : OnceModulo (net_of network) classes
@@ -53,7 +53,7 @@ pub record IsYes (network : NetworkDocument) (classes : List Class) (lines : Lin
   pub accepted : MayBeAccepted (net_of network) (targets_of classes) lines
   pub text_is : text ≡ yes_line
 
--- the certificate is refused at a line, by a number that makes the answer no; or so was what the reader had read before
+-- the certificate is refused at a line, with a number that means no; or the reader had already stopped with such a fault
 pub record IsNo (network : NetworkDocument) (classes : List Class) (lines : Lines) (text : List ℕ) : Type 0 where
   pub fault : Fault
   pub means_no : MeansNo fault.number
@@ -61,24 +61,24 @@ pub record IsNo (network : NetworkDocument) (classes : List Class) (lines : Line
   pub refused : (lines.stopped ≡ Some fault) ⊎ IsRefusedText network classes lines fault
   pub text_is : text ≡ no_line fault
 
--- the answer to a certificate, in this network and traffic, and the text that it prints
+-- the answer for a certificate in this network and traffic, and the text that is printed
 abbrev pub IsAnswered : NetworkDocument → List Class → Lines → Answer → List ℕ → Type 0
 IsAnswered network classes lines Yes text = IsYes network classes lines text
 IsAnswered network classes lines No text = IsNo network classes lines text
 IsAnswered network classes lines Unknown text = ⊥
 
--- the certificate is refused otherwise
+-- the certificate is refused with a number that doesn't mean no
 abbrev pub IsRefusedCertificate : NetworkDocument → List Class → Lines → Fault → Type 0
 IsRefusedCertificate network classes lines e = IsRefusedText network classes lines e × (MeansNo e.number → ⊥)
 
--- what a check ends with that isn't answered, once a line of the certificate is asked for: want of memory, a read or a
--- write that failed, or a line that is too long
+-- the faults with which a check ends without an answer, once it has requested a line of the certificate: out of memory, a
+-- failed read or write, or a line that is too long
 pub data IsNoAnswer : Fault → Type 0 where
   memory : IsNoAnswer (fault_at want_of_memory places.None)
   read_failed : IsNoAnswer (fault_at failed_read places.None)
   write_failed : IsNoAnswer (fault_at failed_write places.None)
   too_long : (line : ℕ) → IsNoAnswer (fault_at long_line (places.Line line))
 
--- such a fault, or the one that the reader had answered before
+-- such a fault, or the fault with which the reader had already stopped
 abbrev pub IsUnanswered : Lines → Fault → Type 0
 IsUnanswered lines e = (lines.stopped ≡ Some e) ⊎ IsNoAnswer e

@@ -1,4 +1,4 @@
--- What commands make of octets.
+-- What commands compute from octets.
 use Rattle.std.specs.Prelude.{◌≡◌, ◌⊎◌, ℕ, ◌≤◌, ◌^◌, List, length, Ok, Err}
 use Rattle.fx_base.specs.declared.fault.Fault.{Fault}
 use Rattle.fx_base.specs.declared.fault.Place.TheVariants as places
@@ -40,7 +40,7 @@ AreLinted network_octets traffic_octets text = InDocuments (λ network classes. 
 
 -- ---- a run that is replayed
 
--- the text that a replay in this network and traffic prints: that of the run's last state
+-- the text that a replay in this network and traffic prints: the text of the run's last state
 pub record IsReplayedIn (network : NetworkDocument) (classes : List Class) (lines : Lines) (text : List ℕ) : Type 0 where
   pub run_read : Run
   pub last : State
@@ -48,29 +48,29 @@ pub record IsReplayedIn (network : NetworkDocument) (classes : List Class) (line
   pub steps : run (net_of network) classes run_read.packets run_read.steps (opening (net_of network) classes run_read.packets) ≡ Ok last
   pub text_is : IsTextOf (net_of network).report_layout (told_state last) text
 
--- the text that a replay prints in the network and traffic that two documents say
+-- the text that a replay prints in the network and traffic that two documents declare
 abbrev pub IsReplayed : List ℕ → List ℕ → Lines → List ℕ → Type 0
 IsReplayed network_octets traffic_octets lines text = InDocuments (λ network classes. IsReplayedIn network classes lines text) network_octets traffic_octets
 
--- the run's text is refused, in this network and traffic, or the run
+-- the text of the run is refused in this network and traffic, or the run itself is
 abbrev pub IsRefusedRun : NetworkDocument → List Class → Lines → Fault → Type 0
 IsRefusedRun network classes lines e =
     MayReadRun classes lines (Err e) ⊎ ((r : Run) × MayReadRun classes lines (Ok r) × IsRefused (net_of network) classes r e)
 
--- the first refusal of a replay: that of the documents, then the run's
+-- the first refusal of a replay: that of the documents, otherwise that of the run
 abbrev pub IsRefusedReplay : List ℕ → List ℕ → Lines → Fault → Type 0
 IsRefusedReplay network_octets traffic_octets lines e = IsRefusedIn (λ network classes. IsRefusedRun network classes lines e) network_octets traffic_octets e
 
 -- ---- a stream that is collected
 
--- the text that a stream comes to at the report of the network that a document says; the stream is whole
+-- the text that results from a stream under the report of the network that a document declares; no message is cut off
 pub record IsCollected (network_octets stream_octets text : List ℕ) : Type 0 where
   pub network : NetworkDocument
   pub network_is : IsNetworkDocument network_octets network
   pub whole : EndsWithMessage (stream_read stream_octets)
   pub text_is : IsStreamText (net_of network).report_layout (stream_read stream_octets).known text
 
--- the first refusal of what is collected: that of the network's document, then the stream's
+-- the first refusal of a collection: that of the network's document, otherwise that of the stream
 abbrev pub IsRefusedCollect : List ℕ → List ℕ → Fault → Type 0
 IsRefusedCollect network_octets stream_octets e =
     IsRefusedNetwork network_octets e
@@ -78,56 +78,56 @@ IsRefusedCollect network_octets stream_octets e =
 
 -- ---- a certificate that is checked
 
--- the answer to a certificate in the network and traffic that two documents say
+-- the answer for a certificate in the network and traffic that two documents declare
 abbrev pub IsChecked : List ℕ → List ℕ → Lines → Answer → List ℕ → Type 0
 IsChecked network_octets traffic_octets lines answer text = InDocuments (λ network classes. IsAnswered network classes lines answer text) network_octets traffic_octets
 
--- the first refusal of a check that is no answer: that of the documents, then the certificate's
+-- the first refusal of a check that isn't an answer: that of the documents, otherwise that of the certificate
 abbrev pub IsRefusedCheck : List ℕ → List ℕ → Lines → Fault → Type 0
 IsRefusedCheck network_octets traffic_octets lines e = IsRefusedIn (λ network classes. IsRefusedCertificate network classes lines e) network_octets traffic_octets e
 
 -- ---- a refutation that is confirmed
 
--- the answer to a refutation in the network and traffic that two documents say
+-- the answer for a refutation in the network and traffic that two documents declare
 abbrev pub IsConfirmed : List ℕ → List ℕ → Lines → Answer → List ℕ → Type 0
 IsConfirmed network_octets traffic_octets lines answer text = InDocuments (λ network classes. IsConfirmedIn network classes lines answer text) network_octets traffic_octets
 
--- the first refusal of a confirmation that is no answer: that of the documents, then the refutation's
+-- the first refusal of a confirmation that isn't an answer: that of the documents, otherwise that of the refutation
 abbrev pub IsRefusedConfirm : List ℕ → List ℕ → Lines → Fault → Type 0
 IsRefusedConfirm network_octets traffic_octets lines e = IsRefusedIn (λ network classes. IsRefusedOtherwise network classes lines e) network_octets traffic_octets e
 
 -- ---- an audit
 
--- the answer of an audit of the network and traffic that two documents say
+-- the answer of an audit of the network and traffic that two documents declare
 abbrev pub IsAudited : List ℕ → List ℕ → ℕ → Answer → List ℕ → Type 0
 IsAudited network_octets traffic_octets limit answer text = InDocuments (λ network classes. IsAuditedIn network classes limit answer text) network_octets traffic_octets
 
 -- ---- a bundle
 
--- what a command answers, and the text that it prints; an audit searches for the longest certificate that there may be
+-- what a command answers, and the text that it prints; an audit in a bundle searches up to the greatest size of a certificate
 abbrev pub IsDone : Command → List ℕ → List ℕ → Lines → Answer → List ℕ → Type 0
 IsDone Replay network traffic lines answer text = (answer ≡ Yes) × IsReplayed network traffic lines text
 IsDone Check network traffic lines answer text = IsChecked network traffic lines answer text
 IsDone Confirm network traffic lines answer text = IsConfirmed network traffic lines answer text
 IsDone Audit network traffic lines answer text = IsAudited network traffic line_limit answer text
 
--- what a command makes of these octets is refused
+-- the command refuses these octets
 abbrev pub IsRefusedBy : Command → List ℕ → List ℕ → Lines → Fault → Type 0
 IsRefusedBy Replay network traffic lines e = IsRefusedReplay network traffic lines e
 IsRefusedBy Check network traffic lines e = IsRefusedCheck network traffic lines e
 IsRefusedBy Confirm network traffic lines e = IsRefusedConfirm network traffic lines e
 IsRefusedBy Audit network traffic lines e = IsRefusedByDocuments network traffic e
 
--- a text is so long that it isn't read in 2 to the 32 calls
+-- a text is so long that 2 to the 32 calls don't read it to its end
 abbrev pub IsEndless : List ℕ → List ℕ → List ℕ → Fault → Type 0
 IsEndless network traffic third e =
     (e ≡ fault_at failed_read places.None) × ((2 ^ 32 ≤ length network) ⊎ ((2 ^ 32 ≤ length traffic) ⊎ (2 ^ 32 ≤ length third)))
 
--- what a bundle's command makes of its texts is refused
+-- the command of a bundle refuses its texts, or one of them is too long
 abbrev pub IsRefusedThere : Command → List ℕ → List ℕ → List ℕ → Fault → Type 0
 IsRefusedThere command network traffic third e = IsRefusedBy command network traffic (lines_in third) e ⊎ IsEndless network traffic third e
 
--- the octets are no bundle, or what its command makes of its texts is refused
+-- the octets aren't a bundle, or the command refuses its texts
 abbrev pub IsRefusedBundle : List ℕ → Fault → Type 0
 IsRefusedBundle octets e =
     ((e ≡ fault_at schedule_or_bundle places.None) × ((command : Command) (network : List ℕ) (traffic : List ℕ) (third : List ℕ) → IsBundle octets command network traffic third → ⊥))

@@ -1,4 +1,4 @@
--- What a refutation is answered with, and what is printed.
+-- What the confirmation of a refutation answers, and what it prints.
 use Rattle.std.specs.Prelude.{◌≡◌, ◌⊎◌, ◌==◌, ℕ, List, ◌++◌, codes, Some, Ok, Err, IsPermutation, if◌then◌else◌}
 use Rattle.fx_base.specs.declared.fault.Fault.{Fault}
 use Rattle.fx_base.specs.declared.fault.Place.TheVariants as places
@@ -25,11 +25,11 @@ refuted_text ran plain =
 
 -- ---- what is answered
 
--- a refusal as the answer prints it: a text that is no refutation has no place
+-- a refusal as the answer prints it: without its place if the text isn't a well-formed refutation
 abbrev pub printed_refusal : Fault → Fault
 printed_refusal e = if e.number == refutation_form then fault_at e.number places.None else e
 
--- a refusal with this number makes the answer no
+-- a refusal with this number means that the answer is no
 abbrev pub RefutesNothing : ℕ → Type 0
 RefutesNothing number = IsWithin refutation_first refutation_last number
 
@@ -40,7 +40,7 @@ pub record IsInOrder (t sorted : Totals) : Type 0 where
   pub layout_is : sorted.layout ≡ t.layout
   pub unassigned : sorted.unassigned ≡ t.unassigned
 
--- the text is a refutation, which refutes; these are the totals of its run and the plain sums over its packet, in order
+-- the text is a refutation that refutes; `ran` and `plain` are the totals of its run and the plain sums, in ascending order
 pub record IsRefuted (network : NetworkDocument) (classes : List Class) (lines : Lines) (ran plain : Totals) : Type 0 where
   pub refutation : Refutation
   pub said : MayReadRefutation lines (Ok refutation)
@@ -51,33 +51,33 @@ pub record IsRefuted (network : NetworkDocument) (classes : List Class) (lines :
   pub ran_in_order : IsInOrder ran_found ran
   pub plain_in_order : IsInOrder plain_found plain
 
--- both are printed
+-- the refutation refutes, and both totals are printed
 pub record IsYes (network : NetworkDocument) (classes : List Class) (lines : Lines) (text : List ℕ) : Type 0 where
   pub ran : Totals
   pub plain : Totals
   pub refuted : IsRefuted network classes lines ran plain
   pub text_is : text ≡ refuted_text ran plain
 
--- the text isn't that of a refutation, or it refutes nothing
+-- the text isn't a well-formed refutation, or it refutes nothing
 abbrev pub IsRefusedRefutation : NetworkDocument → List Class → Lines → Fault → Type 0
 IsRefusedRefutation network classes lines e =
     MayReadRefutation lines (Err e)
     ⊎ ((r : Refutation) × MayReadRefutation lines (Ok r) × IsNoRefutation (net_of network) classes r e)
 
--- by a number that makes the answer no; or so was what the reader had read before
+-- the refutation is refused with a number that means no; or the reader had already stopped with such a fault
 pub record IsNo (network : NetworkDocument) (classes : List Class) (lines : Lines) (text : List ℕ) : Type 0 where
   pub fault : Fault
   pub means_no : RefutesNothing fault.number
   pub refused : (lines.stopped ≡ Some fault) ⊎ IsRefusedRefutation network classes lines fault
   pub text_is : text ≡ no_line (printed_refusal fault)
 
--- the answer to a refutation, in this network and traffic, and the text that it prints
+-- the answer for a refutation in this network and traffic, and the text that is printed
 abbrev pub IsConfirmedIn : NetworkDocument → List Class → Lines → Answer → List ℕ → Type 0
 IsConfirmedIn network classes lines Yes text = IsYes network classes lines text
 IsConfirmedIn network classes lines No text = IsNo network classes lines text
 IsConfirmedIn network classes lines Unknown text = ⊥
 
--- the text is refused otherwise
+-- the refutation is refused with a number that doesn't mean no
 abbrev pub IsRefusedOtherwise : NetworkDocument → List Class → Lines → Fault → Type 0
 IsRefusedOtherwise network classes lines e =
     IsRefusedRefutation network classes lines e × (RefutesNothing e.number → ⊥)

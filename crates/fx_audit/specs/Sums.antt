@@ -1,4 +1,4 @@
--- What texts of totals come to that were collected apart.
+-- The sum of texts of totals that were collected separately.
 use Rattle.std.specs.Prelude.{◌≡◌, ◌⊎◌, ℕ, List, Ok, Err, IsPermutation}
 use Rattle.fx_base.specs.declared.fault.Fault.{Fault}
 use Rattle.fx_base.specs.Lines.{Lines}
@@ -19,23 +19,23 @@ pub record IsTextOfSum (sum : Sum) (text : List ℕ) : Type 0 where
   pub rest : IsSumBut sum sorted
   pub text_is : text ≡ noted_text sorted
 
--- what the texts of totals that a reader's lines say come to, under a layout's keys
+-- the sum of the texts of totals that a reader's lines hold, under a layout's keys
 pub record IsSummedUnder (layout : Layout) (lines : Lines) (text : List ℕ) : Type 0 where
   pub sum : Sum
   pub sum_is : MayGive (sum_of_texts (no_sum layout)) lines (Ok sum)
   pub text_is : IsTextOfSum sum text
 
--- the same at the report of the network that a document says
+-- the same under the report of the network that a document declares
 pub record IsSummed (network_octets : List ℕ) (lines : Lines) (text : List ℕ) : Type 0 where
   pub network : NetworkDocument
   pub network_is : IsNetworkDocument network_octets network
   pub summed : IsSummedUnder (net_of network).report_layout lines text
 
--- a line isn't that of totals under a layout's keys
+-- a line isn't well-formed as a line of totals under a layout's keys
 abbrev pub IsRefusedTotals : Layout → Lines → Fault → Type 0
 IsRefusedTotals layout lines e = MayGive (sum_of_texts (no_sum layout)) lines (Err e)
 
--- the first refusal of a sum: that of the network's document, then that of a line
+-- the first refusal of a sum: that of the network's document, otherwise that of a line
 abbrev pub IsRefusedSum : List ℕ → Lines → Fault → Type 0
 IsRefusedSum network_octets lines e =
     IsRefusedNetwork network_octets e

@@ -1,4 +1,4 @@
--- What an answer prints, whatever it was asked of.
+-- What an answer prints, for any input.
 use Rattle.std.specs.Prelude.{◌≡◌, ◌⊎◌, ℕ, List, [], ◌∷◌, ◌++◌, codes}
 use Rattle.fx_base.specs.declared.fault.Fault.{Fault}
 use Rattle.fx_layout.specs.Keys.{Layout}
@@ -20,7 +20,7 @@ use Rattle.fx_audit.specs.Streams.{IsTotalsText}
 use Rattle.fx_audit.specs.Sums.{IsTextOfSum}
 use Rattle.fx_sums.specs.Sums.{Sum}
 
--- a lint prints that there is nothing to say
+-- a lint without findings prints `ok`
 abbrev pub ok_line : List ℕ
 ok_line = codes "ok" ++ 10 ∷ []
 
@@ -31,31 +31,31 @@ IsLintText answer text = (answer ≡ Yes) × (text ≡ ok_line)
 abbrev pub IsReplayText : Answer → List ℕ → Type 0
 IsReplayText answer text = (answer ≡ Yes) × ((layout : Layout) × (s : State) × IsTextOf layout s text)
 
--- a stream's totals, and how many gaps and skipped records it had
+-- collecting prints a stream's totals, and the numbers of gaps and skipped records
 abbrev pub IsCollectText : Answer → List ℕ → Type 0
 IsCollectText answer text = (answer ≡ Yes) × ((totals : Totals) × (gaps : ℕ) × (skipped : ℕ) × IsTotalsText totals gaps skipped text)
 
--- a run's totals, and how many frames of its capture were skipped
+-- a run prints its totals, and the numbers of skipped frames of its capture
 abbrev pub IsRunText : Answer → List ℕ → Type 0
 IsRunText answer text = (answer ≡ Yes) × ((totals : Totals) × (other : ℕ) × (malformed : ℕ) × IsMeteredText totals other malformed text)
 
--- a sum prints totals, and what was noted beside them
+-- a sum prints totals, and the notes beside them
 abbrev pub IsSumText : Answer → List ℕ → Type 0
 IsSumText answer text = (answer ≡ Yes) × ((sum : Sum) × IsTextOfSum sum text)
 
--- a check prints `yes` or `no`, as it answers
+-- a check prints `yes` or `no`, according to its answer
 abbrev pub IsCheckText : Answer → List ℕ → Type 0
 IsCheckText Yes text = text ≡ yes_line
 IsCheckText No text = (e : Fault) × MeansNo e.number × (text ≡ no_line e)
 IsCheckText Unknown text = ⊥
 
--- a confirmation prints two totals or `no`, as it answers
+-- a confirmation prints two totals or `no`, according to its answer
 abbrev pub IsConfirmText : Answer → List ℕ → Type 0
 IsConfirmText Yes text = (ran : Totals) × (plain : Totals) × (text ≡ refuted_text ran plain)
 IsConfirmText No text = (e : Fault) × RefutesNothing e.number × (text ≡ no_line e)
 IsConfirmText Unknown text = ⊥
 
--- an audit prints a certificate, a refutation or `unknown 601`, as it answers
+-- an audit prints a certificate, a refutation or `unknown 601`, according to its answer
 abbrev pub IsAuditText : Answer → List ℕ → Type 0
 IsAuditText Yes text = (items : List Item) × (text ≡ certificate_text items)
 IsAuditText No text = (r : Refutation) × (text ≡ refutation_text Two r)

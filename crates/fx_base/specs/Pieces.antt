@@ -1,9 +1,9 @@
 -- The octets of a source, piece by piece.
 use Rattle.std.specs.Prelude.{ℕ, List}
 
--- What a reader of pieces is seen as.
+-- The abstract state of a reader of pieces.
 pub record Pieces : Type 0 where
-  -- the piece that it is at
+  -- the current piece
   pub piece : List ℕ
-  -- how many calls it has made
+  -- the number of calls that it has made
   pub calls : ℕ

@@ -2,21 +2,21 @@
 use Rattle.std.specs.Prelude.{ℕ, ◌==◌, List, [], ◌∷◌, Bool}
 use Rattle.std.specs.List.{list_any}
 
--- ---- devices, and documents altogether
+-- ---- devices, and documents in general
 
--- a document is no JSON text in UTF-8 (RFC 8259)
+-- a document isn't a JSON text in UTF-8 (RFC 8259)
 abbrev pub not_json : ℕ
 not_json = 101
 
--- a member that may not be there (RFC 6728, RFC 7951)
+-- a member that isn't allowed (RFC 6728, RFC 7951)
 abbrev pub unknown_member : ℕ
 unknown_member = 102
 
--- a member that has to be there isn't, or a list that has to have an entry is empty
+-- a required member is missing, or a list that must have an entry is empty
 abbrev pub missing_member : ℕ
 missing_member = 103
 
--- a value is of another JSON kind than its member wants (RFC 7951, section 6)
+-- a value is of another JSON kind than its member requires (RFC 7951, section 6)
 abbrev pub wrong_kind : ℕ
 wrong_kind = 104
 
@@ -24,11 +24,11 @@ wrong_kind = 104
 abbrev pub bad_value : ℕ
 bad_value = 105
 
--- a name stands twice in its list
+-- a name occurs twice in its list
 abbrev pub name_twice : ℕ
 name_twice = 106
 
--- a reference names nothing
+-- a reference names no entry
 abbrev pub unknown_name : ℕ
 unknown_name = 107
 
@@ -44,15 +44,15 @@ hash_filter = 109
 abbrev pub cache_counter_length : ℕ
 cache_counter_length = 110
 
--- a counter since the beginning, element 85 or 86 (RFC 7012)
+-- a counter since the start of metering, element 85 or 86 (RFC 7012)
 abbrev pub total_counter : ℕ
 total_counter = 111
 
--- a flow key that is no axis
+-- a flow key that isn't an axis
 abbrev pub key_without_axis : ℕ
 key_without_axis = 112
 
--- a file as transport
+-- a file as the transport
 abbrev pub file_transport : ℕ
 file_transport = 113
 
@@ -66,23 +66,23 @@ too_many_entries = 115
 
 -- ---- networks
 
--- an end of a link isn't there
+-- an end of a link doesn't exist
 abbrev pub unknown_link_end : ℕ
 unknown_link_end = 201
 
--- a destination has a link already
+-- a destination already has a link
 abbrev pub linked_twice : ℕ
 linked_twice = 202
 
--- links lead records round in a circle
+-- links form a cycle
 abbrev pub link_cycle : ℕ
 link_cycle = 204
 
--- the report's device or collecting process isn't there
+-- the device or the collecting process of the report doesn't exist
 abbrev pub unknown_report_process : ℕ
 unknown_report_process = 205
 
--- the report's key isn't made of axes, each at most once
+-- the report's key doesn't consist of axes, each at most once
 abbrev pub report_key : ℕ
 report_key = 206
 
@@ -92,7 +92,7 @@ too_many_layouts = 207
 
 -- ---- declarations of traffic
 
--- the name of a class stands twice
+-- the name of a class occurs twice
 abbrev pub class_twice : ℕ
 class_twice = 301
 
@@ -100,7 +100,7 @@ class_twice = 301
 abbrev pub traffic_value : ℕ
 traffic_value = 302
 
--- a crossing names a device that isn't there
+-- a crossing names a device that doesn't exist
 abbrev pub unknown_device : ℕ
 unknown_device = 303
 
@@ -114,23 +114,23 @@ too_much_traffic = 305
 
 -- ---- certificates
 
--- the first number of a certificate's refusals
+-- the first refusal number of certificates
 abbrev pub certificate_first : ℕ
 certificate_first = 401
 
--- the last number of a certificate's refusals
+-- the last refusal number of certificates
 abbrev pub certificate_last : ℕ
 certificate_last = 415
 
--- the first line isn't that of a certificate
+-- the first line isn't the header of a certificate
 abbrev pub certificate_header : ℕ
 certificate_header = 401
 
--- a line has no form of a certificate's lines
+-- a line isn't well-formed as a line of a certificate
 abbrev pub certificate_line : ℕ
 certificate_line = 402
 
--- a line isn't in its place
+-- a line is out of order
 abbrev pub certificate_order : ℕ
 certificate_order = 403
 
@@ -142,11 +142,11 @@ split_not_inside = 404
 abbrev pub certificate_cut : ℕ
 certificate_cut = 405
 
--- a selection process or a match holds for a part of a leaf's region only
+-- a selection process or a match covers only part of a leaf's region
 abbrev pub cut_region : ℕ
 cut_region = 406
 
--- nothing counts the packets of a leaf
+-- the packets of a leaf aren't counted
 abbrev pub never_counted : ℕ
 never_counted = 407
 
@@ -154,15 +154,15 @@ never_counted = 407
 abbrev pub counted_more_than_once : ℕ
 counted_more_than_once = 408
 
--- how often the packets of a leaf are counted depends on the destination that is chosen
+-- how often the packets of a leaf are counted depends on which destination is chosen
 abbrev pub destinations_differ : ℕ
 destinations_differ = 409
 
--- the packets of a leaf are counted once, but not where it says
+-- the packets of a leaf are counted once, but not at the place that the leaf names
 abbrev pub counted_elsewhere : ℕ
 counted_elsewhere = 410
 
--- a line stands behind the end
+-- a line follows the end of the certificate
 abbrev pub line_behind_end : ℕ
 line_behind_end = 411
 
@@ -170,7 +170,7 @@ line_behind_end = 411
 abbrev pub split_too_deep : ℕ
 split_too_deep = 412
 
--- the report's key can't be read from a record that comes of a leaf's packets
+-- the report's key can't be read from a record that results from a leaf's packets
 abbrev pub unassigned_record : ℕ
 unassigned_record = 413
 
@@ -184,19 +184,19 @@ exempt_counted = 415
 
 -- ---- refutations
 
--- the first number of a refutation's refusals
+-- the first refusal number of refutations
 abbrev pub refutation_first : ℕ
 refutation_first = 501
 
--- the last number of a refutation's refusals
+-- the last refusal number of refutations
 abbrev pub refutation_last : ℕ
 refutation_last = 505
 
--- the text isn't that of a refutation
+-- the text isn't a well-formed refutation
 abbrev pub refutation_form : ℕ
 refutation_form = 501
 
--- a refutation's packet isn't in its class
+-- the packet of a refutation isn't in its class
 abbrev pub refutation_packet : ℕ
 refutation_packet = 502
 
@@ -204,11 +204,11 @@ refutation_packet = 502
 abbrev pub refutation_step : ℕ
 refutation_step = 503
 
--- a refutation's run isn't complete
+-- the run of a refutation isn't complete
 abbrev pub run_not_complete : ℕ
 run_not_complete = 504
 
--- a refutation's totals are the plain sums, and nothing is unassigned
+-- the totals of a refutation equal the plain sums, and nothing is unassigned
 abbrev pub totals_agree : ℕ
 totals_agree = 505
 
@@ -230,19 +230,19 @@ message_length = 612
 abbrev pub set_length : ℕ
 set_length = 613
 
--- a template has no form of RFC 7011, section 3.4
+-- a template isn't well-formed (RFC 7011, section 3.4)
 abbrev pub template_form : ℕ
 template_form = 614
 
--- a set has an id that is reserved (RFC 7011, section 3.3.2)
+-- a set has a reserved id (RFC 7011, section 3.3.2)
 abbrev pub reserved_set : ℕ
 reserved_set = 615
 
--- another template stands under a live id (RFC 7011, section 8)
+-- a different template is already live under this id (RFC 7011, section 8)
 abbrev pub template_changed : ℕ
 template_changed = 616
 
--- a set of data has no template (RFC 7011, section 8)
+-- a data set has no template (RFC 7011, section 8)
 abbrev pub no_template : ℕ
 no_template = 617
 
@@ -260,11 +260,11 @@ prefix_length = 620
 
 -- ---- captures
 
--- a capture's file header isn't that of classic pcap, version 2.4
+-- the file header of a capture isn't that of classic pcap, version 2.4
 abbrev pub capture_format : ℕ
 capture_format = 701
 
--- a capture's link type is neither 1 (Ethernet) nor 101 (IP)
+-- the link type of a capture is neither 1 (Ethernet) nor 101 (IP)
 abbrev pub link_type : ℕ
 link_type = 702
 
@@ -278,11 +278,11 @@ long_capture_record = 704
 
 -- ---- schedules, bundles and runs
 
--- a line of a schedule has no form of such lines, or standard input is no bundle
+-- a line isn't well-formed as a line of a schedule, or standard input isn't a bundle
 abbrev pub schedule_or_bundle : ℕ
 schedule_or_bundle = 801
 
--- what a line of a schedule asks for isn't there
+-- what a line of a schedule refers to doesn't exist
 abbrev pub nothing_there : ℕ
 nothing_there = 802
 
@@ -298,19 +298,19 @@ in_no_class = 804
 abbrev pub step_not_enabled : ℕ
 step_not_enabled = 851
 
--- the choices of a step are wrong
+-- the choices of a step aren't valid
 abbrev pub wrong_choices : ℕ
 wrong_choices = 852
 
--- no record stands at the position that a step names
+-- there is no record at the position that a step names
 abbrev pub no_record_there : ℕ
 no_record_there = 853
 
--- the first line isn't that of a run
+-- the first line isn't the header of a run
 abbrev pub run_header : ℕ
 run_header = 854
 
--- a line has no form of a run's lines, or one is missing
+-- a line isn't well-formed as a line of a run, or a line is missing
 abbrev pub run_form : ℕ
 run_form = 855
 
@@ -318,13 +318,13 @@ run_form = 855
 abbrev pub run_packet : ℕ
 run_packet = 856
 
--- a text isn't that of totals of the report, or a line of it isn't in its place
+-- a text isn't that of totals under the report's key, or one of its lines is out of order
 abbrev pub totals_form : ℕ
 totals_form = 861
 
--- ---- what the program runs on
+-- ---- the program's environment
 
--- want of memory
+-- out of memory
 abbrev pub want_of_memory : ℕ
 want_of_memory = 900
 
@@ -332,7 +332,7 @@ want_of_memory = 900
 abbrev pub failed_read : ℕ
 failed_read = 901
 
--- a write failed, or a file can't be made
+-- a write failed, or a file can't be created
 abbrev pub failed_write : ℕ
 failed_write = 902
 
@@ -342,7 +342,7 @@ long_line = 903
 
 -- ---- all of them
 
--- every number that a refusal can have
+-- every refusal number
 abbrev pub refusal_numbers : List ℕ
 refusal_numbers =
     not_json ∷ unknown_member ∷ missing_member ∷ wrong_kind
@@ -365,6 +365,6 @@ refusal_numbers =
     ∷ run_header ∷ run_form ∷ run_packet ∷ totals_form
     ∷ want_of_memory ∷ failed_read ∷ failed_write ∷ long_line ∷ []
 
--- a number is one of them
+-- the number is a refusal number
 abbrev pub is_refusal_number : ℕ → Bool
 is_refusal_number number = list_any (λ n. n == number) refusal_numbers

@@ -1,4 +1,4 @@
--- Sites, as documents of one's own.
+-- Sites: an example of documents that a caller defines.
 use Rattle.std.specs.Prelude.{ℕ, List, [], ◌∷◌, codes, map}
 use Rattle.serde_json.specs.Data.{Data}
 use Rattle.fx_walk.specs.Walk.{FoundFault, Row, object_faults, required_row, member_of}

@@ -14,14 +14,14 @@ use Rattle.fx_cert.specs.declared.item.Version.TheVariants.{One, Two}
 abbrev pub axis_of : List ℕ → Option Axis
 axis_of word = find (λ axis. bytes_eq word (axis_word axis)) axes
 
--- behind the word `class`
+-- the item whose text follows the word `class`
 unfoldable pub class_of : List ℕ → Option Item
 class_of text = do
   a ← cut_at 32 text
   b ← cut_at 32 a.1
   if bytes_eq b.0 (codes "path") then (number_of largest a.0 >>= λ class. number_of largest b.1 >>= λ path. Some (Class class path)) else None
 
--- behind the word `S`
+-- the item whose text follows the word `S`
 unfoldable pub split_of : List ℕ → Option Item
 split_of text = do
   a ← cut_at 32 text
@@ -29,7 +29,7 @@ split_of text = do
   at ← number_of (slice_index tops (axis_index axis)) a.1
   Some (Split axis at)
 
--- behind the word `L`
+-- the item whose text follows the word `L`
 unfoldable pub leaf_of : List ℕ → Option Item
 leaf_of text = do
   a ← cut_at 32 text

@@ -31,11 +31,11 @@ item_words (Leaf crossing point process) = codes "L" ∷ decimal crossing ∷ de
 item_words Never = codes "N" ∷ []
 item_words End = codes "end" ∷ []
 
--- one space stands between two words
+-- the words of an item, separated by single spaces
 abbrev pub item_text : Item → List ℕ
 item_text item = join_with_byte 32 (item_words item)
 
--- numbers are below 2 to the 64, a split's value is on its axis
+-- numbers are below 2 to the 64, and the value of a split is on its axis
 abbrev pub IsItem : Item → Type 0
 IsItem (Header version) = Unit {0}
 IsItem (Class class path) = (class ≤ largest) × (path ≤ largest)

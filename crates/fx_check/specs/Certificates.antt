@@ -18,7 +18,7 @@ tree_items (Leaf crossing point process) = item.Leaf crossing point process ∷ 
 tree_items Uncounted = item.Never ∷ []
 tree_items (Split axis at below above) = item.Split axis at ∷ (tree_items below ++ tree_items above)
 
--- for each target its line and its tree, and then the last line
+-- the line and the tree of each target, then the last line
 abbrev pub body_items : List Target → List Tree → List Item
 body_items (t ∷ ts) (x ∷ xs) = item.Class t.class t.path ∷ (tree_items x ++ body_items ts xs)
 body_items _ _ = item.End ∷ []
@@ -26,17 +26,17 @@ body_items _ _ = item.End ∷ []
 abbrev pub certificate_items : Version → List Target → List Tree → List Item
 certificate_items v ts xs = item.Header v ∷ body_items ts xs
 
--- the item's text, which a line feed ends
+-- the text of the item, ended by a line feed
 abbrev pub item_line : Item → Line
 item_line i = (item_text i, true)
 
--- its numbers are within their bounds, and its text has at most 4,096 bytes
+-- the numbers of the item are within their bounds, and its text has at most 4,096 bytes
 abbrev pub IsWritable : Item → Type 0
 IsWritable i = IsItem i × (length (item_text i) ≤ 4096)
 
 -- ---- limits
 
--- how many split and leaf lines there are
+-- the number of split and leaf lines
 abbrev pub size : Tree → ℕ
 size (Leaf crossing point process) = 1
 size Uncounted = 1
@@ -46,7 +46,7 @@ abbrev pub sizes : List Tree → ℕ
 sizes [] = 0
 sizes (x ∷ xs) = size x + sizes xs
 
--- no split in a tree whose root has this depth is too deep
+-- no split of a tree is too deep, given the depth of the root
 abbrev pub IsShallow : ℕ → Tree → Type 0
 IsShallow d (Leaf crossing point process) = Unit {0}
 IsShallow d Uncounted = Unit {0}
@@ -54,7 +54,7 @@ IsShallow d (Split axis at below above) = (d < depth_limit) × IsShallow (d + 1)
 
 -- ---- certificates
 
--- no leaf says that nothing is counted
+-- no leaf of the tree says that nothing is counted
 abbrev pub AllCounted : Tree → Type 0
 AllCounted (Leaf crossing point process) = Unit {0}
 AllCounted Uncounted = ⊥

@@ -6,7 +6,7 @@ use Rattle.fx_tables.specs.Network.{Net}
 use Rattle.fx_check.specs.Certificates.{IsCertificate}
 use Rattle.fx_check.specs.FirstRefusal.{Line}
 
--- some lines are those of a certificate for these classes
+-- there is a certificate for these classes
 abbrev pub IsCertified : Net → List Class → Type 0
 IsCertified net classes = (lines : List Line) × IsCertificate net classes lines
 
@@ -14,7 +14,7 @@ IsCertified net classes = (lines : List Line) × IsCertificate net classes lines
 abbrev pub AllCertified : Net → List (List Class) → Type 0
 AllCertified net declarations = AllByRecursion (IsCertified net) declarations
 
--- the classes of all declarations, one behind the other
+-- the classes of all declarations, concatenated
 abbrev pub all_classes : List (List Class) → List Class
 all_classes [] = []
 all_classes (classes ∷ declarations) = classes ++ all_classes declarations

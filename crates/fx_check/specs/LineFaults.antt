@@ -1,4 +1,4 @@
--- The numbers of what is wrong with a line of a certificate.
+-- The numbers of the faults of a certificate's lines.
 use Rattle.std.specs.Prelude.{ℕ}
 use Rattle.fx_check.specs.declared.line_fault.LineFault.{LineFault}
 use Rattle.fx_check.specs.declared.line_fault.LineFault.TheVariants as faults

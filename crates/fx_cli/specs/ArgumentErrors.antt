@@ -1,4 +1,4 @@
--- How a command ends whose words name no call, or can't be read.
+-- How the program ends when its arguments name no call, or can't be read.
 use Rattle.std.specs.Prelude.{◌≢◌, ◌⊎◌, Bool, Option, ℕ, List, [], ◌∷◌, ◌++◌, codes}
 use Rattle.std.specs.declared.io.ErrorKind.{ErrorKind as Failure}
 use Rattle.std.specs.declared.io.ErrorKind.TheVariants as failure
@@ -11,7 +11,7 @@ use Rattle.clap.specs.Words.{IsAmong, Text, fault_of}
 use Rattle.fx_command_line.specs.CommandLine.{once_app}
 use Rattle.fx_cli.specs.Ending.{EndsWith, refusal_line}
 
--- 0 where help was asked for, 4 where memory ran out
+-- 0 if help or the version was requested, 4 if out of memory, otherwise 6
 abbrev pub argument_error_status : ErrorKind → ℕ
 argument_error_status OutOfMemory = 4
 argument_error_status DisplayHelp = 0
@@ -21,7 +21,7 @@ argument_error_status _ = 6
 abbrev pub memory_line : List ℕ
 memory_line = refusal_line (fault_at want_of_memory places.None)
 
--- words that the system doesn't hand over: for want of memory, or since one is no text, else as a device that failed
+-- the status when the system doesn't hand over the arguments: out of memory, an argument that isn't text, or else a failed device
 abbrev pub unread_status : Failure → ℕ
 unread_status failure.OutOfMemory = 4
 unread_status failure.InvalidData = 6
@@ -33,11 +33,11 @@ unread_text failure.InvalidData = codes "error: an argument is not UTF-8 text" +
     (codes "what to do: Name each file in UTF-8: rename it, or name a link to it." ++ 10 ∷ []))
 unread_text _ = refusal_line (fault_at failed_read places.None)
 
--- some text, never an empty one, is written, and the program ends with this status
+-- some non-empty text is written, and the program ends with this status
 abbrev pub EndsWithSomeText : {S : Type 0} → (S → Option (List ℕ)) → (S → Bool) → ℕ → S → S → ℕ → Type 0
 EndsWithSomeText taken failed wanted old new code = (text : List ℕ) × (text ≢ []) × EndsWith taken failed text wanted old new code
 
--- arguments that name no call: memory runs out, or the program ends with the status of what is wrong with them
+-- arguments that name no call: out of memory, or the program ends with the status of the arguments' error
 abbrev pub EndsWithoutCall : {S : Type 0} → (S → Option (List ℕ)) → (S → Bool) → List Text → S → S → ℕ → Type 0
 EndsWithoutCall taken failed arguments old new code =
     EndsWith taken failed memory_line 4 old new code

@@ -11,7 +11,7 @@ use Rattle.fx_audit.specs.declared.answer.Answer.TheVariants.{Yes, No, Unknown}
 abbrev pub is_device : ℕ → Bool
 is_device number = number == failed_read || number == failed_write
 
--- `memory 900`, `device 901` or `device 902`, and else `refused` with the number and its place
+-- `memory 900`, `device 901` or `device 902`, otherwise `refused` with the number and the place
 abbrev pub refusal_line : Fault → List ℕ
 refusal_line fault =
     if fault.number == want_of_memory then codes "memory 900" ++ 10 ∷ []
@@ -27,11 +27,11 @@ status (Ok No) = 1
 status (Ok Unknown) = 3
 status (Err fault) = refusal_status fault
 
--- The program ends with this text behind what was written, and this status; or with 5 where that write failed.
+-- The program appends this text to its output and ends with this status; or it ends with 5 because that write failed.
 abbrev pub EndsWith : {S : Type 0} → (S → Option (List ℕ)) → (S → Bool) → List ℕ → ℕ → S → S → ℕ → Type 0
 EndsWith taken failed text wanted old new code =
     ((code ≡ wanted) × Writes (taken old) (taken new) text × (failed old ≡ false → failed new ≡ false)) ⊎ ((code ≡ 5) × (failed new ≡ true))
 
--- the statuses with which the program ends
+-- the exit statuses of the program
 abbrev pub IsExitStatus : ℕ → Type 0
 IsExitStatus code = code ≤ 6

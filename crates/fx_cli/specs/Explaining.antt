@@ -9,7 +9,7 @@ use Rattle.fx_words.specs.Table.{row_of, table}
 use Rattle.fx_words.specs.Texts.{explanation_of, list_text}
 use Rattle.clap.specs.Words.{Text}
 
--- where no refusal has the number
+-- the line for a number that no refusal has
 abbrev pub unknown_number_line : List ℕ
 unknown_number_line = codes "unknown number" ++ 10 ∷ []
 
@@ -18,7 +18,7 @@ abbrev pub small : Option ℕ → Option ℕ
 small None = None
 small (Some number) = if nat_lt number 65536 then Some number else None
 
--- the explanation of a number, where a refusal can have it
+-- the explanation of a number, if it is a refusal number
 abbrev pub IsExplainedAs : Bool → ℕ → Answer → List ℕ → Type 0
 IsExplainedAs true number answer text = (answer ≡ Yes) × (text ≡ explanation_of (row_of number table))
 IsExplainedAs false number answer text = (answer ≡ No) × (text ≡ unknown_number_line)
@@ -27,7 +27,7 @@ abbrev pub IsExplained : Option ℕ → Answer → List ℕ → Type 0
 IsExplained None answer text = (answer ≡ No) × (text ≡ unknown_number_line)
 IsExplained (Some number) answer text = IsExplainedAs (is_refusal_number number) number answer text
 
--- for the word `all` the list of all numbers, for a number in decimal digits its explanation
+-- for the argument `all` the list of all numbers, for a number in decimal digits its explanation
 abbrev pub IsExplainText : Text → Answer → List ℕ → Type 0
 IsExplainText word answer text =
     ((bytes_eq word (codes "all") ≡ true) × (answer ≡ Yes) × (text ≡ list_text table))

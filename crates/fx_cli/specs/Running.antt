@@ -21,25 +21,25 @@ use Rattle.fx_cli.specs.Ending.{refusal_line, refusal_status, status}
 use Rattle.fx_command_line.specs.declared.words.Call.{Call}
 use Rattle.fx_command_line.specs.declared.words.Call.TheVariants.{Audit, Check, Collect, Confirm, Draw, Explain, Lint, Replay, Run, Sum}
 
--- ---- what the files of a command may have held
+-- ---- the possible contents of a command's files
 
--- a reader of lines that has read none
+-- a reader of lines that has read none yet
 abbrev pub IsAtBeginning : Lines → Type 0
 IsAtBeginning lines = (lines.stopped ≡ None) × (lines.number ≡ 0)
 
--- some octets that the document of a network may have held, for which this holds
+-- some octets, possible contents of a network's document, satisfy the predicate
 abbrev pub ForSomeNetwork : (List ℕ → Type 0) → Type 0
 ForSomeNetwork P = (network : List ℕ) × P network
 
--- some octets that two files may have held
+-- some octets, possible contents of two files, satisfy the predicate
 abbrev pub ForSomeDocuments : (List ℕ → List ℕ → Type 0) → Type 0
 ForSomeDocuments P = (network : List ℕ) × (traffic : List ℕ) × P network traffic
 
--- some octets that two documents may have held, and a third text that is read line by line from its beginning
+-- possible contents of two documents, and a third text that is read line by line from its beginning, satisfy the predicate
 abbrev pub ForSomeTexts : (List ℕ → List ℕ → Lines → Type 0) → Type 0
 ForSomeTexts P = (network : List ℕ) × (traffic : List ℕ) × (lines : Lines) × IsAtBeginning lines × P network traffic lines
 
--- ---- what a command prints: the true answer for what its files may have held
+-- ---- what a command prints: the true answer for possible contents of its files
 
 abbrev pub IsReplayOutput : Answer → List ℕ → Type 0
 IsReplayOutput answer text = (answer ≡ Yes) × ForSomeTexts (λ network traffic lines. IsReplayed network traffic lines text)
@@ -53,7 +53,7 @@ IsCheckOutput answer text = ForSomeTexts (λ network traffic lines. IsChecked ne
 abbrev pub IsConfirmOutput : Answer → List ℕ → Type 0
 IsConfirmOutput answer text = ForSomeTexts (λ network traffic lines. IsConfirmed network traffic lines answer text)
 
--- an audit within a limit on the split and leaf lines of a certificate
+-- an audit with a limit on the split and leaf lines of a certificate
 abbrev pub IsAuditOutput : ℕ → Answer → List ℕ → Type 0
 IsAuditOutput limit answer text = ForSomeDocuments (λ network traffic. IsAudited network traffic limit answer text)
 
@@ -69,7 +69,7 @@ pub record IsMeteredCapture (network traffic : List ℕ) (from : Lines) (text : 
 abbrev pub IsRunOutput : Answer → List ℕ → Type 0
 IsRunOutput answer text = (answer ≡ Yes) × ForSomeTexts (λ network traffic lines. IsMeteredCapture network traffic lines text)
 
--- for the document of a network alone (`false`), or also for that of its traffic (`true`)
+-- for a network's document alone (`false`), or also for the document of its traffic (`true`)
 abbrev pub IsLintOutput : Bool → Answer → List ℕ → Type 0
 IsLintOutput false answer text = (answer ≡ Yes) × ForSomeNetwork (λ network. IsLinted network text)
 IsLintOutput true answer text = (answer ≡ Yes) × ForSomeDocuments (λ network traffic. AreLinted network traffic text)
@@ -77,7 +77,7 @@ IsLintOutput true answer text = (answer ≡ Yes) × ForSomeDocuments (λ network
 abbrev pub IsSumOutput : Answer → List ℕ → Type 0
 IsSumOutput answer text = (answer ≡ Yes) × ForSomeNetwork (λ network. ((lines : Lines) × IsAtBeginning lines × IsSummed network lines text))
 
--- what the command of a bundle prints, for octets that standard input may have held
+-- what the command of a bundle prints, for possible octets of standard input
 abbrev pub IsBundleOutput : Answer → List ℕ → Type 0
 IsBundleOutput answer text =
     (octets : List ℕ) × (command : Command) × (network : List ℕ) × (traffic : List ℕ) × (third : List ℕ)
@@ -96,7 +96,7 @@ IsCallText (Draw network traffic said) answer text = IsDrawingText answer text
 IsCallText (Sum network totals) answer text = IsSumOutput answer text
 IsCallText (Explain number) answer text = IsExplainText (string_bytes number) answer text
 
--- ---- what a command is refused for: a refusal that it has for what its files may have held
+-- ---- the refusals of a command, for possible contents of its files
 
 abbrev pub IsReplayRefusal : Fault → Type 0
 IsReplayRefusal e = ForSomeTexts (λ network traffic lines. IsRefusedReplay network traffic lines e)
@@ -110,11 +110,11 @@ IsCheckRefusal e = ForSomeTexts (λ network traffic lines. IsRefusedCheck networ
 abbrev pub IsConfirmRefusal : Fault → Type 0
 IsConfirmRefusal e = ForSomeTexts (λ network traffic lines. IsRefusedConfirm network traffic lines e)
 
--- an audit, and a lint of two documents
+-- the refusal of an audit, or of a lint of two documents
 abbrev pub IsDocumentsRefusal : Fault → Type 0
 IsDocumentsRefusal e = ForSomeDocuments (λ network traffic. IsRefusedByDocuments network traffic e)
 
--- a run over some capture that could be read
+-- the refusal of a run over some capture that can be read
 pub record IsCaptureRefusal (network traffic : List ℕ) (from : Lines) (e : Fault) : Type 0 where
   pub left : Option (List ℕ)
   pub asked : ℕ
@@ -122,12 +122,12 @@ pub record IsCaptureRefusal (network traffic : List ℕ) (from : Lines) (e : Fau
   pub before : Put
   pub refused : IsRefusedMetering network traffic left asked ⊥ (λ _. Unit {0}) from last before e
 
--- where the octets of the links go to files (`true`), one of these may also have failed
+-- if the octets of the links go to files (`true`), a write to one of these may also have failed
 abbrev pub IsRunRefusal : Bool → Fault → Type 0
 IsRunRefusal false e = ForSomeTexts (λ network traffic lines. IsCaptureRefusal network traffic lines e)
 IsRunRefusal true e = (e ≡ fault_at failed_write places.None) ⊎ ForSomeTexts (λ network traffic lines. IsCaptureRefusal network traffic lines e)
 
--- for the document of a network alone (`false`), or also for that of its traffic (`true`)
+-- for a network's document alone (`false`), or also for the document of its traffic (`true`)
 abbrev pub IsLintRefusal : Bool → Fault → Type 0
 IsLintRefusal false e = ForSomeNetwork (λ network. IsRefusedNetwork network e)
 IsLintRefusal true e = IsDocumentsRefusal e
@@ -138,11 +138,11 @@ IsSumRefusal e = ForSomeNetwork (λ network. ((lines : Lines) × IsAtBeginning l
 abbrev pub IsBundleRefusal : Fault → Type 0
 IsBundleRefusal e = (octets : List ℕ) × IsRefusedBundle octets e
 
--- out of memory, a device that can't be read, or a refusal of the command's own
+-- out of memory, a device that can't be read, or one of the command's own refusals
 abbrev pub IsRefusal : (Fault → Type 0) → Fault → Type 0
 IsRefusal IsOwn e = IsMemory e ⊎ ((e ≡ fault_at failed_read places.None) ⊎ IsOwn e)
 
--- the refusal of a call; a drawing may have any, and an explanation, which reads nothing, has none of its own
+-- the refusal of a call; a drawing may have any, and an explanation, which reads no input, has only out of memory
 abbrev pub IsCallRefusal : Call → Fault → Type 0
 IsCallRefusal (Replay network traffic run) e = IsRefusal IsReplayRefusal e
 IsCallRefusal (Collect network stream) e = IsRefusal IsCollectRefusal e
@@ -157,25 +157,25 @@ IsCallRefusal (Explain number) e = IsMemory e
 
 -- ---- how the program ends
 
--- Of what octets go to, in the end: its last call failed, or one failed and then the line that says so was taken.
+-- The final state of the output: its last call failed, or a call failed and then the line that reports this was written.
 abbrev pub HasFailedToWrite : {S : Type 0} → (S → Option (List ℕ)) → (S → Bool) → S → Type 0
 HasFailedToWrite {S} taken failed new = (failed new ≡ true) ⊎ ((then : S) × (failed then ≡ true) × Writes (taken then) (taken new) (refusal_line (fault_at failed_write places.None)))
 
--- the same where words stand behind that line
+-- the same, with an explanation after that line
 abbrev pub HasFailedExplained : {S : Type 0} → (S → Option (List ℕ)) → (S → Bool) → S → Type 0
 HasFailedExplained {S} taken failed new =
     (failed new ≡ true) ⊎ ((then : S) × (words : List ℕ) × (failed then ≡ true) × Writes (taken then) (taken new) (refusal_line (fault_at failed_write places.None) ++ words))
 
 -- How the program ends: with the text of an answer and that answer's status; with the line of a refusal that is possible
--- here, nothing else, and that refusal's status; or with 5 where a write failed. `Going` says that in the first two no write
--- failed.
+-- here, and nothing else, and that refusal's status; or with 5 if a write failed. In the first two cases `Going` says that
+-- no write failed.
 abbrev pub EndsAs : (Answer → List ℕ → Type 0) → (Fault → Type 0) → Option (List ℕ) → Option (List ℕ) → Type 0 → Type 0 → ℕ → Type 0
 EndsAs IsText IsRefused old new Going Failed code =
     (Going × ((answer : Answer) × (text : List ℕ) × IsText answer text × Writes old new text × (code ≡ status (Ok answer))))
     ⊎ ((Going × ((e : Fault) × IsRefused e × Writes old new (refusal_line e) × (code ≡ refusal_status e)))
     ⊎ ((code ≡ 5) × Failed))
 
--- How it ends where words stand behind the answer's text or the line of the refusal.
+-- The same, with an explanation after the answer's text or the line of the refusal.
 abbrev pub EndsExplained : (Answer → List ℕ → Type 0) → (Fault → Type 0) → Option (List ℕ) → Option (List ℕ) → Type 0 → Type 0 → ℕ → Type 0
 EndsExplained IsText IsRefused old new Going Failed code =
     (Going × ((answer : Answer) × (text : List ℕ) × (words : List ℕ) × IsText answer text × Writes old new (text ++ words) × (code ≡ status (Ok answer))))

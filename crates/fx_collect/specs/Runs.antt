@@ -9,16 +9,16 @@ use Rattle.fx_machine.specs.States.{State, opening, told_state}
 use Rattle.fx_machine.specs.Steps.{run}
 use Rattle.fx_collect.specs.Totals.{IsTable, totals_of, totals_in}
 
--- a fact of each run's last state
+-- a property of the last state of each run
 abbrev pub AfterRuns : (Net → State → Type 0) → Type 0
 AfterRuns P =
     (net : Net) (classes : List Class) (packets : List Packet) (steps : List Step) (last : State) → run net classes packets steps (opening net classes packets) ≡ Ok last → P net last
 
--- under the report's layout its totals have each key once
+-- under the report's layout, the totals of a state have each key once
 abbrev pub HasTable : Net → State → Type 0
 HasTable net last = IsTable net.report_layout last.totals
 
--- what is told of it are its own totals
+-- the totals recomputed record by record are the totals in the state
 abbrev pub IsToldAsItIs : Net → State → Type 0
 IsToldAsItIs net last =
     IsLayout net.report_layout → totals_of net.report_layout (told_state last) ≡ totals_in net.report_layout (told_state last)

@@ -16,7 +16,7 @@ pub record Totals : Type 0 where
 abbrev pub nothing : Layout → Totals
 nothing layout = record { layout = layout; entries = []; unassigned = 0 }
 
--- so many records more couldn't be tallied
+-- this number of further records couldn't be tallied
 abbrev pub with_unassigned : Totals → ℕ → Totals
 with_unassigned t records = record t { unassigned = (t.unassigned + records) % 2 ^ 64 }
 
@@ -27,16 +27,16 @@ with_record t r =
     then record t { entries = add_at t.entries (project r.key t.layout) r.counts }
     else with_unassigned t 1
 
--- one record after another
+-- the records are added in order
 abbrev pub with_records : Totals → List Record → Totals
 with_records t [] = t
 with_records t (r ∷ rs) = with_records (with_record t r) rs
 
--- what a network in this state has counted, told record by record
+-- what a network in this state has counted, added record by record
 abbrev pub totals_of : Layout → State → Totals
 totals_of layout s = record (with_records (nothing layout) s.totals) { unassigned = s.unassigned }
 
--- the same as it stands in the state
+-- the same, taken from the state unchanged
 abbrev pub totals_in : Layout → State → Totals
 totals_in layout s = record { layout = layout; entries = s.totals; unassigned = s.unassigned }
 
@@ -46,19 +46,19 @@ totals_in layout s = record { layout = layout; entries = s.totals; unassigned = 
 abbrev pub IsUnder : Layout → Key → Type 0
 IsUnder layout key = (key.layout ≡ layout) × (length key.values ≡ length layout)
 
--- no two have one key
+-- no two records have the same key
 abbrev pub Differ : List Record → Type 0
 Differ [] = Unit {0}
 Differ (r ∷ rs) = AllByRecursion (λ other. same_key r.key other.key ≡ false) rs × Differ rs
 
--- each has a key of its own, under the layout
+-- each record has a key of its own, under the layout
 pub record IsTable (layout : Layout) (rs : List Record) : Type 0 where
   pub under : AllByRecursion (λ r. IsUnder layout r.key) rs
   pub differ : Differ rs
 
 -- ---- what is kept: values and counts
 
--- what was counted before, with more
+-- what was counted before, with these counts added
 abbrev pub counts_with : Option Counts → Counts → Counts
 counts_with None more = more
 counts_with (Some counts) more = add_counts counts more
@@ -70,6 +70,6 @@ record_of layout p = record { key = record { layout = layout; values = p.0 }; co
 abbrev pub records_of : Layout → List (List ℕ × Counts) → List Record
 records_of layout ps = map (record_of layout) ps
 
--- all values have their bits
+-- all values fit in the bits of their parts
 abbrev pub AllHaveBits : Layout → List (List ℕ × Counts) → Type 0
 AllHaveBits layout ps = All (λ p. HasBits layout p.0) ps

@@ -8,19 +8,19 @@ use Rattle.clap.specs.declared.parser.matches.ArgMatches.{ArgMatches}
 abbrev pub file_rule : Text → Rule
 file_rule name = record (new_rule name) { required = true }
 
--- a command over a network and nothing else
+-- a command with a network and nothing else
 abbrev pub network_alone : Text → App
 network_alone command = with_rule (new_app command) (file_rule (codes "NETWORK"))
 
--- a command over a number and nothing else
+-- a command with a number and nothing else
 abbrev pub number_alone : Text → App
 number_alone command = with_rule (new_app command) (file_rule (codes "NUMBER"))
 
--- a command over a network, traffic and a third file
+-- a command with a network, traffic and a third file
 abbrev pub over_documents : Text → Rule → App
 over_documents command third = with_rule (with_rule (network_alone command) (file_rule (codes "TRAFFIC"))) third
 
--- a command over a network and another file, which has to be there or not
+-- a command with a network and another file, which is required or optional
 abbrev pub over_network : Text → Rule → App
 over_network command file = with_rule (network_alone command) file
 
@@ -33,15 +33,15 @@ limit_rule = record (new_rule (codes "limit")) {
   parser = Some (parsers.Unsigned 1 1000000);
 }
 
--- a command over a network, traffic, a capture and a schedule
+-- a command with a network, traffic, a capture and a schedule
 abbrev pub over_capture : Text → App
 over_capture command = with_rule (over_documents command (file_rule (codes "CAPTURE"))) (file_rule (codes "SCHEDULE"))
 
--- the option of the prefix that the links' files have in their names
+-- the option for the prefix of the names of the links' files
 abbrev pub links_rule : Rule
 links_rule = record (new_rule (codes "links")) { long = Some (codes "links"); value_names = 1 }
 
--- it wants one of its commands, and tells its version
+-- the program requires one of its commands, and reports its version
 abbrev pub wants_command : Shape → Shape
 wants_command s = record s { subcommand_required = true; has_version = true }
 
@@ -61,7 +61,7 @@ once_app =
     let seven = with_subcommand (with_subcommand (with_subcommand (with_subcommand three confirm.top) audit.top) run.top) lint.top in
     with_subcommand (with_subcommand (with_subcommand seven draw.top) sum.top) explain.top
 
--- what the program's command line makes of these words, which have no fault
+-- the matches of these arguments on the program's command line, without a fault
 pub record AreMatchesOf (words : List Text) (m : ArgMatches) : Type 0 where
   pub matches : HasMatchesOf once_app words m
   pub fine : fault_of once_app words ≡ []

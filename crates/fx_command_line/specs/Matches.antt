@@ -1,4 +1,4 @@
--- The call that the matches of a command's words hold.
+-- The call that the matches of a command's arguments hold.
 use Rattle.std.specs.Prelude.{◌≡◌, ℕ, IsSome, Option, Some, codes, option_map, string_bytes}
 use Rattle.clap.specs.Words.{Text, first_value, one_text}
 use Rattle.clap.specs.declared.parser.matches.Found.{Found}
@@ -14,7 +14,7 @@ HasFile found name = IsSome (first_value found name)
 abbrev pub HoldsFile : Found → Text → Text → Type 0
 HoldsFile found name file = first_value found name ≡ Some file
 
--- the limit that was found, or stands there by default, is this one
+-- the limit that was found, or the default, is this one
 abbrev pub HoldsLimit : Found → ℕ → Type 0
 HoldsLimit found limit = (text : Text) × (one_text found (codes "limit") ≡ Some text) × IsLimit text limit
 
@@ -46,7 +46,7 @@ abbrev pub IsExplainOf : Found → Call → Type 0
 IsExplainOf found (Explain number) = HoldsFile found (codes "NUMBER") (string_bytes number)
 IsExplainOf found _ = ⊥
 
--- the text under an option's name, or that of a file that may be left out, if there is one, is this one
+-- the text under an option's name, or under that of an optional file, is this one, if there is one
 abbrev pub HoldsOption : Found → Text → Option Text → Type 0
 HoldsOption found name text = first_value found name ≡ text
 

@@ -1,4 +1,4 @@
--- Which words give which call.
+-- Which arguments give which call.
 use Rattle.std.specs.Prelude.{◌≡◌, ◌⊎◌, ◌≤◌, ◌==◌, ◌&&◌, ℕ, Bool, false, List, [], ◌∷◌, ◌++◌, Option, Some, None, option_map, slice_get, is_some, codes, if◌then◌else◌, string_bytes}
 use Rattle.std.specs.Str.Parse.{IsNumeral, digits_value, without_leading_plus}
 use Rattle.std.specs.Str.{bytes_eq, chars}
@@ -6,7 +6,7 @@ use Rattle.clap.specs.Words.{Text}
 use Rattle.fx_command_line.specs.declared.words.Call.{Call}
 use Rattle.fx_command_line.specs.declared.words.Call.TheVariants.{Audit, Check, Collect, Confirm, Draw, Explain, Lint, Replay, Run, Sum}
 
--- a word that begins with `-` (45) and goes on
+-- an argument that begins with `-` (45) and has further characters
 abbrev pub is_flag : Text → Bool
 is_flag [] = false
 is_flag (first ∷ rest) = first == 45 && is_some (slice_get (chars rest) 0)
@@ -14,36 +14,36 @@ is_flag (first ∷ rest) = first == 45 && is_some (slice_get (chars rest) 0)
 abbrev pub is_double_hyphen : Text → Bool
 is_double_hyphen word = bytes_eq word (45 ∷ 45 ∷ [])
 
--- The files that the words behind a command name: each word is a file's name. No flag may stand among them; behind
--- `--`, which names no file itself, a word that begins with `-` is a file's name too.
+-- The files that the arguments after a command name: each argument is a file's name. No flag may be among them; after
+-- `--`, which names no file itself, an argument that begins with `-` is a file's name too.
 abbrev pub file_names : List Text → Option (List Text)
 file_names [] = Some []
 file_names (word ∷ rest) =
     if is_double_hyphen word then Some rest
     else (if is_flag word then None else option_map (λ names. word ∷ names) (file_names rest))
 
--- the words are the program's own name, this command, and words that name these files
+-- the arguments are the program's own name, this command, and arguments that name these files
 pub record NamesFiles (words : List Text) (command : Text) (files : List Text) : Type 0 where
   pub program : Text
   pub rest : List Text
   pub words_are : words ≡ program ∷ command ∷ rest
   pub files_are : file_names rest ≡ Some files
 
--- a file that may be left out
+-- an optional file
 abbrev pub file_given : Option Text → List Text
 file_given None = []
 file_given (Some file) = file ∷ []
 
--- the words are the program's own name, `draw`, and words that name a network, a declaration of traffic where one is given,
--- and the text of an answer about both where one is given too
+-- the arguments are the program's own name, `draw`, and arguments that name a network, a declaration of traffic if one is given,
+-- and the text of an answer about both if that is given too
 abbrev pub NamesDrawing : List Text → Text → Option Text → Option Text → Type 0
 NamesDrawing words network None None = NamesFiles words (codes "draw") (network ∷ [])
 NamesDrawing words network (Some traffic) None = NamesFiles words (codes "draw") (network ∷ traffic ∷ [])
 NamesDrawing words network (Some traffic) (Some answer) = NamesFiles words (codes "draw") (network ∷ traffic ∷ answer ∷ [])
 NamesDrawing words network None (Some answer) = ⊥
 
--- The text says this limit, a whole number from 1 to 1,000,000, in decimal digits. Zeros may stand before them, and a plus
--- before all, since Rust reads such texts as numbers.
+-- The text is this limit, a whole number from 1 to 1,000,000, in decimal digits. Leading zeros are allowed, and a plus
+-- before them, since Rust reads such texts as numbers.
 abbrev pub IsLimit : Text → ℕ → Type 0
 IsLimit text limit =
     IsNumeral 10 (without_leading_plus text) × (digits_value 10 (without_leading_plus text) ≡ limit) × (1 ≤ limit) × (limit ≤ 1000000)
@@ -53,8 +53,8 @@ abbrev pub SetsOption : Text → List Text → Text → Type 0
 SetsOption name words text =
     ((words ≡ (codes "--" ++ name) ∷ text ∷ []) × (is_flag text ≡ false)) ⊎ (words ≡ (codes "--" ++ (name ++ 61 ∷ text)) ∷ [])
 
--- The words behind a command name these files and set this option to this text: it stands among the files' names, with no
--- `--` before it.
+-- The arguments after a command name these files and set this option to this text: the option is among the files' names,
+-- with no `--` before it.
 pub record NamesWithOption (name : Text) (rest files : List Text) (text : Text) : Type 0 where
   pub before : List Text
   pub option : List Text
@@ -66,17 +66,17 @@ pub record NamesWithOption (name : Text) (rest files : List Text) (text : Text) 
   pub after_are : file_names after ≡ Some others
   pub files_are : files ≡ before ++ others
 
--- the words behind a command name these files, and set this option to this text or leave it out
+-- the arguments after a command name these files, and set this option to this text or leave it out
 abbrev pub NamesWith : Text → List Text → List Text → Option Text → Type 0
 NamesWith name rest files None = file_names rest ≡ Some files
 NamesWith name rest files (Some text) = NamesWithOption name rest files text
 
--- an audit's limit by its option; where that is left out it is 1,000,000
+-- an audit's limit from its option; if the option is left out, the limit is 1,000,000
 abbrev pub IsLimitSet : Option Text → ℕ → Type 0
 IsLimitSet None limit = limit ≡ 1000000
 IsLimitSet (Some text) limit = IsLimit text limit
 
--- the words are the program's own name, `audit`, and words that name these files and this limit
+-- the arguments are the program's own name, `audit`, and arguments that name these files and this limit
 pub record NamesAudit (words : List Text) (files : List Text) (limit : ℕ) : Type 0 where
   pub program : Text
   pub rest : List Text
@@ -85,7 +85,7 @@ pub record NamesAudit (words : List Text) (files : List Text) (limit : ℕ) : Ty
   pub named : NamesWith (codes "limit") rest files option
   pub limit_is : IsLimitSet option limit
 
--- the words are the program's own name, `run`, and words that name these files and this prefix of the links' files, if any
+-- the arguments are the program's own name, `run`, and arguments that name these files and this prefix of the links' files, if any
 pub record NamesRun (words : List Text) (files : List Text) (links : Option Text) : Type 0 where
   pub program : Text
   pub rest : List Text

@@ -16,7 +16,7 @@ use Rattle.fx_config.specs.declared.cache_field.CacheField.{CacheField}
 use Rattle.fx_config.specs.declared.cache_field.FieldUse.{FieldUse}
 use Rattle.fx_base.specs.Refusals.{bad_value, cache_counter_length, key_without_axis, total_counter}
 
--- it counts since the observation began, and not since the last report
+-- a counter since the observation began, rather than since the last report
 abbrev pub is_total_count : Element → Bool
 is_total_count OctetTotalCount = true
 is_total_count PacketTotalCount = true
@@ -26,26 +26,26 @@ abbrev pub is_on_axis : Element → Bool
 is_on_axis (OnAxis axis) = true
 is_on_axis _ = false
 
--- it counts since the last report
+-- a counter since the last report
 abbrev pub is_delta_count : Element → Bool
 is_delta_count OctetDeltaCount = true
 is_delta_count PacketDeltaCount = true
 is_delta_count _ = false
 
--- values on its axis have another number of octets
+-- values on the element's axis don't have this number of octets
 abbrev pub has_other_octets : Element → ℕ → Bool
 has_other_octets (OnAxis axis) octets = not (octets == axis_width axis / 8)
 has_other_octets _ octets = false
 
--- records are told apart by the fields that are marked as flow keys, those of an immediate cache by all on an axis
+-- whether the field is a flow key: in an immediate cache every field on an axis, otherwise the fields marked as flow keys
 abbrev pub is_key : Bool → Element → Bool → Bool
 is_key immediate element marked = if immediate then is_on_axis element else marked
 
--- a total counter, and a key that is no axis
+-- the faults of a total counter, and of a key that isn't on an axis
 abbrev pub element_faults : Element → Bool → List ℕ → List FoundFault
 element_faults element key up = fault_if (is_total_count element) total_counter up ++ fault_if (key && not (is_on_axis element)) key_without_axis up
 
--- a counter that isn't 8 octets long, and a key that hasn't its octets
+-- the faults of a counter whose length isn't 8 octets, and of a key with a wrong number of octets
 abbrev pub length_faults : Element → Bool → Option ℕ → List ℕ → List FoundFault
 length_faults element key None up = []
 length_faults element key (Some octets) up =
@@ -78,7 +78,7 @@ cache_field_rows immediate earlier =
     ∷ then_check (λ up d. field_check (element_in d) (is_key_in immediate d) (length_in d) up)
     ∷ []
 
--- what a field holds, and whether it is a flow key
+-- the rows of what a field contains, and of whether it is a flow key
 abbrev pub use_rows : Bool → List Row
 use_rows immediate = drop 1 (cache_field_rows immediate [])
 
@@ -92,6 +92,6 @@ cache_field_of immediate d = record {
   is_flow_key = is_key_in immediate d;
 }
 
--- a layout's fields
+-- the row of a layout's fields
 abbrev pub fields_row : Bool → Row
 fields_row immediate = entries 1 field_limit (codes "cacheField") (cache_field_faults immediate) (λ d. (cache_field_of immediate d).name)

@@ -26,11 +26,11 @@ counts_octets fields = list_any (λ field. is_octet_count field.element) fields
 abbrev pub counts_packets : List CacheField → Bool
 counts_packets fields = list_any (λ field. is_packet_count field.element) fields
 
--- both counters must be among the fields
+-- the fault if the octet counter or the packet counter is missing among the fields
 abbrev pub counter_faults : List CacheField → List ℕ → List FoundFault
 counter_faults fields up = fault_if (not (counts_octets fields && counts_packets fields)) missing_counter up
 
--- all bits of an axis, once
+-- the layout with all bits of an axis, added once
 abbrev pub add_axis : Layout → Element → Layout
 add_axis layout (OnAxis axis) =
     if is_some (part_at layout axis) then layout else with_part layout (record { axis = axis; bits = axis_width axis })
@@ -39,7 +39,7 @@ add_axis layout _ = layout
 abbrev pub add_key : Layout → CacheField → Layout
 add_key layout field = if field.is_flow_key then add_axis layout field.element else layout
 
--- the axes that are flow keys
+-- the layout of the axes that are flow keys
 abbrev pub layout_of : List CacheField → Layout
 layout_of fields = fold add_key [] fields
 

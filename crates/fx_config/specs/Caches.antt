@@ -29,7 +29,7 @@ settings_rows immediate =
 abbrev pub settings_faults : Bool → List ℕ → Data → List FoundFault
 settings_faults immediate = object_faults (settings_rows immediate)
 
--- 0 is no bound
+-- the bound of a cache: 0 means unbounded
 abbrev pub max_flows_given : Option ℕ → ℕ
 max_flows_given number = unwrap_or number 0
 
@@ -42,7 +42,7 @@ settings_of immediate d = record {
 abbrev pub of_kind : CacheKind → Settings → Kind
 of_kind kind settings = record { kind = kind; max_flows = settings.max_flows; layout = settings.layout }
 
--- the kind that is there
+-- the kind of cache that is given
 abbrev pub kind_given : Option Settings → Option Settings → Option Settings → Option Settings → Kind
 kind_given (Some settings) timeout natural permanent = of_kind Immediate settings
 kind_given None (Some settings) natural permanent = of_kind Timeout settings

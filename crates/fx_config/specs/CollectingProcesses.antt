@@ -10,7 +10,7 @@ use Rattle.fx_config.specs.Limits.{entry_limit}
 use Rattle.fx_config.specs.declared.collecting_process.CollectingProcess.{CollectingProcess}
 use Rattle.fx_base.specs.Refusals.{file_transport}
 
--- files are refused, and the collectors left unread
+-- files are refused, and the collectors are not read
 abbrev pub collecting_process_rows : List (List ℕ) → List Row
 collecting_process_rows earlier =
     required_row (codes "name") (name_once earlier)

@@ -14,7 +14,7 @@ use Rattle.fx_base.specs.Refusals.{file_transport}
 abbrev pub exporters : List (List ℕ)
 exporters = codes "tcpExporter" ∷ codes "sctpExporter" ∷ codes "udpExporter" ∷ []
 
--- one exporter, which is left unread; files are none
+-- exactly one exporter, which is not read; files are not exporters
 abbrev pub destination_rows : List (List ℕ) → List Row
 destination_rows earlier =
     required_row (codes "name") (name_once earlier)

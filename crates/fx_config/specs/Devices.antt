@@ -39,7 +39,7 @@ ipfix_rows =
     ∷ then_check (λ up d. reference_faults up (lists_of d))
     ∷ []
 
--- all lists, and those to whose entries others refer
+-- the rows of all lists, and of the lists to whose entries others refer
 abbrev pub list_rows : List Row
 list_rows = take 5 ipfix_rows
 
@@ -78,7 +78,7 @@ ipfix_faults = object_faults ipfix_rows
 abbrev pub ipfix_of : Data → Ipfix
 ipfix_of d = record { device = lists_of d }
 
--- ---- the document, of which crates above speak by these two words
+-- ---- the document: the two definitions that other crates use
 
 abbrev pub device_rows : List Row
 device_rows =

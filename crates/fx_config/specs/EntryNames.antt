@@ -7,11 +7,11 @@ use Rattle.fx_walk.specs.Lists.{name_once}
 use Rattle.fx_walk.specs.Scalars.{text_of}
 use Rattle.fx_walk.specs.Walk.{Refuses, Row, listed_in, member_of, object_faults, required_row, row_faults}
 
--- the name of an entry behind entries with these names
+-- the row for the name of an entry that follows entries with these names
 abbrev pub name_row : List (List ℕ) → Row
 name_row earlier = required_row (codes "name") (name_once earlier)
 
--- What a look at an object's kind, at its other members and at its name comes to, where the rows below that of the name
+-- The result of checking an object's kind, its other members and its name, if the rows after that of the name
 -- list the rest of these members.
 abbrev pub IsEntryName : List (List ℕ) → List (List ℕ) → List ℕ → Data → Result Name Fault → Type 0
 IsEntryName listed earlier up d (Ok name) =

@@ -12,7 +12,7 @@ use Rattle.fx_config.specs.declared.exporting_process.ExportingProcess.{Exportin
 use Rattle.fx_config.specs.declared.exporting_process.ExportMode.{ExportMode}
 use Rattle.fx_config.specs.declared.exporting_process.ExportMode.TheVariants.{Parallel, LoadBalancing, Fallback}
 
--- ---- modes: identities of the module, which may have its prefix
+-- ---- modes: identities of the module, optionally with its prefix
 
 abbrev pub export_mode_named : List ℕ → Option ExportMode
 export_mode_named name =
@@ -20,7 +20,7 @@ export_mode_named name =
     (if bytes_eq name (codes "loadBalancing") || bytes_eq name (codes "ietf-ipfix-psamp:loadBalancing") then Some LoadBalancing else
     (if bytes_eq name (codes "fallback") || bytes_eq name (codes "ietf-ipfix-psamp:fallback") then Some Fallback else None))
 
--- ---- exporting processes, whose options are left unread
+-- ---- exporting processes, whose options are not read
 
 abbrev pub exporting_process_rows : List (List ℕ) → List Row
 exporting_process_rows earlier =

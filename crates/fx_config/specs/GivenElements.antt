@@ -14,7 +14,7 @@ use Rattle.fx_elements.specs.Elements.{element_named, element_numbered}
 abbrev pub enterprise_given : Option ℕ → ℕ
 enterprise_given enterprise = unwrap_or enterprise 0
 
--- the element of a name, or else of a number; that of an enterprise is none of those that are told apart
+-- the element of a name, or else of a number; an element of an enterprise is always `Other`
 abbrev pub element_given : Option Element → Option ℕ → ℕ → Element
 element_given (Some element) number enterprise = if enterprise == 0 then element else Other
 element_given None (Some number) enterprise = element_numbered number enterprise
@@ -33,7 +33,7 @@ enterprise_in d = enterprise_given (option_map number_of (get (codes "ieEnterpri
 abbrev pub element_in : Data → Element
 element_in d = element_given (name_in d) (number_in d) (enterprise_in d)
 
--- the members of which an object has exactly one, and what they give
+-- the members of which an object has exactly one, and the element that they give
 abbrev pub element_rows : List Row
 element_rows =
     one_of (codes "ieName" ∷ codes "ieId" ∷ [])

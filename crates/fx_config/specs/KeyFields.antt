@@ -1,4 +1,4 @@
--- Fields of the keys to which records are aggregated (RFC 7015), or totals asked for.
+-- Fields of the keys to which records are aggregated (RFC 7015), or of the key for which totals are requested.
 use Rattle.std.specs.Prelude.{ℕ, List, [], ◌∷◌, codes, Bool, true, false, nat_lt, Option, Some, None, option_map}
 use Rattle.serde_json.specs.Data.{Data}
 use Rattle.serde_json.specs.Find.{get}
@@ -15,17 +15,17 @@ use Rattle.fx_layout.specs.declared.layout.Part.{Part}
 use Rattle.fx_config.specs.declared.key_field.KeyField.{KeyField}
 use Rattle.fx_base.specs.Refusals.{bad_value, missing_member}
 
--- its values are the leading bits of addresses
+-- the element's values are the leading bits of addresses
 abbrev pub is_prefix : Element → Bool
 is_prefix (Prefix axis) = true
 is_prefix _ = false
 
--- how many leading bits may be given: those of the addresses, and of IPv4's beside an element that is no prefix
+-- the largest number of leading bits: that of the addresses, and 32 for an element that is no prefix
 abbrev pub longest_prefix : Element → ℕ
 longest_prefix (Prefix axis) = axis_width axis
 longest_prefix _ = 32
 
--- a prefix without its length, and a length that is longer than the addresses
+-- the faults of a prefix without a length, and of a length longer than the addresses
 abbrev pub prefix_check : Element → Option ℕ → List ℕ → List FoundFault
 prefix_check element None up = fault_if (is_prefix element) missing_member up
 prefix_check element (Some bits) up = fault_if (nat_lt (longest_prefix element) bits) bad_value (below up (codes "prefixLength"))
@@ -54,14 +54,14 @@ key_field_of d = record {
   prefix_length = prefix_length_in d;
 }
 
--- ---- what a field stands for
+-- ---- the part that a field denotes
 
--- all bits of an axis, where no other number is given
+-- all bits of an axis, if no other number is given
 abbrev pub whole_part : Axis → Option ℕ → Option Part
 whole_part axis None = Some (record { axis = axis; bits = axis_width axis })
 whole_part axis (Some bits) = None
 
--- so many leading bits of an address
+-- this number of leading bits of an address
 abbrev pub prefix_part : Axis → Option ℕ → Option Part
 prefix_part axis (Some bits) = Some (record { axis = axis; bits = bits })
 prefix_part axis None = None

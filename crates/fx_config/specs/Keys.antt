@@ -12,22 +12,22 @@ use Rattle.fx_layout.specs.declared.layout.Part.{Part}
 use Rattle.fx_layout.specs.Keys.{Layout, can_stand, part_at, with_part}
 use Rattle.fx_base.specs.Refusals.{bad_value}
 
--- a part more, if the axis can have so many bits and isn't there yet
+-- the layout with a part added, if the axis can have this number of bits and isn't in the layout yet
 abbrev pub with_new : Layout → Part → Option Layout
 with_new layout part = if can_stand part && not (is_some (part_at layout part.axis)) then Some (with_part layout part) else None
 
--- what a field stands for more
+-- the layout with the part of a field added
 abbrev pub with_field : Layout → KeyField → Option Layout
 with_field layout field = option_and_then (with_new layout) (part_of field)
 
--- a field that stands for nothing, or whose axis is there
+-- the fault of a field that denotes no part, or whose axis is already in the layout
 abbrev pub field_check : Layout → KeyField → List ℕ → List FoundFault
 field_check layout field up = fault_if (not (is_some (with_field layout field))) bad_value up
 
 abbrev pub add_field : Layout → KeyField → Layout
 add_field layout field = unwrap_or (with_field layout field) layout
 
--- the faults of the fields from the i-th on, behind those that make this layout
+-- the faults of the fields from the i-th on, after the fields that make this layout
 abbrev pub fields_faults : Layout → List ℕ → ℕ → List Data → List FoundFault
 fields_faults layout up i [] = []
 fields_faults layout up i (d ∷ ds) =

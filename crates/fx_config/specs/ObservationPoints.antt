@@ -38,7 +38,7 @@ observation_point_rows earlier =
     ∷ entries 0 entry_limit (codes "selectionProcess") name_once text_of
     ∷ []
 
--- what a point sees
+-- the rows of what a point observes
 abbrev pub scope_rows : List Row
 scope_rows = take 3 (drop 1 (observation_point_rows []))
 

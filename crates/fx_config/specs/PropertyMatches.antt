@@ -1,4 +1,4 @@
--- Values that packets must have (RFC 5475, section 6.1), or records.
+-- Values that packets (RFC 5475, section 6.1) or records must have.
 use Rattle.std.specs.Prelude.{ℕ, List, [], ◌∷◌, codes, not, Option, Some, None, is_some, option_map, option_and_then}
 use Rattle.std.specs.Option.{unwrap_or}
 use Rattle.serde_json.specs.Data.{Data}
@@ -14,18 +14,18 @@ use Rattle.fx_elements.specs.Values.{values_of}
 use Rattle.fx_config.specs.declared.property_match.PropertyMatch.{PropertyMatch}
 use Rattle.fx_base.specs.Refusals.{bad_value}
 
--- the axis of the values of an element: its own, or that of the addresses whose prefix it is
+-- the axis of an element's values: its own, or that of the addresses of which it is a prefix
 abbrev pub axis_matched : Element → Option Axis
 axis_matched (OnAxis axis) = Some axis
 axis_matched (Prefix axis) = Some axis
 axis_matched _ = None
 
--- what an element and the text of its value stand for
+-- the match that an element and the text of its value denote
 abbrev pub property_given : Element → List ℕ → Option PropertyMatch
 property_given element text =
     option_and_then (λ axis. option_map (λ range. record { axis = axis; range = range }) (values_of element text)) (axis_matched element)
 
--- an element that nothing can be matched on, or a text that spells no value of it
+-- the fault of an element that can't be matched on, or of a text that spells no value of it
 abbrev pub property_check : Element → List ℕ → List ℕ → List FoundFault
 property_check element text up = fault_if (not (is_some (property_given element text))) bad_value up
 

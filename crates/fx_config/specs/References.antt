@@ -10,15 +10,15 @@ use Rattle.fx_config.specs.declared.aggregation.Aggregation.{Aggregation}
 use Rattle.fx_config.specs.declared.collecting_process.CollectingProcess.{CollectingProcess}
 use Rattle.fx_config.specs.declared.ipfix.Device.{Device}
 
--- a point's selection processes
+-- the references of a point to its selection processes
 abbrev pub point_references : List (List ℕ) → List ℕ → ObservationPoint → List FoundFault
 point_references processes up point = member_references (unknown processes) up (codes "selectionProcess") point.selection_processes
 
--- a selection process's cache
+-- the reference of a selection process to its cache
 abbrev pub process_references : List (List ℕ) → List ℕ → SelectionProcess → List FoundFault
 process_references caches up process = unknown_if_there caches (below up (codes "cache")) process.cache
 
--- names of exporting processes
+-- the references to exporting processes, by name
 abbrev pub exporting_references : List (List ℕ) → List ℕ → List (List ℕ) → List FoundFault
 exporting_references exporters up names = member_references (unknown exporters) up (codes "exportingProcess") names
 
@@ -28,13 +28,13 @@ cache_references exporters up cache = exporting_references exporters up cache.ex
 abbrev pub aggregation_references : List (List ℕ) → List ℕ → Aggregation → List FoundFault
 aggregation_references exporters up aggregation = exporting_references exporters up aggregation.exporting_processes
 
--- a collecting process's exporting processes, and then those of its aggregations
+-- the references of a collecting process to exporting processes, and then those of its aggregations
 abbrev pub collecting_references : List (List ℕ) → List ℕ → CollectingProcess → List FoundFault
 collecting_references exporters up process =
     exporting_references exporters up process.exporting_processes
     ++ member_references (aggregation_references exporters) up (codes "once-audit:aggregation") process.aggregations
 
--- all of a device's, in the order of the walk, where these are the names of its selection processes, caches and
+-- all references of a device, in the order of the walk, given the names of its selection processes, caches and
 -- exporting processes
 abbrev pub references_among : List (List ℕ) → List (List ℕ) → List (List ℕ) → List ℕ → Device → List FoundFault
 references_among processes caches exporters up device =
@@ -47,7 +47,7 @@ abbrev pub reference_faults : List ℕ → Device → List FoundFault
 reference_faults up device =
     references_among (map (λ x. x.name) device.selection_processes) (map (λ x. x.name) device.caches) (map (λ x. x.name) device.exporting_processes) up device
 
--- each name that stands for a thing of the device is the name of one in its list
+-- each name that refers to an entry of the device is the name of one in the corresponding list
 pub record Resolves (device : Device) : Type 0 where
   pub points : All (λ point. All (IsKnown (map (λ x. x.name) device.selection_processes)) point.selection_processes) device.observation_points
   pub processes : All (λ process. IfSome process.cache (IsKnown (map (λ x. x.name) device.caches))) device.selection_processes

@@ -25,7 +25,7 @@ is_all d = is_empty_type d
 abbrev pub all_faults : List ℕ → Data → List FoundFault
 all_faults up d = fault_if (not (is_all d)) wrong_kind up
 
--- methods by which a count can't be exact: sampling, and filtering by a hash
+-- methods that make an exact count impossible: sampling, and filtering by a hash
 abbrev pub inexact : List (List ℕ × ℕ)
 inexact =
     (codes "sampCountBased", sampling_selector)
@@ -35,7 +35,7 @@ inexact =
     ∷ (codes "filterHash", hash_filter)
     ∷ []
 
--- exactly one method is given, and none of those
+-- exactly one method is given, and it is none of the inexact methods
 abbrev pub selector_rows : List (List ℕ) → List Row
 selector_rows earlier =
     required_row (codes "name") (name_once earlier)

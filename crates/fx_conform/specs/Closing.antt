@@ -1,4 +1,4 @@
--- What the closing phase leaves: nothing.
+-- After the closing phase nothing remains.
 use Rattle.std.specs.Prelude.{◌≡◌, ◌⊎◌, ℕ, List, [], length, Option, Some}
 use Rattle.std.specs.List.{AllByRecursion}
 use Rattle.fx_base.specs.declared.counts.Counts.{Counts}
@@ -20,11 +20,11 @@ use Rattle.fx_conform.specs.Usable.{AreUsable}
 abbrev pub CanBeNamed : Net → ℕ → Type 0
 CanBeNamed net holder = (name : HolderName) × (holder_place net name ≡ Some holder)
 
--- what holds records can be named
+-- every holder that holds records can be named
 abbrev pub OnlyNamedHold : Net → List (Option Stored) → Type 0
 OnlyNamedHold net stores = (place : ℕ) → CanBeNamed net place ⊎ (count_in stores place ≡ 0)
 
--- no record waits for its message, and no octets to be put out
+-- no record waits for its message, and no octets wait to be put out
 abbrev pub NothingWaits : List Ongoing → Type 0
 NothingWaits links = AllByRecursion (λ (o : Ongoing). (o.outgoing.batch ≡ []) × (o.outgoing.octets ≡ [])) links
 
@@ -33,20 +33,20 @@ NothingIsStored stores = (place : ℕ) → count_in stores place ≡ 0
 
 -- ---- the laws
 
--- Only holders that can be named take counts in.
+-- Only holders that can be named accept counts.
 abbrev pub TakingStaysNamed : Type 0
 TakingStaysNamed =
     (net : Net) (stores : List (Option Stored)) (counts : Counts) (hs : List Holding)
     → OnlyNamedHold net stores → AllByRecursion (λ (h : Holding). CanBeNamed net h.holder) hs
     → OnlyNamedHold net (stores_and_leavers stores counts hs).stores
 
--- What leaves leaves no more than there was.
+-- Removing records adds none, so only named holders hold records.
 abbrev pub LeavingStaysNamed : Type 0
 LeavingStaysNamed =
     (net : Net) (stores : List (Option Stored)) (place : ℕ) (n : ℕ)
     → AreUsable stores → OnlyNamedHold net stores → OnlyNamedHold net (without_leasts place stores n)
 
--- Once all caches are emptied, and then all collecting processes are finished in the order of ranks, nothing is in the
+-- Once all caches have been emptied, and then all collecting processes finished in the order of ranks, nothing is in the
 -- stores, and no octets are on the links.
 abbrev pub ClosingEmpties : Type 0
 ClosingEmpties =

@@ -1,4 +1,4 @@
--- A running network between two calls, as the state to which a run of the abstract network has come.
+-- A running network between two calls, as the state that a run of the abstract network has reached.
 use Rattle.std.specs.Prelude.{◌≡◌, ℕ, suc, ◌^◌, ◌<◌, List, [], length, Option, Ok, slice_get}
 use Rattle.std.specs.List.{AllByRecursion}
 use Rattle.fx_base.specs.Device.{Writes}
@@ -25,14 +25,14 @@ use Rattle.fx_conform.specs.Closing.{OnlyNamedHold}
 use Rattle.fx_conform.specs.OnLinks.{AreStill}
 use Rattle.fx_conform.specs.Sendable.{AreSent, HaveLayouts}
 
--- what the tables of a network keep
+-- the invariants of the tables of a network
 pub record IsSound (net : Net) : Type 0 where
   pub network : IsNetwork net
   pub runnable : IsRunnable net
   pub leads : LinksLead net
   pub layouts : HaveLayouts net.holders
 
--- aggregations have no bound
+-- the stores of aggregations are unbounded
 abbrev pub AreBoundless : Net → List (Option Stored) → Type 0
 AreBoundless net stores =
     (process : ℕ)
@@ -51,8 +51,8 @@ pub record StoresConform (net : Net) (stores : List (Option Stored)) (holding : 
 abbrev pub put_by_run : Net → List Class → List Packet → List Step → ℕ → List Record
 put_by_run net classes packets steps link = put_on net classes packets link steps (opening net classes packets)
 
--- The run's state: each store has what its holder holds, each link what it carries, and the collector has counted the
--- same. All octets that were put on a link since the run began are those of the records that the run has put on it.
+-- The run's state: each store has the records that its holder holds, each link those that it carries, and the collector has
+-- counted the same. All octets put on a link since the run began encode the records that the run has put on it.
 pub record Conforms (net : Net) (classes : List Class) (begin put : Put) (c : Contents) (packets : List Packet) (steps : List Step) (s : State) : Type 0 where
   pub history : ℕ → List ℕ
   pub written : (link : ℕ) → Writes (begin (suc link)) (put (suc link)) (history link)

@@ -1,4 +1,4 @@
--- Holders from which the record of the least key leaves, once or several times.
+-- Holders from which the record of the least key is removed, once or several times.
 use Rattle.std.specs.Prelude.{◌≡◌, ℕ, zero, suc, ◌<◌, List, [], ◌++◌, length, Option, Some, slice_get}
 use Rattle.fx_tables.specs.declared.record.Record.{Record}
 use Rattle.fx_tables.specs.Network.{Net}
@@ -10,24 +10,24 @@ use Rattle.fx_net.specs.Taking.{left_by, with_stores}
 use Rattle.fx_conform.specs.Held.{Leaver, AreHeld, Leave, AllLeave}
 use Rattle.fx_conform.specs.Usable.{AreUsable}
 
--- what leaves where the record of the least key does so many times
+-- the records that leave when the record of the least key is removed this number of times
 abbrev pub leasts : ℕ → List (Option Stored) → ℕ → List Leaver
 leasts place stores zero = []
 leasts place stores (suc n) =
     left_by place (least_of (stored_at stores place)) ++ leasts place (without_least stores place) n
 
--- and the stores then
+-- the stores afterwards
 abbrev pub without_leasts : ℕ → List (Option Stored) → ℕ → List (Option Stored)
 without_leasts place stores zero = stores
 without_leasts place stores (suc n) = without_leasts place (without_least stores place) n
 
--- how many records the holder has
+-- the number of records that the holder has
 abbrev pub count_in : List (Option Stored) → ℕ → ℕ
 count_in stores place = count_of (stored_at stores place)
 
 -- ---- the laws
 
--- The record of the least key leaves, and the stores are what is held.
+-- The record of the least key is removed, and the stores still agree with the held records.
 abbrev pub LeastRecordsLeave : Type 0
 LeastRecordsLeave =
     (stores : List (Option Stored)) (held : List (List Record)) (place : ℕ) (e : Entry)
@@ -35,7 +35,7 @@ LeastRecordsLeave =
     → (now : List (List Record)) × Leave (leaver place e) held now
     × AreHeld (without_least stores place) now × AreUsable (without_least stores place)
 
--- So many times.
+-- The same, repeated this number of times.
 abbrev pub LeastsLeave : Type 0
 LeastsLeave =
     (stores : List (Option Stored)) (held : List (List Record)) (place : ℕ) (n : ℕ)
@@ -43,7 +43,7 @@ LeastsLeave =
     → (now : List (List Record)) × AllLeave (leasts place stores n) held now
     × AreHeld (without_leasts place stores n) now × AreUsable (without_leasts place stores n)
 
--- As often as the holder has records: then it holds nothing.
+-- Repeated once for each record of the holder: the holder then holds nothing.
 abbrev pub EmptiedHoldsNothing : Type 0
 EmptiedHoldsNothing =
     (stores : List (Option Stored)) (held : List (List Record)) (place : ℕ)
@@ -51,7 +51,7 @@ EmptiedHoldsNothing =
     → AreHeld (without_leasts place stores (count_in stores place)) held
     → slice_get held place ≡ Some []
 
--- That is what a running network does where it empties a holder.
+-- A running network does the same when it empties a holder.
 abbrev pub EmptyingIsLeaving : Type 0
 EmptyingIsLeaving =
     (net : Net) (place : ℕ) (c : Contents)

@@ -1,4 +1,4 @@
--- The records that are held for what is in stores, and records that leave.
+-- The held records that correspond to the contents of stores, and records that leave.
 use Rattle.std.specs.Prelude.{◌≡◌, ℕ, List, [], ◌∷◌, Option, Some, None, slice_get, slice_set}
 use Rattle.std.specs.FinMap.{get}
 use Rattle.fx_layout.specs.Keys.{Key}
@@ -18,12 +18,12 @@ pub record IsHeld (held : Flows) (rs : List Record) : Type 0 where
   pub differ : Differ rs
   pub same : (key : Key) → total_at rs key ≡ get held key
 
--- by an immediate cache nothing is held
+-- an immediate cache holds nothing
 abbrev pub HeldAt : Option Stored → List Record → Type 0
 HeldAt None rs = rs ≡ []
 HeldAt (Some stored) rs = IsHeld (flows_in stored) rs
 
--- at each holder
+-- each holder's records correspond to its store
 abbrev pub AreHeld : List (Option Stored) → List (List Record) → Type 0
 AreHeld [] [] = Unit {0}
 AreHeld (stored ∷ stores) (rs ∷ rss) = HeldAt stored rs × AreHeld stores rss
@@ -34,11 +34,11 @@ AreHeld _ _ = ⊥
 abbrev pub ResultOf : {A : Type 0} {B : Type 0} → (A → B) → Type 0
 ResultOf {A} {B} make = B
 
--- a record that leaves a holder: what `leaver` makes, which has no name outside of its crate
+-- a record that leaves a holder: the result type of `leaver`, which has no name outside of its crate
 abbrev pub Leaver : Type 0
 Leaver = ResultOf (leaver 0)
 
--- the record is held by its holder, and is taken out
+-- the record is held by its holder, and is removed
 pub record Leave (l : Leaver) (held now : List (List Record)) : Type 0 where
   pub number : ℕ
   pub rs : List Record
@@ -46,7 +46,7 @@ pub record Leave (l : Leaver) (held now : List (List Record)) : Type 0 where
   pub flow_is : entry_numbered rs number ≡ Some l.flow
   pub now_is : now ≡ slice_set held l.holder (without rs number)
 
--- one after another
+-- these records leave in order
 abbrev pub AllLeave : List Leaver → List (List Record) → List (List Record) → Type 0
 AllLeave [] held now = now ≡ held
 AllLeave (l ∷ ls) held now = (mid : List (List Record)) × Leave l held mid × AllLeave ls mid now

@@ -1,4 +1,4 @@
--- What links carry, and the records that the abstract network has on them.
+-- The octets that links carry, and the records that the abstract network has on them.
 use Rattle.std.specs.Prelude.{◌≡◌, ℕ, ◌^◌, ◌<◌, ◌==◌, true, List, [], ◌∷◌, ◌++◌, length, map, slice_get, slice_set, Some, None, if◌then◌else◌}
 use Rattle.std.specs.List.{AllByRecursion}
 use Rattle.fx_tables.specs.declared.record.Record.{Record}
@@ -16,7 +16,7 @@ use Rattle.fx_net.specs.Exporting.{put_each}
 use Rattle.fx_net.specs.Finishing.{HasRoom, to_put_on}
 use Rattle.fx_net.specs.Opening.{new_links}
 
--- A session that reads these octets from the start reads just these records, without gap, skipped record, unfinished
+-- A session that reads these octets from the start reads exactly these records, without gap, skipped record, unfinished
 -- octet or fault.
 pub record AreRead (octets : List ℕ) (rs : List Record) : Type 0 where
   pub waiting : (after_piece start octets).known.waiting ≡ rs
@@ -25,17 +25,17 @@ pub record AreRead (octets : List ℕ) (rs : List Record) : Type 0 where
   pub rest : (after_piece start octets).rest ≡ []
   pub fault : (after_piece start octets).fault ≡ None
 
--- A link between two times at which nothing is on its way, on which all these octets were put since the start.
+-- A link while nothing is being sent, on which all these octets were put since the start.
 pub record IsLinkAtRest (wire : Wire) (history : List ℕ) (before : List Record) : Type 0 where
   pub in_step : InStep wire
-  -- no octet that has reached the receiver completes anything more
+  -- no octet that has reached the receiver completes a further message
   pub settled : after_piece wire.receiver [] ≡ wire.receiver
   pub keeps_up : KeepsUp wire.sender (after_piece start history)
   pub read : AreRead history before
 
 -- ---- a link
 
--- Nothing waits on the link: the records on it are in its octets. All these octets and records were put on it.
+-- No record waits for its message: the records on the link are in its octets. All these octets and records were put on it.
 pub record IsStill (history : List ℕ) (all : List Record) (o : Ongoing) (rs : List Record) : Type 0 where
   pub wire : Wire
   pub kept : IsLinkAtRest wire history all
@@ -43,8 +43,8 @@ pub record IsStill (history : List ℕ) (all : List Record) (o : Ongoing) (rs : 
   pub records_are : rs ≡ on_link wire
   pub sent : AllByRecursion IsSent rs
 
--- First stand records that have arrived and aren't handled yet, then those in octets, then those that wait for their
--- message.
+-- The records in order: first those that have arrived but aren't handled yet, then those in octets, then those that wait for
+-- their message.
 pub record IsCarried (time : ℕ) (pending : List Record) (history : List ℕ) (all : List Record) (o : Ongoing) (rs : List Record) : Type 0 where
   pub wire : Wire
   pub before : List Record
@@ -72,7 +72,7 @@ pub record AreCarried (time : ℕ) (pending : ℕ → List Record) (history : �
 abbrev pub none_pending : ℕ → List Record
 none_pending link = []
 
--- these have arrived from one link
+-- these records have arrived from one link
 abbrev pub pending_from : ℕ → List Record → ℕ → List Record
 pending_from from rs link = if link == from then rs else []
 
@@ -87,7 +87,7 @@ StillIsCarried =
     (time : ℕ) (history : ℕ → List ℕ) (all : ℕ → List Record) (links : List Ongoing) (carried : List (List Record))
     → AreStill history all links carried → AreCarried time none_pending history all links carried
 
--- A record that is put on links comes last on each of them.
+-- A record that is put on links is the last on each of them.
 abbrev pub PutsAreCarried : Type 0
 PutsAreCarried =
     (time : ℕ) (pending : ℕ → List Record) (history : ℕ → List ℕ) (all : ℕ → List Record)
@@ -96,7 +96,7 @@ PutsAreCarried =
     → AreCarried time pending history (λ link. all link ++ records_given places r link)
     (put_each time r places links) (put_all places r carried)
 
--- Once what waits is put out, nothing waits.
+-- Once the waiting records are put out, none waits.
 abbrev pub FinishingStills : Type 0
 FinishingStills =
     (time : ℕ) (history : ℕ → List ℕ) (all : ℕ → List Record) (links : List Ongoing) (carried : List (List Record))
@@ -104,21 +104,21 @@ FinishingStills =
     → ((link : ℕ) → HasRoom (slice_get links link))
     → AreStill (λ link. history link ++ to_put_on time (slice_get links link)) all (map (after_finish time) links) carried
 
--- the links once so many octets have reached the receiver of one, which has given its records out
+-- the links once this number of octets has reached the receiver of one link, whose records have been handed out
 abbrev pub with_octets_carried : ℕ → ℕ → List Ongoing → List Ongoing
 with_octets_carried link n links = with_changed (with_left []) (with_changed (after_carry n) links link) link
 
 abbrev pub arrivals : ℕ → ℕ → List Ongoing → List Record
 arrivals link n links = waiting_on (slice_get (with_changed (after_carry n) links link) link)
 
--- Octets that are carried complete the first records on the link, which have arrived then.
+-- Octets that are carried complete the first records on the link, which have then arrived.
 abbrev pub CarriedArrive : Type 0
 CarriedArrive =
     (time link n : ℕ) (history : ℕ → List ℕ) (all : ℕ → List Record) (links : List Ongoing) (carried : List (List Record))
     → link < length links → AreStill history all links carried
     → AreCarried time (pending_from link (arrivals link n links)) history all (with_octets_carried link n links) carried
 
--- The first record that has arrived is the first on its link, and leaves it.
+-- The first record that has arrived is the first on its link, and is removed from it.
 abbrev pub ArrivedLeave : Type 0
 ArrivedLeave =
     (time link : ℕ) (r : Record) (rest : List Record) (history : ℕ → List ℕ) (all : ℕ → List Record)
@@ -127,7 +127,7 @@ ArrivedLeave =
     → (rs : List Record) × (slice_get carried link ≡ Some (r ∷ rs)) × IsSent r
     × AreCarried time (pending_from link rest) history all links (slice_set carried link rs)
 
--- Once none is left that has arrived, none has.
+-- Once no arrived record is left, no record is pending on any link.
 abbrev pub NoneLeft : Type 0
 NoneLeft =
     (time link : ℕ) (history : ℕ → List ℕ) (all : ℕ → List Record) (links : List Ongoing) (carried : List (List Record))
@@ -144,7 +144,7 @@ NothingIsCarried =
     (history : ℕ → List ℕ) (all : ℕ → List Record) (links : List Ongoing) (carried : List (List Record))
     → AreStill history all links carried → NoOctets links → all_empty carried ≡ true
 
--- All octets that were put on a link are read as all records that were put on it.
+-- The octets put on a link are read as exactly the records put on it.
 abbrev pub HistoryIsRead : Type 0
 HistoryIsRead =
     (history : ℕ → List ℕ) (all : ℕ → List Record) (links : List Ongoing) (carried : List (List Record)) (link : ℕ)

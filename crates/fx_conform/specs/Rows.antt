@@ -1,4 +1,4 @@
--- The steps that what is done in a running network makes of the abstract one.
+-- The steps of the abstract network that correspond to the operations of a running one.
 use Rattle.std.specs.Prelude.{◌≡◌, ℕ, zero, suc, true, false, Bool, List, [], ◌∷◌, ◌++◌, length, Option, Some, None, Ok, slice_get}
 use Rattle.std.specs.List.{AllByRecursion}
 use Rattle.std.specs.Ordering.{is_gt}
@@ -35,11 +35,11 @@ Row = List Step → List Step → Type 0
 abbrev pub NoStep : Row
 NoStep from to = to ≡ from
 
--- one row and then another
+-- one row, followed by another
 abbrev pub Followed : Row → Row → Row
 Followed one other from to = (mid : List Step) × one from mid × other mid to
 
--- a row for each of these in turn
+-- a row for each of these, in order
 abbrev pub InTurn : {A : Type 0} → (A → Row) → List A → Row
 InTurn row [] = NoStep
 InTurn row (x ∷ xs) = Followed (row x) (InTurn row xs)
@@ -54,7 +54,7 @@ Repeated row from to = (n : ℕ) × Times n row from to
 
 -- ---- a record leaves a holder
 
--- The step by which the record of this number leaves the holder of a name, at a place; it is sent to the destinations in use.
+-- The step by which the record of this number leaves the named holder at a place; it is sent to the destinations in use.
 abbrev pub expiry : Net → List ℕ → HolderName → ℕ → ℕ → Step
 expiry net chosen name place number = Expire name number (sent_by net chosen (named_by (slice_get net.holders place)))
 
@@ -66,7 +66,7 @@ pub record Expires (net : Net) (chosen : List ℕ) (from to : List Step) : Type 
   pub number : ℕ
   pub to_is : to ≡ from ++ expiry net chosen name place number ∷ []
 
--- of the records that a holder holds, the record of this number has the least key
+-- among the records that a holder holds, the record of this number has the least key
 pub record IsLeastHeld (s : State) (place number : ℕ) : Type 0 where
   pub records : List Record
   pub there : slice_get s.held place ≡ Some records
@@ -74,7 +74,7 @@ pub record IsLeastHeld (s : State) (place number : ℕ) : Type 0 where
   pub numbered : entry_numbered records number ≡ Some least
   pub is_least : AllByRecursion (λ (r : Record). is_gt (key_cmp least.key r.key) ≡ false) records
 
--- of the records that the holder of this name, at this place, holds after the steps so far, that of the least key leaves
+-- the record of the least key leaves, among those that the holder of this name, at this place, holds after the steps so far
 pub record LeastExpires (net : Net) (classes : List Class) (packets : List Packet) (chosen : List ℕ) (name : HolderName) (place : ℕ) (from to : List Step) : Type 0 where
   pub named : holder_place net name ≡ Some place
   pub state : State
@@ -94,14 +94,14 @@ pub record Arrives (net : Net) (chosen : List ℕ) (link : ℕ) (from to : List 
 
 -- ---- a packet crosses
 
--- before a packet crosses an interface, what makes room leaves, and after it the records of immediate caches
+-- before a packet crosses an interface, records leave to make room, and after it the records of immediate caches leave
 pub record IsCrossing (net : Net) (chosen : List ℕ) (packet crossing : ℕ) (from to : List Step) : Type 0 where
   pub room : List Step
   pub makes_room : Repeated (Expires net chosen) from room
   pub choices : Choices
   pub leave_at_once : Repeated (Expires net chosen) (room ++ Cross packet crossing choices ∷ []) to
 
--- this many crossings, from this one on
+-- this number of crossings, starting with this one
 abbrev pub AreCrossings : Net → List ℕ → ℕ → ℕ → ℕ → Row
 AreCrossings net chosen packet crossing zero = NoStep
 AreCrossings net chosen packet crossing (suc n) = Followed (IsCrossing net chosen packet crossing) (AreCrossings net chosen packet (suc crossing) n)
@@ -114,18 +114,18 @@ pub record Course : Type 0 where
   pub packets : List Packet
   pub steps : List Step
 
--- steps are made
+-- the course advances by steps of this row
 abbrev pub Makes : Row → Course → Course → Type 0
 Makes row from to = (steps : List Step) × row from.steps steps × (to ≡ record from { steps = steps })
 
--- a packet of the class and the path that a line gives it comes, and makes its crossings
+-- a packet of the class and the path given by a line is read, and makes its crossings
 pub record Reads (net : Net) (classes : List Class) (asked : Action) (packet : Packet) (from to : Course) : Type 0 where
   pub given : IsGiven classes asked packet
   pub steps : List Step
   pub crosses : AreCrossings net from.chosen (suc (length from.packets)) 1 (length (path classes packet)) from.steps steps
   pub to_is : to ≡ record from { packets = from.packets ++ packet ∷ []; steps = steps }
 
--- the destinations in use once an exporting process uses this one
+-- the destinations in use after an exporting process selects this one
 abbrev pub with_destination : Option ℕ → ℕ → List ℕ → List ℕ
 with_destination None destination chosen = chosen
 with_destination (Some place) destination chosen = with_changed (λ (_ : ℕ). destination) chosen place
@@ -138,7 +138,7 @@ abbrev pub AreArrivals : Net → ℕ → Course → Course → Type 0
 AreArrivals net zero from to = ⊥
 AreArrivals net (suc link) from to = Makes (Repeated (Arrives net from.chosen link)) from to
 
--- what a line asks for
+-- the effect of the action that a line requests
 abbrev pub IsRow : NetworkDocument → List Class → Action → Course → Course → Type 0
 IsRow network classes action.Next from to = (packet : Packet) × Reads (net_of network) classes action.Next packet from to
 IsRow network classes (action.NextOf class path) from to = (packet : Packet) × Reads (net_of network) classes (action.NextOf class path) packet from to
@@ -148,7 +148,7 @@ IsRow network classes (action.Carry link n) from to = AreArrivals (net_of networ
 IsRow network classes (action.Use device exporter destination) from to =
     to ≡ record from { chosen = with_destination (exporter_place network device exporter) destination from.chosen }
 
--- the lines of a schedule, one after another
+-- the lines of a schedule, in order
 abbrev pub AreRows : NetworkDocument → List Class → List (List ℕ) → Course → Course → Type 0
 AreRows network classes [] from to = to ≡ from
 AreRows network classes (line ∷ lines) from to =
@@ -156,13 +156,13 @@ AreRows network classes (line ∷ lines) from to =
 
 -- ---- the closing phase
 
--- the remaining packets come, one after another, as by `next`
+-- the remaining packets are read in order, as by `next`
 abbrev pub AllCome : Net → List Class → List Packet → Course → Course → Type 0
 AllCome net classes [] from to = to ≡ from
 AllCome net classes (packet ∷ packets) from to =
     (mid : Course) × Reads net classes action.Next packet from mid × AllCome net classes packets mid to
 
--- records leave the holder at a place, each time that of the least key
+-- records leave the holder at a place, each time the one of the least key
 abbrev pub IsEmptied : Net → List Class → List Packet → List ℕ → ℕ → Row
 IsEmptied net classes packets chosen place =
     Repeated (λ from to. (name : HolderName) × LeastExpires net classes packets chosen name place from to)
@@ -183,7 +183,7 @@ abbrev pub IsEmptying : Net → List Class → List Packet → List ℕ → List
 IsEmptying net classes packets chosen ranked =
     Followed (InTurn (IsEmptied net classes packets chosen) (caches_of_all net)) (InTurn (IsFinished net classes packets chosen) ranked)
 
--- the remaining packets come, and then all is emptied
+-- the remaining packets are read, and then all holders are emptied
 abbrev pub IsClosing : Net → List Class → List ℕ → List Packet → Course → Course → Type 0
 IsClosing net classes ranked left from to =
     (mid : Course) × AllCome net classes left from mid × Makes (IsEmptying net classes mid.packets mid.chosen ranked) mid to

@@ -1,4 +1,4 @@
--- Records that can be sent: those that are held have keys of their layouts.
+-- Records that can be sent: held records have keys that match their layouts.
 use Rattle.std.specs.Prelude.{◌≡◌, ℕ, ◌^◌, ◌<◌, List, slice_get, Some}
 use Rattle.std.specs.List.{AllByRecursion}
 use Rattle.fx_base.specs.declared.counts.Counts.{Counts}
@@ -25,7 +25,7 @@ pub record AreCounts (counts : Counts) : Type 0 where
   pub packets : counts.packets < 2 ^ 64
   pub octets : counts.octets < 2 ^ 64
 
--- what each holder has a layout for
+-- each holder has a valid layout
 abbrev pub HaveLayouts : List Holder → Type 0
 HaveLayouts holders = (holder : ℕ) → IsLayout (layout_of (slice_get holders holder))
 
@@ -43,19 +43,19 @@ MetCanBeSent =
     (holders : List Holder) (fields : Fields) (os : List Occurrence)
     → HaveLayouts holders → IsFields fields → HaveRightKeys (met_holdings holders fields os)
 
--- So have keys that aggregations project.
+-- Keys that aggregations project have the bits of their layouts too.
 abbrev pub AggregatedCanBeSent : Type 0
 AggregatedCanBeSent =
     (holders : List Holder) (key : Key) (aggregations : List AggregationEntry)
     → HaveLayouts holders → IsKey key → HaveRightKeys (intakes holders key aggregations)
 
--- What leaves can be sent, and what stays.
+-- A record that leaves can be sent, and so can the remaining ones.
 abbrev pub LeavingsCanBeSent : Type 0
 LeavingsCanBeSent =
     (l : Leaver) (held : List (List Record)) (now : List (List Record))
     → Leave l held now → AreSent held → IsSent l.flow × AreSent now
 
--- What holders took in can be sent.
+-- The records of holders can be sent after counts are added.
 abbrev pub TakenCanBeSent : Type 0
 TakenCanBeSent =
     (counts : Counts) (hs : List Holding) (held : List (List Record)) (choices : Choices) (now : List (List Record))

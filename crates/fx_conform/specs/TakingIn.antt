@@ -1,4 +1,4 @@
--- Holders that take counts in.
+-- Holders that accept counts.
 use Rattle.std.specs.Prelude.{◌≡◌, ℕ, ◌<◌, List, [], length, Option, Some, None, slice_get}
 use Rattle.std.specs.List.{AllByRecursion}
 use Rattle.fx_base.specs.declared.counts.Counts.{Counts}
@@ -18,22 +18,22 @@ use Rattle.fx_net.specs.Taking.{stores_and_leavers, all_leave_at_once}
 use Rattle.fx_conform.specs.Held.{AreHeld, AllLeave}
 use Rattle.fx_conform.specs.Usable.{AreUsable}
 
--- the holders are among so many
+-- the holders are among the first n
 abbrev pub AreThere : ℕ → List Holding → Type 0
 AreThere n hs = AllByRecursion (λ (h : Holding). h.holder < n) hs
 
--- two at one holder have one key
+-- all entries for one holder have one key
 abbrev pub HaveKeys : (ℕ → Key) → List Holding → Type 0
 HaveKeys keys hs = AllByRecursion (λ (h : Holding). h.key ≡ keys h.holder) hs
 
--- a packet's key under the layout of a holder, and that of a record
+-- a packet's key under the layout of a holder, and that of a record under it
 abbrev pub packet_key : List Holder → Fields → ℕ → Key
 packet_key holders fields holder = key_of (layout_of (slice_get holders holder)) fields
 
 abbrev pub record_key : List Holder → Key → ℕ → Key
 record_key holders key holder = project key (layout_of (slice_get holders holder))
 
--- First what makes room leaves, then all records are taken in, and then those of immediate caches leave.
+-- First records leave to make room, then all records are added, and then those of immediate caches leave.
 pub record TakesIn (stores : List (Option Stored)) (counts : Counts) (hs : List Holding) (held : List (List Record)) : Type 0 where
   pub room : List (List Record)
   pub now : List (List Record)
@@ -53,7 +53,7 @@ IsUnbounded (Some (bounded recent)) = ⊥
 abbrev pub AreUnbounded : List (Option Stored) → List Holding → Type 0
 AreUnbounded stores hs = AllByRecursion (λ (h : Holding). IsUnbounded (stored_at stores h.holder)) hs
 
--- All records are taken in, and none leaves.
+-- All records are added, and none leaves.
 pub record Join (stores : List (Option Stored)) (counts : Counts) (hs : List Holding) (held : List (List Record)) : Type 0 where
   pub now : List (List Record)
   pub choices : Choices
@@ -76,7 +76,7 @@ AggregatedHaveKeys =
     (holders : List Holder) (key : Key) (aggregations : List AggregationEntry)
     → HaveKeys (record_key holders key) (intakes holders key aggregations)
 
--- Holders take counts in, where two records at one holder have one key.
+-- Holders accept counts, if any two records for one holder have the same key.
 abbrev pub TakingIn : Type 0
 TakingIn =
     (stores : List (Option Stored)) (held : List (List Record)) (counts : Counts)
@@ -84,7 +84,7 @@ TakingIn =
     → AreHeld stores held → AreUsable stores → AreThere (length stores) hs → HaveKeys keys hs
     → TakesIn stores counts hs held
 
--- Holders without a bound only take in.
+-- Holders without a bound only add records.
 abbrev pub TakersJoin : Type 0
 TakersJoin =
     (stores : List (Option Stored)) (held : List (List Record)) (counts : Counts) (hs : List Holding)

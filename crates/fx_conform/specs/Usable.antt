@@ -9,7 +9,7 @@ use Rattle.fx_store.specs.Recent.{Recent}
 use Rattle.fx_net.specs.Leaving.{taken_out}
 use Rattle.fx_net.specs.Stores.{Stored, unbounded, bounded, new_store, with_counts, without_entry}
 
--- the keys are different, and there are no more than the bound
+-- the keys are distinct, and their number is at most the bound
 pub record IsRecent (recent : Recent) : Type 0 where
   pub differ : IsDistinct same_key (keys_of recent.entries)
   pub some : 1 ≤ recent.capacity

@@ -26,24 +26,24 @@ use Rattle.fx_conform.specs.Conforming.{IsSound, put_by_run}
 use Rattle.fx_conform.specs.OnLinks.{AreRead}
 use Rattle.fx_conform.specs.Rows.{AreRows, Course, IsClosing, first_course}
 
--- each frame has its packet, in a class that holds it and with one of its paths
+-- each frame has its packet, which is in its class and on one of the paths of that class
 abbrev pub AreOf : List Class → List captures.Seen → List Packet → Type 0
 AreOf classes [] [] = Unit {0}
 AreOf classes (frame ∷ frames) (p ∷ packets) = IsFrame p frame × IsOf p (entry_numbered classes p.class) × AreOf classes frames packets
 AreOf classes [] (p ∷ packets) = ⊥
 AreOf classes (frame ∷ frames) [] = ⊥
 
--- all octets that were put on a link read as all records that the run has put on it, in the order of its steps
+-- the octets put on a link are read as exactly the records that the run has put on it, in the order of its steps
 abbrev pub IsReadOn : Net → List Class → List Packet → List Step → Put → Put → ℕ → Type 0
 IsReadOn net classes packets steps before after link =
     (octets : List ℕ) × Writes (before (suc link)) (after (suc link)) octets × AreRead octets (put_by_run net classes packets steps link)
 
--- a reader of lines goes on to these
+-- a reader of lines reads these lines next
 abbrev pub ReadsLines : Lines → Lines → List (List ℕ) → Type 0
 ReadsLines from to [] = to ≡ from
 ReadsLines from to (line ∷ lines) = (next : Lines) × AtLine from next × (next.line ≡ line) × ReadsLines next to lines
 
--- the packets and steps of a run are those of the schedule's lines and then those of the closing phase
+-- the packets and steps of a run are those of the schedule's lines, followed by those of the closing phase
 pub record AreInOrder (network : NetworkDocument) (classes : List Class) (from to : Lines) (course : Course) : Type 0 where
   pub lines : List (List ℕ)
   pub behind : Lines
@@ -83,7 +83,7 @@ abbrev pub DeclarationsHavePaths : Type 0
 DeclarationsHavePaths =
     (devices : List (List ℕ)) (up : List ℕ) (d : Data) → traffic_faults devices up d ≡ [] → HavePaths (traffic_of devices d)
 
--- Where a running network comes to totals, there is such a run.
+-- If a running network yields totals, there is such a run.
 abbrev pub RunsAreComplete : Type 0
 RunsAreComplete =
     (network : NetworkDocument) (classes : List Class) (at to : captures.CaptureState) (from last : Lines) (before after : Put) (totals : Totals)
@@ -96,8 +96,8 @@ pub record ArePlainSums (net : Net) (packets : List Packet) (totals : Totals) : 
   pub sums : (key : Key) → total_at totals.entries key ≡ plain_sum net.report_layout key packets
   pub assigned : totals.unassigned ≡ 0
 
--- The totals of a network that counts each packet once are the plain sums over its packets, where these are numbers of
--- 64 bits.
+-- The totals of a network that counts each packet once are the plain sums over its packets, if these sums fit in 64
+-- bits.
 abbrev pub TotalsArePlainSums : Type 0
 TotalsArePlainSums =
     (network : NetworkDocument) (classes : List Class) (at to : captures.CaptureState) (from last : Lines) (before after : Put) (totals : Totals)
@@ -110,7 +110,7 @@ pub record AreSumsModulo (net : Net) (packets : List Packet) (totals : Totals) :
   pub sums : (key : Key) → option_map counts_modulo (total_at totals.entries key) ≡ option_map counts_modulo (plain_sum net.report_layout key packets)
   pub assigned : totals.unassigned ≡ 0
 
--- They are so modulo 2 to the 64, however large the sums are.
+-- The totals are these sums modulo 2 to the 64, however large the sums are.
 abbrev pub TotalsAreSumsModulo : Type 0
 TotalsAreSumsModulo =
     (network : NetworkDocument) (classes : List Class) (at to : captures.CaptureState) (from last : Lines) (before after : Put) (totals : Totals)

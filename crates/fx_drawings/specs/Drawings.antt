@@ -11,6 +11,6 @@ is_plain b = b == 10 || shown b == b
 abbrev pub IsPlainText : List ℕ → Type 0
 IsPlainText text = list_all is_plain text ≡ true
 
--- such a text stands behind what was there before
+-- such a text follows what was written before
 abbrev pub WritesDrawing : Option (List ℕ) → Option (List ℕ) → Type 0
 WritesDrawing old new = (text : List ℕ) × IsPlainText text × Writes old new text

@@ -35,12 +35,12 @@ abbrev pub put_first : ℕ → List (List ℕ) → List (List ℕ)
 put_first b [] = []
 put_first b (p ∷ ps) = (b ∷ p) ∷ ps
 
--- what stands between the colons of a text
+-- the pieces of a text between its colons
 unfoldable pub pieces : List ℕ → List (List ℕ)
 pieces [] = [] ∷ []
 pieces (b ∷ bs) = if b == 58 then [] ∷ pieces bs else put_first b (pieces bs)
 
--- the last piece is a group, or where it ends the address a dotted quad, which is two
+-- the last piece is a group or, if it ends the address, possibly a dotted quad, which is two groups
 unfoldable pub last_of : Bool → List ℕ → Option (List ℕ)
 last_of ends text =
     option_or (option_map (λ g. g ∷ []) (any_group_of text)) (if ends then option_map (λ v. v / 65536 ∷ v % 65536 ∷ []) (quad_of text) else None)
@@ -54,32 +54,32 @@ groups_in ends (p ∷ q ∷ ps) = do
   gs ← groups_in ends (q ∷ ps)
   Some (g ∷ gs)
 
--- the groups of one side of `::`, or of an address without it; an empty side has none
+-- the groups of one side of `::`, or of an address without `::`; an empty side has none
 unfoldable pub side_of : Bool → List ℕ → Option (List ℕ)
 side_of ends [] = Some []
 side_of ends (b ∷ bs) = groups_in ends (pieces (b ∷ bs))
 
--- the number that groups make behind others that make n
+-- the number that groups make when appended to groups that make n
 abbrev pub number_behind : ℕ → List ℕ → ℕ
 number_behind n groups = fold (λ v g. v * 65536 + g) n groups
 
 -- ---- an address
 
--- what stands before and after the first `::`
+-- the text before and after the first `::`
 unfoldable pub cut_at_zeros : List ℕ → Option (List ℕ × List ℕ)
 cut_at_zeros [] = None
 cut_at_zeros (b ∷ bs) = if b == 58 && get_or bs 0 0 == 58 then Some ([], drop 1 bs) else put_before b (cut_at_zeros bs)
 
--- all eight groups make an address
+-- the address of exactly eight groups
 unfoldable pub uncompressed_of : List ℕ → Option ℕ
 uncompressed_of groups = if length groups == 8 then Some (number_behind 0 groups) else None
 
--- `::` is one or more groups of zeros, as many as make eight with those before and after it
+-- `::` is one or more groups of zeros, to make eight together with the groups before and after it
 unfoldable pub compressed_of : List ℕ → List ℕ → Option ℕ
 compressed_of before after =
     if nat_le (length before + length after) 7 then uncompressed_of (before ++ (replicate (8 - (length before + length after)) 0 ++ after)) else None
 
--- without `::` all groups are one side; with it there are two, and the second ends the address
+-- without `::` all groups are on one side; with it there are two sides, and the second ends the address
 unfoldable pub address6_of : List ℕ → Option ℕ
 address6_of text = elim (cut_at_zeros text) [
   | None ↦ side_of true text >>= uncompressed_of
@@ -93,7 +93,7 @@ address6_of text = elim (cut_at_zeros text) [
 abbrev pub IsUncompressed : List ℕ → ℕ → Type 0
 IsUncompressed text v = (gs : List ℕ) × (side_of true text ≡ Some gs) × (length gs ≡ 8) × (v ≡ number_behind 0 gs)
 
--- the text is groups of v, `::` for n groups of zeros, at least one, and the groups behind them
+-- the text is groups of v, `::` for n groups of zeros, at least one, and the groups after them
 abbrev pub IsCompressed : List ℕ → ℕ → Type 0
 IsCompressed text v =
     (front back before after : List ℕ) × (n : ℕ) × (text ≡ front ++ 58 ∷ (58 ∷ back))
@@ -108,12 +108,12 @@ prefix6_of text = do
   bits ← number_of 128 p.1
   if bits == 0 then None else Some (v, bits)
 
--- ---- groups as they are counted up
+-- ---- groups counted as they are read
 
 abbrev pub no_groups : Side
 no_groups = record { count = 0; value = 0 }
 
--- a side with more groups behind it, where they are eight at most
+-- a side with more groups appended, if there are at most eight
 unfoldable pub side_with : Side → Option (List ℕ) → Option Side
 side_with side None = None
 side_with side (Some gs) =

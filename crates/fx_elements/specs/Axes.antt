@@ -1,17 +1,17 @@
--- The axes in their fixed order, and how wide each is.
+-- The axes in their fixed order, and the width of each.
 use Rattle.std.specs.Prelude.{ℕ, ◌-◌, ◌^◌, Bool, true, false, ◌==◌, List, [], ◌∷◌, map, slice_index}
 use Rattle.fx_elements.specs.declared.axis.Axis.{Axis}
 use Rattle.fx_elements.specs.declared.axis.Axis.TheVariants.{Source, Destination, Protocol, SourcePort, DestinationPort, ClassOfService, Version, Source6, Destination6}
 
--- how many there are
+-- the number of axes
 abbrev pub axis_count : ℕ
 axis_count = 9
 
--- all of them, in order
+-- all axes, in order
 abbrev pub axes : List Axis
 axes = Source ∷ Destination ∷ Protocol ∷ SourcePort ∷ DestinationPort ∷ ClassOfService ∷ Version ∷ Source6 ∷ Destination6 ∷ []
 
--- the place of an axis, from 0
+-- the index of an axis, from 0
 abbrev pub axis_index : Axis → ℕ
 axis_index Source = 0
 axis_index Destination = 1
@@ -23,7 +23,7 @@ axis_index Version = 6
 axis_index Source6 = 7
 axis_index Destination6 = 8
 
--- how many bits a value has
+-- the number of bits of a value
 abbrev pub axis_width : Axis → ℕ
 axis_width Source = 32
 axis_width Destination = 32
@@ -35,7 +35,7 @@ axis_width Version = 8
 axis_width Source6 = 128
 axis_width Destination6 = 128
 
--- the greatest value of each, in order: all of its bits are 1
+-- the greatest value of each axis, in order: all of its bits are 1
 abbrev pub tops : List ℕ
 tops = map (λ axis. 2 ^ axis_width axis - 1) axes
 
@@ -47,7 +47,7 @@ is_address Source6 = true
 is_address Destination6 = true
 is_address _ = false
 
--- the addresses are those of IPv6, eight groups of 16 bits
+-- the values are addresses of IPv6, eight groups of 16 bits
 abbrev pub is_wide : Axis → Bool
 is_wide Source6 = true
 is_wide Destination6 = true

@@ -1,4 +1,4 @@
--- The information elements that are told apart, with their names and numbers in the IANA registry (RFC 7012, section 4).
+-- The information elements that are distinguished, with their names and numbers in the IANA registry (RFC 7012, section 4).
 use Rattle.std.specs.Prelude.{ℕ, ◌==◌, if◌then◌else◌, List, [], ◌∷◌, codes}
 use Rattle.std.specs.Str.{bytes_eq}
 use Rattle.fx_elements.specs.declared.axis.Axis.{Axis}
@@ -36,7 +36,7 @@ registry =
     record { number = 169; name = codes "destinationIPv6Prefix"; element = Prefix Destination6 } ∷
     record { number = 170; name = codes "sourceIPv6Prefix"; element = Prefix Source6 } ∷ []
 
--- the element of the first line with the name; a name that stands in none is another element's
+-- the element of the first line with the name; a name in no line is that of another element
 abbrev pub named_in : List Registered → List ℕ → Element
 named_in [] name = Other
 named_in (line ∷ lines) name = if bytes_eq name line.name then line.element else named_in lines name
@@ -52,7 +52,7 @@ numbered_in (line ∷ lines) number = if number == line.number then line.element
 abbrev pub element_numbered : ℕ → ℕ → Element
 element_numbered number enterprise = if enterprise == 0 then numbered_in registry number else Other
 
--- ---- the way back: the numbers of an axis's elements
+-- ---- the inverse: the numbers of an axis's elements
 
 abbrev pub element_number : Axis → ℕ
 element_number Source = 8

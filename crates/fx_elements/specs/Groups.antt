@@ -1,4 +1,4 @@
--- How addresses of IPv6 are written, and how what was written is read (RFC 4291, section 2.2).
+-- How addresses of IPv6 are written, and how the written form is read (RFC 4291, section 2.2).
 use Rattle.std.specs.Prelude.{ℕ, ◌+◌, ◌-◌, ◌*◌, ◌/◌, ◌%◌, ◌^◌, ◌&&◌, nat_le, nat_lt, ◌==◌, if◌then◌else◌, List, [], ◌∷◌, ◌++◌, Option, Some, None}
 use Rattle.fx_elements.specs.Spelling.{◌>>=◌, cut_at}
 
@@ -21,13 +21,13 @@ half h = group (h / 2 ^ 48) ++ 58 ∷ (group (h / 2 ^ 32 % 65536) ++ 58 ∷ (gro
 unfoldable pub groups : ℕ → List ℕ
 groups v = half (v / 2 ^ 64) ++ 58 ∷ half (v % 2 ^ 64)
 
--- ---- reading the written form alone
+-- ---- reading only the written form
 
 -- the value of a hexadecimal digit in lower case
 unfoldable pub hex_of : ℕ → Option ℕ
 hex_of b = if nat_le 48 b && nat_le b 57 then Some (b - 48) else (if nat_le 97 b && nat_le b 102 then Some (b - 87) else None)
 
--- the number that has this hexadecimal text of one to four digits: no zero leads
+-- the number with this hexadecimal text of one to four digits, without a leading zero
 unfoldable pub group_of : List ℕ → Option ℕ
 group_of (a ∷ []) = hex_of a
 group_of (a ∷ b ∷ []) = if a == 48 then None else do

@@ -1,4 +1,4 @@
--- The words of a line, one after another.
+-- The words of a line, in order.
 use Rattle.std.specs.Prelude.{ℕ, Bool, true, false, ◌==◌, List, [], ◌∷◌, Option, Some, None}
 use Rattle.std.specs.Option.{option_map}
 use Rattle.std.specs.List.{slice_split}
@@ -14,7 +14,7 @@ Words = List (List ℕ)
 abbrev pub words : List ℕ → Words
 words line = slice_split (λ b. b == 32) line
 
--- what is read in the first word, and the words behind it
+-- the result of reading the first word, and the words after it
 abbrev pub in_first : {A : Type 0} → (List ℕ → Option A) → Words → Option (A × Words)
 in_first read [] = None
 in_first read (w ∷ ws) = option_map (λ x. (x, ws)) (read w)
@@ -34,7 +34,7 @@ abbrev pub none_left : Words → Bool
 none_left [] = true
 none_left (w ∷ ws) = false
 
--- those of the rest of a line, where there is a rest
+-- the words of the rest of a line, if there is a rest
 abbrev pub words_left : Option (Bor (List ℕ)) → Words
 words_left None = []
 words_left (Some rest) = words rest.now

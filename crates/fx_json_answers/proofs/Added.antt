@@ -1,5 +1,5 @@
 -- The members of an object that was built member by member.
-use Rattle.std.proofs.Common.{◌≡◌, ◌∙◌, ℕ, Bool, true, false, List, Option, Some, None, ap, refl, sym, subst, codes, true≢false}
+use Rattle.std.proofs.Common.{◌≡◌, ◌∙◌, ℕ, true, false, List, Option, Some, None, ap, refl, sym, subst, codes, true≢false}
 use Rattle.std.specs.Prelude.{IfOk, IfSome, Result, Ok, Err, is_some, unwrap_or}
 use Rattle.std.specs.Str.{bytes_eq}
 use Rattle.std.specs.declared.alloc.AllocError.{AllocError}

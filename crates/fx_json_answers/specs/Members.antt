@@ -6,7 +6,7 @@ use Rattle.serde_json.specs.View.{view, members_view}
 use Rattle.serde_json.specs.declared.value.Value.{Value}
 use Rattle.fx_json_answers.specs.declared.members.Members.{Members as Building}
 
--- none after a failed allocation
+-- no value after a failed allocation
 abbrev pub unless : {A : Type 0} → Bool → A → Option A
 unless true a = None
 unless false a = Some a
@@ -14,11 +14,11 @@ unless false a = Some a
 abbrev pub built : Building → Option Members
 built m = unless m.is_short (members_view m.map.entries)
 
--- a value was made, and the data are what it means
+-- a value was made, and the data is its meaning
 abbrev pub IsView : Result Value AllocError → Data → Type 0
 IsView made d = (v : Value) × (made ≡ Ok v) × (d ≡ view v)
 
--- members with one more, whose data are such
+-- members with one added, whose data satisfies the predicate
 pub record IsAdded (key : List ℕ) (Is : Data → Type 0) (old : Option Members) (new : Members) : Type 0 where
   pub before : Members
   pub value : Data

@@ -24,19 +24,19 @@ abbrev pub has_bits : Option Part → ℕ → Bool
 has_bits None bits = false
 has_bits (Some part) bits = nat_le bits part.bits
 
--- the layout has the axis with at least so many bits
+-- the layout has the axis with at least this number of bits
 abbrev pub reads : Layout → Axis → ℕ → Bool
 reads layout axis bits = has_bits (part_at layout axis) bits
 
--- the layout reads all parts of the other
+-- every part of the other layout can be read from this layout
 abbrev pub refines : Layout → Layout → Bool
 refines layout other = list_all (λ part. reads layout part.axis part.bits) other
 
--- all bits of an axis, or the leading ones of an address
+-- a part has all bits of an axis, or the leading bits of an address
 abbrev pub can_stand : Part → Bool
 can_stand part = nat_le 1 part.bits && (part.bits == axis_width part.axis || (is_address part.axis && nat_le part.bits (axis_width part.axis)))
 
--- a part more, before the first part of a later axis
+-- the layout with a part added, before the first part of a later axis
 abbrev pub with_part : Layout → Part → Layout
 with_part [] new = new ∷ []
 with_part (part ∷ parts) new = if nat_lt (axis_index new.axis) (axis_index part.axis) then new ∷ part ∷ parts else part ∷ with_part parts new
@@ -46,12 +46,12 @@ abbrev pub Fits : Layout → Type 0
 Fits [] = Unit {0}
 Fits (part ∷ parts) = (part.bits ≤ axis_width part.axis) × Fits parts
 
--- the axes come in order, each at most once, from this place on
+-- the axes are in order, each at most once, from this index on
 abbrev pub AxesAscend : ℕ → Layout → Type 0
 AxesAscend from [] = Unit {0}
 AxesAscend from (part ∷ parts) = (from ≤ axis_index part.axis) × AxesAscend (suc (axis_index part.axis)) parts
 
--- what a layout keeps
+-- the invariant of a layout
 pub record IsLayout (layout : Layout) : Type 0 where
   pub stands : list_all can_stand layout ≡ true
   pub ascends : AxesAscend 0 layout
@@ -65,7 +65,7 @@ HasBits (part ∷ parts) (value ∷ values) = (value < 2 ^ part.bits) × HasBits
 HasBits [] (value ∷ values) = ⊥
 HasBits (part ∷ parts) [] = ⊥
 
--- the leading bits of a value that has so many
+-- the leading bits of a value of this width
 abbrev pub leading_bits : ℕ → ℕ → ℕ → ℕ
 leading_bits width bits value = value / 2 ^ (width - bits)
 
@@ -75,7 +75,7 @@ key_of layout fields = record {
   values = map (λ part. leading_bits (axis_width part.axis) part.bits (field fields part.axis)) layout;
 }
 
--- the leading bits of what stands for an axis
+-- the leading bits of the value for an axis
 abbrev pub cut_in : Layout → List ℕ → Axis → ℕ → ℕ
 cut_in (part ∷ parts) (value ∷ values) axis bits =
     if same_axis part.axis axis then leading_bits part.bits bits value else cut_in parts values axis bits
@@ -84,7 +84,7 @@ cut_in _ _ axis bits = 0
 abbrev pub bits_on : Key → Axis → ℕ → ℕ
 bits_on key axis bits = cut_in key.layout key.values axis bits
 
--- the key under a layout that its own refines
+-- the key projected to a layout that its own layout refines
 abbrev pub project : Key → Layout → Key
 project key layout = record { layout = layout; values = map (λ part. bits_on key part.axis part.bits) layout }
 
@@ -96,7 +96,7 @@ same_layout _ _ = false
 abbrev pub same_key : Key → Key → Bool
 same_key a b = same_layout a.layout b.layout && bytes_eq a.values b.values
 
--- a list of values comes before another: by the first value that differs
+-- a list of values comes before another, decided by the first value that differs
 abbrev pub comes_before : List ℕ → List ℕ → Bool
 comes_before [] [] = false
 comes_before [] (w ∷ ws) = true

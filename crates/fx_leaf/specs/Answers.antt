@@ -1,4 +1,4 @@
--- What is to be said of a region's packets on a path, beside the leaf that is sound.
+-- What can be said about a region's packets on a path, besides the sound leaf.
 use Rattle.std.specs.Prelude.{◌≡◌, ℕ, ◌<◌, true, List, length, Some, None}
 use Rattle.fx_boxes.specs.Boxes.{Bounds, IsRegion, holds}
 use Rattle.fx_elements.specs.Axes.{Fields}
@@ -17,31 +17,31 @@ use Rattle.fx_leaf.specs.Tables.{Numbering, Numbers, Table}
 abbrev pub NothingCuts : Net → List Crossing → Bounds → Type 0
 NothingCuts net path region = SelectionsUncut net path region × MatchesUncut net path region
 
--- all its packets have this fate
+-- all packets of the region have this fate
 abbrev pub AllHave : Net → List Crossing → Bounds → Fate → Type 0
 AllHave net path region f = (fields : Fields) → holds region fields ≡ true → packet_fate net fields path ≡ f
 
--- ---- what verdicts say
+-- ---- what verdicts mean
 
--- where there is none, something cuts the region
+-- if there is no verdict, something cuts the region
 abbrev pub NoneIsCut : Net → List Crossing → Bounds → Type 0
 NoneIsCut net path region = path_verdict net region path ≡ None → NothingCuts net path region → ⊥
 
--- where there is one, nothing does, and it is the fate of all packets of the region
+-- if there is a verdict, nothing cuts the region, and the verdict is the fate of all its packets
 abbrev pub SomeIsFate : Net → List Crossing → Bounds → Type 0
 SomeIsFate net path region = (f : Fate) → path_verdict net region path ≡ Some f → NothingCuts net path region × AllHave net path region f
 
--- where it is once, its counter makes a sound leaf
+-- if the verdict is `Once`, the selection process that counts the packets makes a sound leaf
 abbrev pub OnceIsSound : Net → List Crossing → Bounds → Type 0
 OnceIsSound net path region =
     path_verdict net region path ≡ Some Once → (s : SelectionVerdict) × (counter net region path ≡ Some s) × SoundLeaf net path region s.crossing s.point s.process
 
--- and there is no other
+-- no other selection process makes a sound leaf
 abbrev pub NoOtherIsSound : Net → List Crossing → Bounds → Type 0
 NoOtherIsSound net path region =
     (crossing point process : ℕ) → SoundLeaf net path region crossing point process → (path_verdict net region path ≡ Some Once) × ((s : SelectionVerdict) → counter net region path ≡ Some s → (s.crossing ≡ crossing) × (s.point ≡ point) × (s.process ≡ process))
 
--- where it is never, and only there, no packet of the region is counted
+-- the verdict is `Never` if and only if no packet of the region is counted
 abbrev pub NeverIsSound : Net → List Crossing → Bounds → Type 0
 NeverIsSound net path region = path_verdict net region path ≡ Some Never → SoundNever net path region
 
@@ -53,7 +53,7 @@ OnEveryRegion says = (net : Net) (path : List Crossing) (region : Bounds) → Is
 
 -- ---- tables
 
--- a table whose marked entries agree with those that they are worked out from has the verdicts there
+-- a table whose marked entries agree with the entries from which they are computed holds the verdicts at the marks
 abbrev pub TableIsVerdicts : Type 0
 TableIsVerdicts =
     (net : Net) (n : Numbering) (region : Bounds) (marks : List ℕ) (table : Table) → IsRanked net → Numbers net n → net.report < length net.processes → length table ≡ length net.processes → IsClosed net n marks → Agrees net n region marks table → (process number : ℕ) → IsMarked marks process number → IsVerdict net n region table process number

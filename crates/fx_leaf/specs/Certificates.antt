@@ -1,4 +1,4 @@
--- Certificates: for each path of each class a tree of splits, with a leaf for each part that is left.
+-- Certificates: for each path of each class a tree of splits, with a leaf for each remaining part.
 use Rattle.std.specs.Prelude.{◌≡◌, ℕ, Bool, true, false, List, Some}
 use Rattle.fx_elements.specs.declared.axis.Axis.{Axis}
 use Rattle.fx_elements.specs.Axes.{Fields, axis_index}
@@ -15,7 +15,7 @@ pub data Tree : Type 0 where
   Uncounted : Tree
   Split : (axis : Axis) (at : ℕ) (below above : Tree) → Tree
 
--- each split is strictly inside its region, and each leaf is sound and of the kind that the class wants
+-- each split is strictly inside its region, and each leaf is sound and of the kind that the class requires
 abbrev pub SoundTree : Net → List Crossing → Bool → Bounds → Tree → Type 0
 SoundTree net path exempt region (Leaf crossing point process) = (exempt ≡ false) × SoundLeaf net path region crossing point process
 SoundTree net path exempt region Uncounted = (exempt ≡ true) × SoundNever net path region
@@ -27,7 +27,7 @@ abbrev pub Sound : Net → List Class → List (List Tree) → Type 0
 Sound net classes trees =
     (c m : ℕ) (class : Class) (path : List Crossing) → entry_numbered classes c ≡ Some class → entry_numbered class.paths m ≡ Some path → (tree : Tree) × (entry_numbered (entries (entry_numbered trees c)) m ≡ Some tree) × SoundTree net path class.exempt class.region tree
 
--- each packet of a class, on each of its paths, has the fate that the class wants
+-- each packet of a class has, on each of the paths of the class, the fate that the class requires
 abbrev pub AllAsWanted : Net → List Class → Type 0
 AllAsWanted net classes =
     (c m : ℕ) (class : Class) (path : List Crossing) (fields : Fields) → entry_numbered classes c ≡ Some class → entry_numbered class.paths m ≡ Some path → holds class.region fields ≡ true → packet_fate net fields path ≡ wanted_fate class.exempt

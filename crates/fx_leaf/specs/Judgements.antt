@@ -1,4 +1,4 @@
--- What is to be said of a region's packets on a path, in one judgement.
+-- What can be said about a region's packets on a path, as a single judgement.
 use Rattle.std.specs.Prelude.{List}
 use Rattle.fx_boxes.specs.Boxes.{Bounds}
 use Rattle.fx_tables.specs.declared.traffic.Crossing.{Crossing}
@@ -10,7 +10,7 @@ use Rattle.fx_leaf.specs.Answers.{NothingCuts, AllHave}
 use Rattle.fx_leaf.specs.SoundLeaves.{SoundLeaf, SoundNever}
 use Rattle.fx_leaf.specs.Splits.{IsSplit}
 
--- something cuts the region and has this bound inside it, or nothing does and all packets have this fate
+-- something cuts the region and has this bound strictly inside it, or nothing cuts the region and all its packets have this fate
 abbrev pub IsJudged : Net → List Crossing → Bounds → Judgement → Type 0
 IsJudged net path region (Cut axis at) = (NothingCuts net path region → ⊥) × IsSplit net path region axis at
 IsJudged net path region (Once c) = SoundLeaf net path region c.crossing c.point c.process × AllHave net path region fates.Once

@@ -1,4 +1,4 @@
--- The laws of the quantity, and the theorem.
+-- The laws of the quantity, and the main theorem.
 use Rattle.std.specs.Prelude.{◌≡◌, ◌≢◌, List, All, Ok, length}
 use Rattle.std.specs.Option.{option_map}
 use Rattle.fx_layout.specs.Keys.{Key}
@@ -15,35 +15,35 @@ use Rattle.fx_tables.specs.Ranks.{IsNetwork}
 use Rattle.fx_leaf.specs.Certificates.{Tree, Sound}
 use Rattle.fx_leaf.specs.Quantity.{Wrong, quantity, total_weight, wrapped_weight, unassigned_weight, plus}
 
--- a place for each holder and each link
+-- the state has a list for each holder and each link
 pub record IsSized (net : Net) (s : State) : Type 0 where
   pub held : length s.held ≡ length net.holders
   pub carried : length s.carried ≡ length net.links
 
--- in the opening state it is the plain sums over the packets to count
+-- in the opening state the quantity equals the plain sums over the packets to count
 abbrev pub Opens : Net → List Class → Type 0
 Opens net classes =
     (packets : List Packet) → All (λ p. IsOf p (entry_numbered classes p.class)) packets → SumsFit net.report_layout (to_count classes packets) → (total : Key) → quantity net classes packets total (opening net classes packets) ≡ total_weight (plain_sum net.report_layout total (to_count classes packets))
 
--- modulo 2 to the 64, however large they are
+-- the same modulo 2 to the 64, however large the sums are
 abbrev pub OpensModulo : Net → List Class → Type 0
 OpensModulo net classes =
     (packets : List Packet) → All (λ p. IsOf p (entry_numbered classes p.class)) packets → (total : Key) → wrapped_weight (quantity net classes packets total (opening net classes packets)) ≡ total_weight (option_map counts_modulo (plain_sum net.report_layout total (to_count classes packets)))
 
--- a step keeps it, where nothing has gone wrong before
+-- a step preserves the quantity, unless it was wrong before
 abbrev pub Keeps : Net → List Class → Step → Type 0
 Keeps net classes step =
     (packets : List Packet) (total : Key) (s new : State) → IsSized net s → quantity net classes packets total s ≢ Wrong → after net classes packets step s ≡ Ok new → (quantity net classes packets total new ≡ quantity net classes packets total s) × IsSized net new
 
--- in a complete state it is the totals
+-- in a complete state the quantity equals the totals
 abbrev pub Ends : Net → List Class → Type 0
 Ends net classes =
     (packets : List Packet) (total : Key) (s : State) → Complete s → quantity net classes packets total s ≡ plus (unassigned_weight s.unassigned) (total_weight (total_at s.totals total))
 
--- where a certificate is sound, each packet is counted once, and those of exempt classes never
+-- if a certificate is sound, each packet is counted once, and packets of exempt classes never
 abbrev pub Theorem : Type 0
 Theorem = (net : Net) (classes : List Class) (trees : List (List Tree)) → IsNetwork net → Sound net classes trees → ExactlyOnce net classes
 
--- and however large the sums are, modulo 2 to the 64
+-- the same modulo 2 to the 64, however large the sums are
 abbrev pub TheoremModulo : Type 0
 TheoremModulo = (net : Net) (classes : List Class) (trees : List (List Tree)) → IsNetwork net → Sound net classes trees → OnceModulo net classes

@@ -1,4 +1,4 @@
--- What is to be answered of the packets of a region on a path: the leaf that is sound, or why there is none.
+-- The answer for the packets of a region on a path: the sound leaf, or why there is none.
 use Rattle.std.specs.Prelude.{◌≡◌, List, map, Option, Some, None, Result, Ok, Err}
 use Rattle.fx_base.specs.declared.fault.Fault.{Fault}
 use Rattle.fx_base.specs.declared.fault.Place.TheVariants as places
@@ -13,28 +13,28 @@ use Rattle.fx_leaf.specs.declared.verdict.Fate.TheVariants.{Never, Once, Many, D
 use Rattle.fx_leaf.specs.Answers.{NothingCuts, AllHave}
 use Rattle.fx_leaf.specs.Verdicts.{Verdict, SelectionVerdict, verdict_of_both, verdict_of_all, last_counter, path_verdict, counter}
 
--- the numbers of a selection process, if there is one
+-- the numbers that identify a selection process, if there is one
 abbrev pub numbers_of : Option SelectionVerdict → Option Counted
 numbers_of None = None
 numbers_of (Some s) = Some (record { crossing = s.crossing; point = s.point; process = s.process })
 
--- nothing is counted so far
+-- nothing has been counted so far
 abbrev pub nothing_known : PathFate
 nothing_known = record { fate = Never; counted = None }
 
--- what is known with these verdicts too, none of which is cut: all of them together, and the last that is once
+-- the state after adding these verdicts, none of which is cut: their combination, and the last selection process with verdict `Once`
 pub record AddsVerdicts (before after : PathFate) (verdicts : List SelectionVerdict) : Type 0 where
   pub verdict : Some after.fate ≡ verdict_of_both (Some before.fate) (verdict_of_all (map (λ s. s.verdict) verdicts))
   pub counted : (found : Option SelectionVerdict) → before.counted ≡ numbers_of found → after.counted ≡ numbers_of (last_counter found verdicts)
 
--- what is known of the packets of a region on a path, and, where they are counted once, by which selection process
+-- the fate of a region's packets on a path and, if they are counted once, the selection process that counts them
 pub record IsPathFate (net : Net) (path : List Crossing) (region : Bounds) (t : PathFate) : Type 0 where
   pub verdict : Some t.fate ≡ path_verdict net region path
   pub counted : t.fate ≡ Once → t.counted ≡ numbers_of (counter net region path)
 
 -- ---- the answer
 
--- the fault where the verdict isn't once
+-- the fault for a verdict other than `Once`
 abbrev pub fault_of : Verdict → Fault
 fault_of None = fault_at cut_region places.None
 fault_of (Some Unassigned) = fault_at unassigned_record places.None
@@ -43,7 +43,7 @@ fault_of (Some Many) = fault_at counted_more_than_once places.None
 fault_of (Some Once) = fault_at never_counted places.None
 fault_of (Some Never) = fault_at never_counted places.None
 
--- the selection process that counts the packets, where their verdict is once; there always is one then
+-- the selection process that counts the packets, if their verdict is `Once`; in that case there always is one
 abbrev pub leaf_of : Verdict → Option Counted → Result Counted Fault
 leaf_of None counted = Err (fault_of None)
 leaf_of (Some Unassigned) counted = Err (fault_of (Some Unassigned))
@@ -57,7 +57,7 @@ leaf_of (Some Once) (Some c) = Ok c
 abbrev pub path_leaf : Net → List Crossing → Bounds → Result Counted Fault
 path_leaf net path region = leaf_of (path_verdict net region path) (numbers_of (counter net region path))
 
--- why no leaf is sound for the region, by number
+-- why no leaf is sound for the region, as a fault number
 pub data NoneIsSound (net : Net) (path : List Crossing) (region : Bounds) : Fault → Type 0 where
   cut : (NothingCuts net path region → ⊥) → NoneIsSound net path region (fault_at cut_region places.None)
   unassigned : NothingCuts net path region → AllHave net path region Unassigned → NoneIsSound net path region (fault_at unassigned_record places.None)
@@ -65,9 +65,9 @@ pub data NoneIsSound (net : Net) (path : List Crossing) (region : Bounds) : Faul
   many : NothingCuts net path region → AllHave net path region Many → NoneIsSound net path region (fault_at counted_more_than_once places.None)
   never : NothingCuts net path region → AllHave net path region Never → NoneIsSound net path region (fault_at never_counted places.None)
 
--- ---- the answer where the packets are exempt
+-- ---- the answer for exempt packets
 
--- nothing is counted, or why something is: as above, and 415 where the packets are counted once
+-- success if nothing is counted, otherwise the reason: as above, and 415 if the packets are counted once
 abbrev pub never_of : Verdict → Result (Unit {0}) Fault
 never_of None = Err (fault_of None)
 never_of (Some Unassigned) = Err (fault_of (Some Unassigned))
@@ -76,7 +76,7 @@ never_of (Some Many) = Err (fault_of (Some Many))
 never_of (Some Once) = Err (fault_at exempt_counted places.None)
 never_of (Some Never) = Ok tt
 
--- why the packets of a region aren't all left uncounted, by number
+-- why some packets of a region are counted, as a fault number
 pub data NeverIsUnsound (net : Net) (path : List Crossing) (region : Bounds) : Fault → Type 0 where
   cut : (NothingCuts net path region → ⊥) → NeverIsUnsound net path region (fault_at cut_region places.None)
   unassigned : NothingCuts net path region → AllHave net path region Unassigned → NeverIsUnsound net path region (fault_at unassigned_record places.None)

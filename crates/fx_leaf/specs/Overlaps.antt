@@ -1,4 +1,4 @@
--- How much of a region a test of packets passes for: the whole, nothing, or a part only.
+-- How much of a region passes a test of packets: the whole, nothing, or only a part.
 use Rattle.std.specs.Prelude.{◌≡◌, ℕ, ◌+◌, ◌-◌, ◌*◌, ◌^◌, Bool, true, false, ◌&&◌, nat_le, nat_lt, max, min, List, [], ◌∷◌, map, Option, Some, None, if◌then◌else◌, slice_index, ◌==◌}
 use Rattle.std.specs.List.{list_all, list_any}
 use Rattle.fx_elements.specs.declared.axis.Axis.{Axis}
@@ -16,22 +16,22 @@ low_at b axis = slice_index b.low (axis_index axis)
 abbrev pub high_at : Bounds → Axis → ℕ
 high_at b axis = slice_index b.high (axis_index axis)
 
--- what is in both
+-- the intersection of two regions
 abbrev pub common : Bounds → Bounds → Bounds
 common a b = record { low = map (λ axis. max (low_at a axis) (low_at b axis)) axes; high = map (λ axis. min (high_at a axis) (high_at b axis)) axes }
 
 abbrev pub is_empty : Bounds → Bool
 is_empty b = list_any (λ axis. nat_lt (high_at b axis) (low_at b axis)) axes
 
--- on each axis the first is within the second
+-- on each axis the first region is within the second
 abbrev pub is_within : Bounds → Bounds → Bool
 is_within a b = list_all (λ axis. nat_le (low_at b axis) (low_at a axis) && nat_le (high_at a axis) (high_at b axis)) axes
 
--- how much of a region is in the other too: a part only where the other cuts it
+-- how much of a region is also in the other: only a part if the other cuts it
 abbrev pub region_overlap : Bounds → Bounds → Overlap
 region_overlap region other = if is_empty (common region other) then Nothing else if is_within region other then Whole else Part
 
--- how much of it a selection process selects, which selects no packet or those of a region
+-- how much of a region a selection process selects; the process selects either no packet or the packets of another region
 abbrev pub selection_overlap : Bounds → Option Bounds → Overlap
 selection_overlap region None = Nothing
 selection_overlap region (Some other) = region_overlap region other
@@ -57,14 +57,14 @@ entry_fields e = record {
   high = map (λ axis. if same_axis axis e.axis then entry_high e else slice_index tops (axis_index axis)) axes;
 }
 
--- the fields for which a match, taken whole, holds
+-- the fields that satisfy a whole match
 abbrev pub match_fields : List MatchEntry → Bounds
 match_fields [] = all_fields
 match_fields (e ∷ es) = common (entry_fields e) (match_fields es)
 
--- ---- what an overlap says
+-- ---- what an overlap means
 
--- for so much of the region a test passes
+-- the overlap is how much of the region passes the test
 pub record IsOverlap (region : Bounds) (test : Fields → Bool) (overlap : Overlap) : Type 0 where
   pub whole : overlap ≡ Whole → (fields : Fields) → holds region fields ≡ true → test fields ≡ true
   pub nothing : overlap ≡ Nothing → (fields : Fields) → holds region fields ≡ true → test fields ≡ false

@@ -1,4 +1,4 @@
--- What every step keeps: the totals, with each record on its way and each crossing to come weighed by its fate.
+-- The invariant of every step: the totals, with each record in transit and each pending crossing weighted by its fate.
 use Rattle.std.specs.Prelude.{ℕ, zero, suc, List, [], ◌∷◌, Option, Some, None, slice_get, if◌then◌else◌}
 use Rattle.fx_base.specs.declared.counts.Counts.{Counts}
 use Rattle.fx_base.specs.Counts.{add_counts}
@@ -23,7 +23,7 @@ pub data Weight : Type 0 where
   Nothing : Weight  -- not even an entry
   Counted : (counts : Counts) → Weight
 
--- both together: counts add up modulo 2 to the 64
+-- the sum of two weights: counts are added modulo 2 to the 64
 abbrev pub plus : Weight → Weight → Weight
 plus Wrong y = Wrong
 plus Nothing y = y
@@ -35,16 +35,16 @@ abbrev pub weigh_all : {A : Type 0} → (A → Weight) → List A → Weight
 weigh_all f [] = Nothing
 weigh_all f (x ∷ xs) = plus (f x) (weigh_all f xs)
 
--- by the place of each
+-- the sum of the weights of all items, each computed with the item's index
 abbrev pub weigh_each : {A : Type 0} → (ℕ → A → Weight) → List A → Weight
 weigh_each f [] = Nothing
 weigh_each f (x ∷ xs) = plus (f 0 x) (weigh_each (λ n. f (suc n)) xs)
 
--- counts under a key that the report's layout cuts to this one
+-- the counts, if the report's layout projects the key to this report key
 abbrev pub part_of : Net → Key → Key → Counts → Weight
 part_of net total key counts = if same_key (project key net.report_layout) total then Counted counts else Nothing
 
--- nothing where it is never counted, its part where it is counted once
+-- nothing if the record is never counted, its weight if it is counted once
 abbrev pub by_fate : Fate → Weight → Weight
 by_fate Never w = Nothing
 by_fate Once w = w
@@ -80,7 +80,7 @@ abbrev pub total_weight : Option Counts → Weight
 total_weight None = Nothing
 total_weight (Some counts) = Counted counts
 
--- modulo 2 to the 64
+-- the weight modulo 2 to the 64
 abbrev pub wrapped_weight : Weight → Weight
 wrapped_weight Wrong = Wrong
 wrapped_weight Nothing = Nothing
@@ -90,8 +90,8 @@ abbrev pub unassigned_weight : ℕ → Weight
 unassigned_weight zero = Nothing
 unassigned_weight (suc n) = Wrong
 
--- the totals at a report key, each held record, each record on a link and each crossing to come; a record that
--- is unassigned makes it wrong
+-- the sum of the totals at a report key, each held record, each record on a link and each pending crossing; a record that
+-- is unassigned makes the sum wrong
 abbrev pub quantity_by : FateAt → Net → List Class → List Packet → Key → State → Weight
 quantity_by at net classes packets total s =
     plus (unassigned_weight s.unassigned) (plus (total_weight (total_at s.totals total)) (plus (weigh_each (held_weight at net total) s.held) (plus (weigh_each (carried_weight at net total) s.carried) (weigh_all (coming_weight at net classes packets total) s.coming))))

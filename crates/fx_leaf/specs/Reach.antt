@@ -1,4 +1,4 @@
--- Marks of the entries of the table that the verdict on a path is worked out from: for each collecting process a number,
+-- Marks of the table entries from which the verdict on a path is computed: for each collecting process a number,
 -- whose bits are layouts.
 use Rattle.std.specs.Prelude.{◌≡◌, ◌<◌, ◌==◌, ◌^◌, ℕ, true, List, [], ◌∷◌, ◌++◌, map, length, Contains, Option, Some, None, slice_get, slice_index, slice_set, bit_or, if◌then◌else◌}
 use Rattle.std.specs.Int.{bit_at}
@@ -17,7 +17,7 @@ use Rattle.fx_leaf.specs.Verdicts.{verdict}
 abbrev pub IsMarked : List ℕ → ℕ → ℕ → Type 0
 IsMarked marks process number = bit_at (slice_index marks process) number ≡ 1
 
--- what is marked stays so
+-- existing marks are kept
 abbrev pub KeepsMarks : List ℕ → List ℕ → Type 0
 KeepsMarks old new = (process number : ℕ) → IsMarked old process number → IsMarked new process number
 
@@ -30,17 +30,17 @@ pub record Feeds (net : Net) (exporters : List Exporter) (process : ℕ) : Type 
   pub leads : slice_get net.links link ≡ Some process
   pub there : process < length net.processes
 
--- ---- of collecting processes and layouts by number: what holds wherever records come
+-- ---- properties of collecting processes and layouts by number, that hold wherever records arrive
 
--- wherever these exporting processes send records of the layout of this number
+-- the property holds wherever these exporting processes send records of the layout of this number
 abbrev pub HoldsWhereSent : Net → (ℕ → ℕ → Type 0) → ℕ → List Exporter → Type 0
 HoldsWhereSent net holds number exporters = (process : ℕ) → Feeds net exporters process → holds process number
 
--- wherever the records of a holder are sent
+-- the property holds wherever the records of a holder are sent
 abbrev pub HoldsBehindHolder : Net → Numbering → (ℕ → ℕ → Type 0) → ℕ → Type 0
 HoldsBehindHolder net n holds holder = HoldsWhereSent net holds (number_of_layout n holder) (exporters_of net (slice_get net.holders holder))
 
--- wherever a collecting process sends records of the layout of this number, or its aggregations send theirs
+-- the property holds wherever a collecting process sends records of the layout of this number, or its aggregations send theirs
 abbrev pub HoldsBehindProcess : Net → Numbering → (ℕ → ℕ → Type 0) → ℕ → Process → Type 0
 HoldsBehindProcess net n holds number process =
     HoldsWhereSent net holds number (at_places net.exporters process.exporters) × ((a : AggregationEntry) → Contains process.aggregations a → HoldsBehindHolder net n holds a.holder)
@@ -49,7 +49,7 @@ abbrev pub HoldsBehind : Net → Numbering → (ℕ → ℕ → Type 0) → ℕ 
 HoldsBehind net n holds number None = Unit {0}
 HoldsBehind net n holds number (Some process) = HoldsBehindProcess net n holds number process
 
--- wherever records of packets that take a path are sent first
+-- the property holds wherever records of packets that take a path are first sent
 abbrev pub HoldsBehindSelection : Net → Numbering → (ℕ → ℕ → Type 0) → Selection → Type 0
 HoldsBehindSelection net n holds s = (holder : ℕ) → s.holder ≡ Some holder → HoldsBehindHolder net n holds holder
 
@@ -63,9 +63,9 @@ HoldsBehindPoints net n holds points crossing =
 abbrev pub HoldsAlongPath : Net → Numbering → (ℕ → ℕ → Type 0) → List Crossing → Type 0
 HoldsAlongPath net n holds path = (s : Selection) → Meets net path s → HoldsBehindSelection net n holds s
 
--- ---- what is marked, and what is filled in there
+-- ---- marked entries, and the verdicts filled in for them
 
--- where a layout is marked, all is marked to which its records lead
+-- if a layout is marked, so is every entry to which its records lead
 abbrev pub IsClosed : Net → Numbering → List ℕ → Type 0
 IsClosed net n marks =
     (process number : ℕ) (p : Process) → IsMarked marks process number → slice_get net.processes process ≡ Some p → HoldsBehindProcess net n (IsMarked marks) number p
@@ -75,40 +75,40 @@ abbrev pub IsVerdict : Net → Numbering → Bounds → Table → ℕ → ℕ �
 IsVerdict net n region table process number =
     (layout : Layout) → slice_get n.layouts number ≡ Some layout → entry table process number ≡ verdict net region process layout
 
--- the entries that are marked are what those that they are worked out from give
+-- each marked entry has the value computed from the entries on which it depends
 abbrev pub Agrees : Net → Numbering → Bounds → List ℕ → Table → Type 0
 Agrees net n region marks table =
     (process number : ℕ) (layout : Layout) → IsMarked marks process number → slice_get n.layouts number ≡ Some layout → entry table process number ≡ entry_from table net n region process number layout
 
--- the entries that are marked are the verdicts
+-- each marked entry is the verdict
 pub record IsFilled (net : Net) (n : Numbering) (region : Bounds) (marks : List ℕ) (table : Table) : Type 0 where
   pub size : length table ≡ length net.processes
   pub closed : IsClosed net n marks
   pub verdicts : (process number : ℕ) → IsMarked marks process number → IsVerdict net n region table process number
 
--- ---- marks are added
+-- ---- adding marks
 
--- these layouts too, at a collecting process
+-- the marks with these layouts added at a collecting process
 abbrev pub marks_at : ℕ → List ℕ → Option ℕ → List ℕ
 marks_at layouts marks None = marks
 marks_at layouts marks (Some process) = slice_set marks process (bit_or (slice_index marks process) layouts)
 
--- at the one to which a destination leads
+-- the same at the collecting process to which a destination leads
 abbrev pub marks_behind : Net → ℕ → List ℕ → Option ℕ → List ℕ
 marks_behind net layouts marks None = marks
 marks_behind net layouts marks (Some link) = marks_at layouts marks (slice_get net.links link)
 
--- at all to which destinations lead
+-- the same at all collecting processes to which these destinations lead
 abbrev pub marks_to : Net → ℕ → List ℕ → List (Option ℕ) → List ℕ
 marks_to net layouts marks [] = marks
 marks_to net layouts marks (d ∷ ds) = marks_to net layouts (marks_behind net layouts marks d) ds
 
--- at all to which exporting processes send
+-- the same at all collecting processes to which these exporting processes send
 abbrev pub marks_by : Net → ℕ → List ℕ → List Exporter → List ℕ
 marks_by net layouts marks [] = marks
 marks_by net layouts marks (e ∷ es) = marks_by net layouts (marks_to net layouts marks e.destinations) es
 
--- the layout of a holder, where its records are sent
+-- the marks with the layout of a holder added wherever its records are sent
 abbrev pub marks_by_holder : Net → Numbering → List ℕ → ℕ → List ℕ
 marks_by_holder net n marks holder =
     marks_by net (2 ^ number_of_layout n holder) marks (exporters_of net (slice_get net.holders holder))
@@ -117,7 +117,7 @@ abbrev pub marks_by_holders : Net → Numbering → List ℕ → List ℕ → Li
 marks_by_holders net n marks [] = marks
 marks_by_holders net n marks (holder ∷ holders) = marks_by_holders net n (marks_by_holder net n marks holder) holders
 
--- the layouts that are marked at a collecting process, where it sends records on, and those of its aggregations
+-- the marks with the layouts marked at a collecting process added wherever it sends records, and those of its aggregations
 abbrev pub marks_on : Net → Numbering → ℕ → List ℕ → Option Process → List ℕ
 marks_on net n layouts marks None = marks
 marks_on net n layouts marks (Some process) =
@@ -127,7 +127,7 @@ abbrev pub marks_from : Net → Numbering → List ℕ → ℕ → List ℕ
 marks_from net n marks process =
     if slice_index marks process == 0 then marks else marks_on net n (slice_index marks process) marks (slice_get net.processes process)
 
--- on from these collecting processes, the last first
+-- the marks spread from these collecting processes, the last first
 abbrev pub spread : Net → Numbering → List ℕ → List ℕ → List ℕ
 spread net n [] marks = marks
 spread net n (process ∷ processes) marks = marks_from net n (spread net n processes marks) process

@@ -1,4 +1,4 @@
--- Verdicts by table: an entry for each collecting process and each layout, which is told by its number.
+-- Verdicts by table: an entry for each collecting process and each layout, which is identified by its number.
 use Rattle.std.specs.Prelude.{◌≡◌, ℕ, ◌<◌, ◌≤◌, List, [], map, length, Contains, Option, Some, None, slice_get, if◌then◌else◌}
 use Rattle.std.specs.List.{AllByRecursion}
 use Rattle.fx_boxes.specs.Boxes.{Bounds}
@@ -14,7 +14,7 @@ use Rattle.fx_leaf.specs.Verdicts.{Verdict, verdict_of_both, verdict_of_all, ove
 
 -- ---- layouts by number
 
--- layouts, and for each holder the number of its own, from 0
+-- layouts, and for each holder the index of its layout
 pub record Numbering : Type 0 where
   pub layouts : List Layout
   pub numbers : List ℕ
@@ -48,7 +48,7 @@ entry_in (Some row) layout = or_never (slice_get row layout)
 abbrev pub entry : Table → ℕ → ℕ → Verdict
 entry table process layout = entry_in (slice_get table process) layout
 
--- ---- what an entry is worked out from: the entries of the processes that this one feeds
+-- ---- the value of an entry, computed from the entries of the processes that this process feeds
 
 abbrev pub taken_entry : Table → Net → Numbering → Bounds → Layout → AggregationEntry → Verdict
 taken_entry table net n region layout a =
@@ -65,14 +65,14 @@ abbrev pub entry_from : Table → Net → Numbering → Bounds → ℕ → ℕ �
 entry_from table net n region process number layout =
     verdict_of_both (tally_verdict net layout process) (handled_entry table net n region number layout (slice_get net.processes process))
 
--- ---- what a plan lends
+-- ---- what a plan provides
 
 pub record Tables : Type 0 where
   pub net : Net
   pub order : List ℕ  -- its collecting processes, in the order in which their rows are filled
   pub numbering : Numbering
 
--- what such tables keep
+-- the invariant of such tables
 pub record AreTables (t : Tables) : Type 0 where
   pub network : IsNetwork t.net
   pub falls : Descends t.net network.ranked.rank [] t.order

@@ -1,4 +1,4 @@
--- The fate of all packets of a region at once: by the layouts of their records, where nothing cuts the region.
+-- The common fate of all packets of a region, computed from the layouts of their records if nothing cuts the region.
 use Rattle.std.specs.Prelude.{ℕ, zero, suc, ◌+◌, Bool, true, false, ◌&&◌, ◌==◌, List, [], ◌∷◌, ◌++◌, map, length, Option, Some, None, slice_get, if◌then◌else◌}
 use Rattle.std.specs.List.{list_all}
 use Rattle.fx_boxes.specs.Boxes.{Bounds}
@@ -16,11 +16,11 @@ use Rattle.fx_leaf.specs.Fates.{both, either}
 use Rattle.fx_leaf.specs.PathSelections.{PathSelection}
 use Rattle.fx_leaf.specs.Overlaps.{region_overlap, selection_overlap, match_fields}
 
--- the fate of all packets of a region, or none where something cuts the region
+-- the fate of all packets of a region, or none if something cuts the region
 abbrev pub Verdict : Type 0
 Verdict = Option Fate
 
--- ---- verdicts together: a part that is cut cuts the whole
+-- ---- combining verdicts: if one part is cut, so is the whole
 
 abbrev pub verdict_of_both : Verdict → Verdict → Verdict
 verdict_of_both None w = None
@@ -41,15 +41,15 @@ verdict_of_one [] = Some Never
 verdict_of_one (v ∷ []) = v
 verdict_of_one (v ∷ w ∷ vs) = verdict_of_either v (verdict_of_one (w ∷ vs))
 
--- what happens where a test passes, by how much of the region it passes for
+-- the verdict after a test, by how much of the region passes it
 abbrev pub overlap_verdict : Overlap → Verdict → Verdict
 overlap_verdict Part v = None
 overlap_verdict Whole v = v
 overlap_verdict Nothing v = Some Never
 
--- ---- the verdict on records of a layout, where those at collecting processes are known
+-- ---- the verdict on records of a layout, given the verdicts at collecting processes
 
--- at each collecting process, on records of the layouts that are told in some way
+-- verdicts at each collecting process, on records of layouts in some representation
 abbrev pub At : Type 0 → Type 0
 At L = ℕ → L → Verdict
 
@@ -70,7 +70,7 @@ send_verdict at net layout exporter =
     then verdict_of_all (map (destination_verdict at net layout) exporter.destinations)
     else verdict_of_one (map (destination_verdict at net layout) exporter.destinations)
 
--- each of these exporting processes sends it
+-- each of these exporting processes sends the records
 abbrev pub sent_verdict : {L : Type 0} → At L → Net → L → List Exporter → Verdict
 sent_verdict at net layout exporters = verdict_of_all (map (send_verdict at net layout) exporters)
 
@@ -96,14 +96,14 @@ handled_verdict at net region layout None = Some Never
 handled_verdict at net region layout (Some process) =
     verdict_of_both (sent_verdict at net layout (at_places net.exporters process.exporters)) (verdict_of_all (map (taken_verdict at net region layout) process.aggregations))
 
--- records that come to a collecting process
+-- records that arrive at a collecting process
 abbrev pub coming_verdict : VerdictAt → Net → Bounds → ℕ → Layout → Verdict
 coming_verdict at net region process layout =
     verdict_of_both (tally_verdict net layout process) (handled_verdict at net region layout (slice_get net.processes process))
 
 -- ---- the verdict on records of a layout at a collecting process
 
--- over so many processes in a row
+-- the verdict computed for at most this number of consecutive processes
 abbrev pub verdict_within : Net → Bounds → ℕ → VerdictAt
 verdict_within net region zero process layout = Some Never
 verdict_within net region (suc n) process layout = coming_verdict (verdict_within net region n) net region process layout
@@ -113,7 +113,7 @@ verdict net region = verdict_within net region (length net.processes)
 
 -- ---- the verdict on a path
 
--- a selection process that meets the packets, and the verdict on what it selects of them
+-- a selection process that meets the packets, and the verdict on the packets it selects
 pub record SelectionVerdict : Type 0 where
   pub crossing : ℕ
   pub point : ℕ
@@ -140,7 +140,7 @@ path_verdicts at net region n [] = []
 path_verdicts at net region n (c ∷ cs) =
     crossing_verdicts at net region n 1 (points_of (entry_numbered net.devices c.device)) c ++ path_verdicts at net region (n + 1) cs
 
--- the same of selection processes that a path meets, in some order
+-- the same for the selection processes along a path, in some order
 abbrev pub verdicts_of : VerdictAt → Net → Bounds → List PathSelection → List SelectionVerdict
 verdicts_of at net region [] = []
 verdicts_of at net region (s ∷ ss) =
@@ -153,11 +153,11 @@ abbrev pub is_once : Verdict → Bool
 is_once (Some Once) = true
 is_once _ = false
 
--- the last of them that is counted once, or else this
+-- the last of these with the verdict `Once`, or else the given one
 abbrev pub last_counter : Option SelectionVerdict → List SelectionVerdict → Option SelectionVerdict
 last_counter found [] = found
 last_counter found (s ∷ ss) = last_counter (if is_once s.verdict then Some s else found) ss
 
--- the selection process that counts the packets, where their verdict is once
+-- the selection process that counts the packets, if their verdict is `Once`
 abbrev pub counter : Net → Bounds → List Crossing → Option SelectionVerdict
 counter net region path = last_counter None (path_verdicts (verdict net region) net region 1 path)

@@ -8,7 +8,7 @@ pub record Waiting : Type 0 where
   pub sender : Sender
   pub batch : List Record
 
--- the records that wait can share a message, and an id is left for their layout
+-- the waiting records can share a message, and a template id is left for their layout
 pub record IsWaiting (w : Waiting) : Type 0 where
   pub batch : Begun w.batch
   pub room : has_room_for w.batch w.sender ≡ true
@@ -22,7 +22,7 @@ pub record Outgoing : Type 0 where
 abbrev pub with_octets : Waiting → List ℕ → Outgoing
 with_octets w octets = record { sender = w.sender; batch = w.batch; octets = octets }
 
--- the records that wait have their message, if there are any
+-- the waiting records are written as a message, if there are any
 abbrev pub after_flush : ℕ → Outgoing → Outgoing
 after_flush time o = elim o.batch [
   | [] ↦ o
@@ -33,7 +33,7 @@ after_flush time o = elim o.batch [
   }
 ]
 
--- a record joins those that wait, or they have their message first
+-- a record joins the waiting ones; if it can't, their message is written first
 abbrev pub with_one : ℕ → Outgoing → Record → Outgoing
 with_one time o r =
     if joins o.batch r then record o { batch = o.batch ++ r ∷ [] } else record (after_flush time o) { batch = r ∷ [] }
@@ -42,7 +42,7 @@ abbrev pub with_all : ℕ → Outgoing → List Record → Outgoing
 with_all time o [] = o
 with_all time o (r ∷ rs) = with_all time (with_one time o r) rs
 
--- Records that are put one after another, and then flushed, have the messages of those that are sent together.
+-- Records that are put in order, and then flushed, yield the messages of records that are sent together.
 abbrev pub FlushesAreSent : Type 0
 FlushesAreSent =
     (time : ℕ) (s : Sender) (octets : List ℕ) (rs : List Record)

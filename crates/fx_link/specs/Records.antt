@@ -1,5 +1,5 @@
--- Flow records as messages have them (RFC 7011, sections 3.2, 3.4.1 and 3.4.3): the key's fields in axis order, then the octets
--- and the packets, each in as many octets as its element is wide.
+-- Flow records as encoded in messages (RFC 7011, sections 3.2, 3.4.1 and 3.4.3): the key's fields in axis order, then the octet
+-- count and the packet count, each in the full width of its element.
 use Rattle.std.specs.Prelude.{ℕ, ◌-◌, ◌*◌, ◌/◌, ◌^◌, ◌==◌, Bool, if◌then◌else◌, List, [], ◌∷◌, ◌++◌, length, None}
 use Rattle.std.specs.Int.{w16, to_be_bytes, bytes_high_first}
 use Rattle.fx_base.specs.declared.counts.Counts.{Counts}
@@ -13,11 +13,11 @@ use Rattle.fx_wire.specs.declared.field.FieldSpecifier.{FieldSpecifier}
 
 -- ---- fields
 
--- an element of the IANA registry in so many octets
+-- an element of the IANA registry with this number of octets
 abbrev pub specifier : ℕ → ℕ → FieldSpecifier
 specifier number octets = record { element = number; field_length = octets; enterprise = None }
 
--- how many octets a value on an axis has
+-- the number of octets of a value on an axis
 abbrev pub axis_octets : Axis → ℕ
 axis_octets axis = axis_width axis / 8
 
@@ -25,7 +25,7 @@ axis_octets axis = axis_width axis / 8
 abbrev pub is_whole : Part → Bool
 is_whole part = part.bits == axis_width part.axis
 
--- the axis's element; of an address's leading bits its prefix, with the prefix's length behind it
+-- the axis's element; for leading bits of an address, its prefix followed by the prefix length
 abbrev pub part_fields : Part → List FieldSpecifier
 part_fields part =
     if is_whole part
@@ -60,7 +60,7 @@ template_octets id layout = to_be_bytes w16 id ++ (to_be_bytes w16 (length (fiel
 abbrev pub whole_octets : Axis → ℕ → List ℕ
 whole_octets axis value = bytes_high_first (axis_octets axis) value
 
--- an address of which only the leading bits may not be 0
+-- an address all of whose bits after the leading ones are 0
 abbrev pub prefix_of : Part → ℕ → ℕ
 prefix_of part value = value * 2 ^ (axis_width part.axis - part.bits)
 

@@ -11,20 +11,20 @@ use Rattle.fx_session.specs.Templates.{Template}
 use Rattle.fx_session.specs.declared.domain.Domain.{Domain}
 use Rattle.fx_link.specs.Records.{fields_of, template_octets, records_octets}
 
--- What the sender on a link keeps.
+-- The state of the sender on a link.
 pub record Sender : Type 0 where
-  -- the layouts that it has sent records of, in the order of first use; their templates have ids from 256 on
+  -- the layouts of the records that it has sent, in the order of first use; their templates have ids from 256
   pub layouts : List Layout
-  -- how many records it has put on the link, modulo 2 to the 32
+  -- the number of records that it has put on the link, modulo 2 to the 32
   pub sent : ℕ
 
--- a link that nothing was put on
+-- the sender of a link that nothing was put on
 abbrev pub new_sender : Sender
 new_sender = record { layouts = []; sent = 0 }
 
 -- ---- a message
 
--- the layout of a message's records: that of the first
+-- the layout of a message's records: that of the first record
 abbrev pub layout_of : List Record → Layout
 layout_of [] = []
 layout_of (r ∷ rs) = r.key.layout
@@ -35,21 +35,21 @@ knows layouts layout = list_any (same_layout layout) layouts
 abbrev pub template_id : List Layout → Layout → ℕ
 template_id layouts layout = 256 + position_or_len (same_layout layout) layouts
 
--- a template set comes first where the link hasn't used the layout yet (section 8.4)
+-- a template set comes first if the link hasn't used the layout yet (section 8.4)
 abbrev pub template_sets : List Layout → Layout → List SetParts
 template_sets layouts layout =
     if knows layouts layout then [] else record { id = 2; content = template_octets (256 + length layouts) layout } ∷ []
 
--- then the records
+-- the template set, if any, then the records
 abbrev pub message_sets : List Layout → List Record → List SetParts
 message_sets layouts rs =
     template_sets layouts (layout_of rs) ++ record { id = template_id layouts (layout_of rs); content = records_octets rs } ∷ []
 
--- the sequence number is that of the records that were put on the link before, and the observation domain is 0
+-- the sequence number is the number of records put on the link before, and the observation domain is 0
 abbrev pub header_at : ℕ → Sender → Header
 header_at time s = record { export_time = time; sequence_number = s.sent; observation_domain = 0 }
 
--- one message with these records, which have one layout
+-- one message with these records, which share one layout
 unfoldable pub batch_octets : ℕ → Sender → List Record → List ℕ
 batch_octets time s rs = message_octets (header_at time s) (message_sets s.layouts rs)
 
@@ -61,21 +61,21 @@ after_batch s rs = record { layouts = layouts_with s.layouts (layout_of rs); sen
 
 -- ---- which records share a message
 
--- how many records a message has at most
+-- the maximum number of records in a message
 abbrev pub most : ℕ
 most = 64
 
--- a record joins those that wait for their message where they have its layout and there is room
+-- a record joins those that wait for their message if it has their layout and there is room
 abbrev pub joins : List Record → Record → Bool
 joins [] r = true
 joins (first ∷ rest) r = same_layout r.key.layout first.key.layout && nat_lt (length (first ∷ rest)) most
 
--- a batch by itself, if there are records
+-- a single batch, if there are records
 abbrev pub one_batch : List Record → List (List Record)
 one_batch [] = []
 one_batch (r ∷ rs) = (r ∷ rs) ∷ []
 
--- consecutive records of one layout share a message, behind those that wait already
+-- consecutive records of one layout share a message, after those that already wait
 abbrev pub batches_from : List Record → List Record → List (List Record)
 batches_from batch [] = one_batch batch
 batches_from batch (r ∷ rs) =
@@ -113,17 +113,17 @@ abbrev pub Begun : List Record → Type 0
 Begun [] = Unit {0}
 Begun (r ∷ rs) = IsBatch (r ∷ rs)
 
--- layouts, for which the ids from 256 on are enough
+-- valid layouts, few enough for the template ids from 256
 pub record IsSender (s : Sender) : Type 0 where
   pub layouts : AllByRecursion IsLayout s.layouts
   pub few : 256 + length s.layouts < 2 ^ 16
   pub sent : s.sent < 2 ^ 32
 
--- ids are left for so many more layouts
+-- template ids are left for this number of further layouts
 abbrev pub has_room : ℕ → Sender → Bool
 has_room more s = nat_lt (256 + more + length s.layouts) (2 ^ 16)
 
--- an id is left for the layout of records that wait, if there are any
+-- a template id is left for the layout of the waiting records, if there are any
 abbrev pub has_room_for : List Record → Sender → Bool
 has_room_for [] s = true
 has_room_for (r ∷ rs) s = has_room 1 s
@@ -137,7 +137,7 @@ abbrev pub templates_from : ℕ → List Layout → List (ℕ × Template)
 templates_from id [] = []
 templates_from id (layout ∷ layouts) = (id, template_of layout) ∷ templates_from (suc id) layouts
 
--- the sender's observation domain: its templates, and the sequence number that comes next
+-- the sender's observation domain: its templates, and the next sequence number
 abbrev pub domain_of : Sender → Domain
 domain_of s = record { templates = record { plain = templates_from 256 s.layouts; options = [] }; next = Some s.sent }
 
@@ -150,7 +150,7 @@ pub record KeepsUp (s : Sender) (st : SessionState) : Type 0 where
   pub rest : st.rest ≡ []
   pub fault : st.fault ≡ None
 
--- with more records that wait, and nothing else told of them
+-- these records are added to the waiting ones, and the counts of gaps and of skipped records are unchanged
 pub record ReadsMore (old new : SessionState) (rs : List Record) : Type 0 where
   pub waiting : new.known.waiting ≡ old.known.waiting ++ rs
   pub gaps : new.known.gaps ≡ old.known.gaps
@@ -160,7 +160,7 @@ pub record ReadsMore (old new : SessionState) (rs : List Record) : Type 0 where
 abbrev pub IsSent : Record → Type 0
 IsSent r = IsLayout r.key.layout × IsSendable r.key.layout r
 
--- the batches of these records, and what is kept behind them
+-- the octets of the batches of these records, and the sender's state after them
 abbrev pub sent_octets : ℕ → Sender → List Record → List ℕ
 sent_octets time s rs = stream_octets time s (batches_of rs)
 
@@ -169,7 +169,7 @@ after_sent s rs = after_batches s (batches_of rs)
 
 -- ---- the laws
 
--- Reading what is written for a batch gives just its records.
+-- Reading what is written for a batch returns exactly its records.
 abbrev pub BatchesAreRead : Type 0
 BatchesAreRead =
     (time : ℕ) (s : Sender) (st : SessionState) (batch : List Record)
@@ -177,7 +177,7 @@ BatchesAreRead =
     → KeepsUp (after_batch s batch) (after_piece st (batch_octets time s batch))
     × ReadsMore st (after_piece st (batch_octets time s batch)) batch
 
--- Whatever records are sent together, in messages of one layout and of 64 records at most, just they are read, in order.
+-- Records that are sent together, in messages of one layout and at most 64 records, are read exactly and in order.
 abbrev pub RecordsAreRead : Type 0
 RecordsAreRead =
     (time : ℕ) (s : Sender) (st : SessionState) (rs : List Record)

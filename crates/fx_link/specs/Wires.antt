@@ -1,11 +1,11 @@
--- Links between two times at which nothing is on its way.
+-- Links at times at which nothing is being sent.
 use Rattle.std.specs.Prelude.{◌≡◌, ℕ, zero, suc, ◌+◌, ◌^◌, ◌<◌, List, [], ◌++◌, length, take, drop}
 use Rattle.std.specs.List.{AllByRecursion}
 use Rattle.fx_tables.specs.declared.record.Record.{Record}
 use Rattle.fx_session.specs.Streams.{SessionState, start, after_piece, without_waiting}
 use Rattle.fx_link.specs.Sending.{Sender, new_sender, IsSender, IsSent, KeepsUp, sent_octets, after_sent}
 
--- a link: what its sender keeps, the octets that haven't been carried yet, and what its receiver has read
+-- a link: the state of its sender, the octets not yet carried, and what its receiver has read
 pub record Wire : Type 0 where
   pub sender : Sender
   pub queue : List ℕ
@@ -15,11 +15,11 @@ pub record Wire : Type 0 where
 abbrev pub new_wire : Wire
 new_wire = record { sender = new_sender; queue = []; receiver = start }
 
--- the records on a link: those that the receiver would read, were all octets carried
+-- the records on a link: those that the receiver would read if all octets were carried
 abbrev pub on_link : Wire → List Record
 on_link wire = (after_piece wire.receiver wire.queue).known.waiting
 
--- so many octets reach the receiver, and all records that were read are handled
+-- this number of octets reaches the receiver, and all records that were read are handled
 abbrev pub after_octets : ℕ → Wire → Wire
 after_octets zero wire = wire
 after_octets (suc n) wire = record wire {
@@ -34,7 +34,7 @@ sent_on time rs wire = record wire {
   queue = wire.queue ++ sent_octets time wire.sender rs;
 }
 
--- The receiver would read all that was put on the link, and has handled all that it read.
+-- The receiver would read everything put on the link, and has handled everything that it read.
 pub record InStep (wire : Wire) : Type 0 where
   pub sender : IsSender wire.sender
   pub keeps_up : KeepsUp wire.sender (after_piece wire.receiver wire.queue)
@@ -42,14 +42,14 @@ pub record InStep (wire : Wire) : Type 0 where
 
 -- ---- the laws
 
--- Records that are sent come behind those on the link.
+-- Records that are sent are appended to those on the link.
 abbrev pub SendingAdds : Type 0
 SendingAdds =
     (time : ℕ) (rs : List Record) (wire : Wire)
     → time < 2 ^ 32 → InStep wire → AllByRecursion IsSent rs → 256 + length (after_sent wire.sender rs).layouts < 2 ^ 16
     → InStep (sent_on time rs wire) × (on_link (sent_on time rs wire) ≡ on_link wire ++ rs)
 
--- Octets that are carried complete messages, whose records are the first on the link; the others stay.
+-- Octets that are carried complete messages, whose records are the first on the link; the other records stay.
 abbrev pub CarryingTakes : Type 0
 CarryingTakes =
     (n : ℕ) (wire : Wire) → InStep wire

@@ -1,4 +1,4 @@
--- What becomes of a record: acts, each of which takes its choices from one list.
+-- What happens to a record: acts, which all draw their choices from one list.
 use Rattle.std.specs.Prelude.{ℕ, List, [], ◌∷◌, ◌++◌, Option, Some, None, Result, Ok, Err, slice_get, slice_set, if◌then◌else◌}
 use Rattle.fx_base.specs.declared.counts.Counts.{Counts}
 use Rattle.fx_base.specs.Counts.{add_counts}
@@ -9,22 +9,22 @@ use Rattle.fx_base.specs.Entries.{entry_numbered}
 use Rattle.fx_base.specs.Refusals.{wrong_choices}
 use Rattle.fx_machine.specs.States.{State, with_entry, after_tally, sent_to, sent_to_all}
 
--- a choice: a new record, or a number
+-- a choice: none for a new record, or a number
 abbrev pub Choices : Type 0
 Choices = List (Option ℕ)
 
--- what becomes of a record with this key
+-- an act on a record with this key
 pub data Act : Type 0 where
   Tally : (key : Key) → Act  -- it is tallied
   Send : (exporter : Exporter) (key : Key) → Act  -- an exporting process sends it
   Hold : (holder : ℕ) (key : Key) → Act  -- a cache or an aggregation takes it in
 
--- the state and the choices that are left
+-- the state, and the remaining choices
 pub record Made : Type 0 where
   pub state : State
   pub choices : Choices
 
--- to one destination, by the next choice; none where that can't be made
+-- the record is sent to one destination, by the next choice; none if that choice can't be made
 abbrev pub sent_to_chosen : Option (Option ℕ) → Record → State → Choices → Option Made
 sent_to_chosen None r s choices = None
 sent_to_chosen (Some d) r s choices = Some (record { state = sent_to d r s; choices = choices })
@@ -34,13 +34,13 @@ send_by_choice destinations r s [] = None
 send_by_choice destinations r s (None ∷ choices) = None
 send_by_choice destinations r s (Some n ∷ choices) = sent_to_chosen (entry_numbered destinations n) r s choices
 
--- the held record of this number with the counts added, if it is there and has the key
+-- the records with the counts added to the one of this number, if it exists and has the key
 abbrev pub records_joining : Option Record → List Record → ℕ → Record → Option (List Record)
 records_joining None rs number r = None
 records_joining (Some old) rs number r =
     if same_key old.key r.key then Some (with_entry rs number (record { key = old.key; counts = add_counts old.counts r.counts })) else None
 
--- a new record comes last; a number names the held record that it joins
+-- a new record comes last; a number names the held record to which the counts are added
 abbrev pub taken_in : List Record → Option ℕ → Record → Option (List Record)
 taken_in rs None r = Some (rs ++ r ∷ [])
 taken_in rs (Some number) r = records_joining (entry_numbered rs number) rs number r
@@ -65,16 +65,16 @@ act net counts (Send exporter key) s choices =
     else send_by_choice exporter.destinations (record { key = key; counts = counts }) s choices
 act net counts (Hold holder key) s choices = hold holder (record { key = key; counts = counts }) s choices
 
--- a fault with its number, or the state after
+-- the state after a step, or a fault as its number
 abbrev pub Outcome : Type 0
 Outcome = Result State ℕ
 
--- no choice is left over
+-- an error if choices are left over
 abbrev pub all_used : Choices → State → Outcome
 all_used [] s = Ok s
 all_used (choice ∷ choices) s = Err wrong_choices
 
--- one act after another
+-- these acts in order
 abbrev pub act_all : Net → Counts → List Act → Option Made → Outcome
 act_all net counts acts None = Err wrong_choices
 act_all net counts [] (Some made) = all_used made.choices made.state

@@ -11,7 +11,7 @@ use Rattle.fx_machine.specs.States.{State, opening, Complete}
 use Rattle.fx_machine.specs.Moves.{Runs}
 use Rattle.fx_machine.specs.Sums.{plain_sum, total_at, SumsFit}
 
--- the totals of a state are the plain sums over these packets, and nothing is unassigned
+-- the totals of a state are the plain sums over these packets, and no record is unassigned
 pub record CountsEachOnce (net : Net) (packets : List Packet) (final : State) : Type 0 where
   pub totals : (key : Key) → total_at final.totals key ≡ plain_sum net.report_layout key packets
   pub assigned : final.unassigned ≡ 0
@@ -25,7 +25,7 @@ ExactlyOnce net classes =
 abbrev pub counts_modulo : Counts → Counts
 counts_modulo c = record { packets = c.packets % 2 ^ 64; octets = c.octets % 2 ^ 64 }
 
--- the totals of a state are the plain sums over these packets modulo 2 to the 64, and nothing is unassigned
+-- the totals of a state are the plain sums over these packets modulo 2 to the 64, and no record is unassigned
 pub record CountsEachModulo (net : Net) (packets : List Packet) (final : State) : Type 0 where
   pub totals : (key : Key) → option_map counts_modulo (total_at final.totals key) ≡ option_map counts_modulo (plain_sum net.report_layout key packets)
   pub assigned : final.unassigned ≡ 0

@@ -1,4 +1,4 @@
--- What a step does, read off its acts and its choices.
+-- The effects of a step, computed from its acts and its choices.
 use Rattle.std.specs.Prelude.{◌≡◌, ◌⊎◌, ℕ, ◌==◌, Bool, true, List, [], ◌∷◌, map, Option, Some, None, is_some, slice_get, if◌then◌else◌}
 use Rattle.fx_base.specs.declared.counts.Counts.{Counts}
 use Rattle.fx_layout.specs.Keys.{Key, refines}
@@ -20,7 +20,7 @@ use Rattle.fx_machine.specs.Handling.{handling_acts}
 use Rattle.fx_machine.specs.Holds.{hold_all}
 use Rattle.fx_machine.specs.Steps.{crossing_acts, acts_of_leaving, acts_of_arrival, link_place, after}
 
--- what a step does beside taking a crossing or a record from where it was
+-- the effects of a step, besides removing a crossing or a record from where it was
 pub record Effects : Type 0 where
   pub links : List ℕ  -- those on which the record is put, in order
   pub taken : List TakenIn  -- what holders take in, in order
@@ -40,12 +40,12 @@ abbrev pub arrival_of : Net → ℕ → Option Record → List Act
 arrival_of net place None = []
 arrival_of net place (Some r) = acts_of_arrival net r.key (slice_get net.links place)
 
--- what becomes of the record of this number at this place, and nothing where there is no such place
+-- the acts on the record of this number at this index; none if the index doesn't exist
 abbrev pub acts_at : (ℕ → Option Record → List Act) → List (List Record) → Option ℕ → ℕ → List Act
 acts_at acts rss None number = []
 acts_at acts rss (Some place) number = acts place (entry_numbered (entries (slice_get rss place)) number)
 
--- none where the packet, the holder, the link or the record isn't there
+-- no acts if the packet, the holder, the link or the record doesn't exist
 abbrev pub acts_of_step : Net → List Class → List Packet → Step → State → List Act
 acts_of_step net classes packets (Cross packet crossing choices) s = crossing_of net classes (entry_numbered packets packet) crossing
 acts_of_step net classes packets (Expire holder number choices) s = acts_at (leaving_of net) s.held (holder_place net holder) number
@@ -56,7 +56,7 @@ choices_of (Cross packet crossing choices) = choices
 choices_of (Expire holder number choices) = choices
 choices_of (Arrive link number choices) = choices
 
--- ---- their effects
+-- ---- the effects of acts
 
 abbrev pub senders : List Act → List Exporter
 senders [] = []
@@ -80,7 +80,7 @@ tally_among net (Tallies key ∷ acts) = tally_of net key
 tally_among net (Send exporter key ∷ acts) = tally_among net acts
 tally_among net (Hold holder key ∷ acts) = tally_among net acts
 
--- each holder in turn by the next choice
+-- each holder in order adds the record by the next choice
 abbrev pub taken_by : List ℕ → Choices → List TakenIn
 taken_by [] choices = []
 taken_by (h ∷ hs) [] = []
@@ -95,12 +95,12 @@ effects_of net classes packets step s =
     let acts = acts_of_step net classes packets step s in
     effects_by (tally_among net acts) (takers acts) (chosen_from [] (senders acts) (choices_of step))
 
--- ---- the acts as a list of holders, of exporting processes and whether the record is tallied
+-- ---- the acts given as a list of holders, a list of exporting processes and whether the record is tallied
 
 abbrev pub tally_when : Net → Bool → Key → Tally
 tally_when net tallies key = if tallies then tally_of net key else Untallied
 
--- a step can be made, as far as its choices allow, and these are its acts
+-- a step can be made, apart from its choices, and these are its acts
 pub record IsHandled (net : Net) (classes : List Class) (packets : List Packet) (step : Step) (s : State) (tally : Tally) (exporters : List ℕ) (holdings : List Holding) : Type 0 where
   pub key : Key
   pub counts : Counts
@@ -111,22 +111,22 @@ pub record IsHandled (net : Net) (classes : List Class) (packets : List Packet) 
   pub made : after net classes packets step s ≡ all_acts net counts (handling_acts net key tallies exporters holdings) from (choices_of step)
   pub held : (holdings ≡ []) ⊎ (from.held ≡ s.held)
 
--- ---- keys of what is held
+-- ---- keys of held records
 
 abbrev pub keys_in : List Record → List Key
 keys_in [] = []
 keys_in (r ∷ rs) = r.key ∷ keys_in rs
 
--- the keys of the records that are new at a holder, where these take in records by these choices
+-- the keys of the records that are new at a holder, if these holdings are added by these choices
 abbrev pub new_keys : ℕ → List Holding → Choices → List Key
 new_keys holder [] cs = []
 new_keys holder (h ∷ hs) [] = []
 new_keys holder (h ∷ hs) (None ∷ cs) = if h.holder == holder then h.key ∷ new_keys holder hs cs else new_keys holder hs cs
 new_keys holder (h ∷ hs) (Some n ∷ cs) = new_keys holder hs cs
 
--- ---- by choices
+-- ---- effects by choices
 
--- the exporting processes and the holders can do with these choices what they are to do, and this is what they do
+-- these choices suffice for the exporting processes and the holders, and these are the effects
 pub record AreChosen (net : Net) (held : List (List Record)) (tally : Tally) (exporters : List ℕ) (holdings : List Holding) (choices : Choices) (e : Effects) : Type 0 where
   pub rest : Choices
   pub links : chosen_from [] (at_places net.exporters exporters) choices ≡ Some (record { links = e.links; rest = rest })
@@ -134,7 +134,7 @@ pub record AreChosen (net : Net) (held : List (List Record)) (tally : Tally) (ex
   pub taken : e.taken ≡ taken_by (map (λ h. h.holder) holdings) rest
   pub tally_is : e.tally ≡ tally
 
--- a choice of a destination is missing or names none, or the choices behind aren't what the holders can take
+-- a choice of a destination is missing or names none, or the choices after those of destinations don't fit the holders
 abbrev pub CannotBeChosen : Net → List (List Record) → List ℕ → List Holding → Choices → Type 0
 CannotBeChosen net held exporters holdings choices =
     (chosen_from [] (at_places net.exporters exporters) choices ≡ None)

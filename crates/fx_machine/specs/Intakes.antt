@@ -1,4 +1,4 @@
--- The keys under which holders take records in.
+-- The keys under which holders add records.
 use Rattle.fx_layout.specs.Keys.{Key}
 use Rattle.fx_tables.specs.Holdings.{holding_of}
 use Rattle.fx_machine.specs.declared.intake.Intake.{Intake}

@@ -1,6 +1,6 @@
--- How long a refutation may be.
+-- The limit on the length of a refutation.
 use Rattle.std.specs.Prelude.{ℕ}
 
--- The most steps of a refutation.
+-- The largest number of steps of a refutation.
 abbrev pub step_limit : ℕ
 step_limit = 1000000

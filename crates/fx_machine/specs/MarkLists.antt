@@ -1,4 +1,4 @@
--- The marks of a list, wherever they stand.
+-- The marks of a list, whichever way the list stores them.
 use Rattle.std.specs.Prelude.{Bool, List}
 use Rattle.fx_machine.specs.declared.coming.MarkList.{MarkList}
 use Rattle.fx_machine.specs.declared.coming.MarkList.TheVariants.{Few, Many}

@@ -1,9 +1,9 @@
--- Where a key first stands.
+-- The first index of a key.
 use Rattle.std.specs.Prelude.{◌≡◌, ℕ, zero, suc, ◌<◌, true, false, List, [], ◌∷◌, length, get_or}
 use Rattle.fx_layout.specs.Keys.{Key, same_key}
 use Rattle.fx_tables.specs.declared.record.Record.{Record}
 
--- none of the first so many has the key
+-- none of the first n records has the key
 abbrev pub NoneBefore : ℕ → List Record → Key → Type 0
 NoneBefore zero ts key = Unit {0}
 NoneBefore (suc n) [] key = Unit {0}

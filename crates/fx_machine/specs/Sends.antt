@@ -18,7 +18,7 @@ abbrev pub links_of : List (Option ℕ) → List ℕ
 links_of [] = []
 links_of (d ∷ ds) = link_list d ++ links_of ds
 
--- the links that are chosen, and the choices that are left
+-- the chosen links, and the remaining choices
 pub record Chosen : Type 0 where
   pub links : List ℕ
   pub rest : Choices
@@ -29,7 +29,7 @@ next_destination destinations [] = None
 next_destination destinations (None ∷ choices) = None
 next_destination destinations (Some n ∷ choices) = entry_numbered destinations n
 
--- the links of each exporting process in turn, after these
+-- the links of each exporting process in order, appended to these
 abbrev pub chosen_from : List ℕ → List Exporter → Choices → Option Chosen
 chosen_from links [] choices = Some (record { links = links; rest = choices })
 chosen_from links (e ∷ es) choices =

@@ -1,4 +1,4 @@
--- The steps of a network, each a function of the state and of the choices written in the step.
+-- The steps of a network, each a function of the state and of the choices given in the step.
 use Rattle.std.specs.Prelude.{ℕ, zero, suc, ◌&&◌, ◌==◌, List, [], ◌∷◌, ◌++◌, map, filter, Option, Some, None, Ok, Err, slice_get, slice_set, remove, if◌then◌else◌}
 use Rattle.fx_base.specs.declared.counts.Counts.{Counts}
 use Rattle.fx_elements.specs.Axes.{Fields}
@@ -23,7 +23,7 @@ use Rattle.fx_machine.specs.Acts.{Choices, Act, Tally, Send, Hold, Outcome, all_
 abbrev pub one_packet : Packet → Counts
 one_packet packet = record { packets = 1; octets = packet.octets }
 
--- an occurrence's cache takes in a record of the packet
+-- the cache of an occurrence adds a record of the packet
 abbrev pub meet : Net → Fields → Occurrence → Act
 meet net fields o = Hold o.holder (key_of (layout_of (slice_get net.holders o.holder)) fields)
 
@@ -35,7 +35,7 @@ abbrev pub later : Option ℕ → Option ℕ
 later None = None
 later (Some n) = Some (suc n)
 
--- the place of a crossing among those to come
+-- the index of a crossing among the pending ones
 abbrev pub place : List Coming → ℕ → ℕ → Option ℕ
 place [] packet crossing = None
 place (c ∷ cs) packet crossing =
@@ -53,7 +53,7 @@ after_cross net classes packet (Some n) crossing s choices =
 
 -- ---- a record leaves a holder
 
--- each exporting process that the holder names sends it
+-- each exporting process that the holder names sends the record
 abbrev pub acts_of_leaving : Net → ℕ → Key → List Act
 acts_of_leaving net holder key = map (λ e. Send e key) (exporters_of net (slice_get net.holders holder))
 
@@ -75,13 +75,13 @@ expire_at net (Some holder) number s choices = expire_from net holder (slice_get
 abbrev pub take_in : Net → Key → AggregationEntry → Act
 take_in net key aggregation = Hold aggregation.holder (project key (layout_of (slice_get net.holders aggregation.holder)))
 
--- each exporting process that the collecting process names sends it, and each aggregation that takes its key takes it in
+-- each exporting process that the collecting process names sends the record, and each aggregation that accepts its key adds it
 abbrev pub acts_of : Net → Key → Option Process → List Act
 acts_of net key None = []
 acts_of net key (Some process) =
     map (λ e. Send e key) (at_places net.exporters process.exporters) ++ map (take_in net key) (filter (takes net key) process.aggregations)
 
--- at the report it is tallied first
+-- at the report's collecting process the record is tallied first
 abbrev pub coming_to : Net → Key → ℕ → List Act
 coming_to net key process =
     (if process == net.report then Tally key ∷ [] else []) ++ acts_of net key (slice_get net.processes process)
@@ -99,7 +99,7 @@ abbrev pub arrive_from : Net → ℕ → Option (List Record) → ℕ → State 
 arrive_from net link None number s choices = Err step_not_enabled
 arrive_from net link (Some rs) number s choices = after_arrive net link rs number (entry_numbered rs number) s choices
 
--- the place of the link of this number, where the first is 1
+-- the index of the link of this number, which counts from 1
 abbrev pub link_place : ℕ → Option ℕ
 link_place zero = None
 link_place (suc n) = Some n
@@ -110,8 +110,8 @@ arrive_at net (Some link) number s choices = arrive_from net link (slice_get s.c
 
 -- ---- any step
 
--- the state after a step, or its fault: 851 where its place isn't there or the crossing was made, then 853 where
--- no record has that number, then 852 where the choices aren't as many as needed or one of them can't be made
+-- the state after a step, or its fault: 851 if its place doesn't exist or the crossing was already made, then 853 if no record
+-- has that number, then 852 if there are too few or too many choices or one of them can't be made
 abbrev pub after : Net → List Class → List Packet → Step → State → Outcome
 after net classes packets (Cross packet crossing choices) s =
     after_cross net classes (entry_numbered packets packet) (place s.coming packet crossing) crossing s choices
@@ -124,7 +124,7 @@ abbrev pub then_run : Outcome → (State → Outcome) → Outcome
 then_run (Err n) next = Err n
 then_run (Ok s) next = next s
 
--- each step is enabled in turn
+-- each step is made in order
 abbrev pub run : Net → List Class → List Packet → List Step → State → Outcome
 run net classes packets [] s = Ok s
 run net classes packets (step ∷ steps) s = then_run (after net classes packets step s) (run net classes packets steps)

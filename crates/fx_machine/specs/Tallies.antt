@@ -1,4 +1,4 @@
--- A record tallied.
+-- Tallying a record.
 use Rattle.std.specs.Prelude.{ℕ, ◌+◌, Bool, List, if◌then◌else◌}
 use Rattle.fx_base.specs.declared.counts.Counts.{Counts}
 use Rattle.fx_layout.specs.Keys.{Layout, Key, refines, project}
@@ -9,11 +9,11 @@ use Rattle.fx_machine.specs.States.{add_at}
 abbrev pub totals_with : Layout → Key → Counts → List Record → List Record
 totals_with layout key counts totals = if refines key.layout layout then add_at totals (project key layout) counts else totals
 
--- the number of unassigned records
+-- the number of unassigned records after a record is tallied
 abbrev pub unassigned_with : Layout → Key → ℕ → ℕ
 unassigned_with layout key unassigned = if refines key.layout layout then unassigned else unassigned + 1
 
--- the same where it is tallied, and otherwise what they were
+-- the totals with the record if it is tallied, otherwise unchanged
 abbrev pub totals_when : Bool → Layout → Key → Counts → List Record → List Record
 totals_when tallies layout key counts totals = if tallies then totals_with layout key counts totals else totals
 

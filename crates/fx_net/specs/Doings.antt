@@ -1,4 +1,4 @@
--- What a running network does, one thing after another.
+-- What a running network does, step by step.
 use Rattle.std.specs.Prelude.{◌≡◌, ◌≢◌, ℕ, zero, suc, ◌==◌, ◌^◌, ◌≤◌, ◌<◌, Bool, true, false, List, [], ◌∷◌, map, length, position, slice_get, Option, Some, None, IsSome}
 use Rattle.std.specs.List.{flat_map, range_with_len}
 use Rattle.fx_boxes.specs.Boxes.{IsFields, holds}
@@ -22,33 +22,33 @@ use Rattle.fx_net.specs.Metering.{after_path}
 use Rattle.fx_net.specs.Arriving.{after_carrying, queued_on}
 use Rattle.fx_net.specs.Finishing.{after_finishing, PutsAll}
 
--- ---- what is done
+-- ---- steps
 
--- what the network holds before, and once something is done whose records still wait on links
+-- a relation between what the network holds before a step and after it, while the step's records still wait on links
 abbrev pub Making : Type 1
 Making = Contents → Contents → Type 0
 
--- between two times at which nothing is on its way: what was put out, and what the network holds
+-- a relation between two states in which no records wait: the octets written to links, and what the network holds
 abbrev pub Doing : Type 1
 Doing = Put → Contents → Put → Contents → Type 0
 
--- something is done, and what it put on links is put out
+-- a step is done, and the records that it put on links are written out
 pub record Ended (makes : Making) (before : Put) (old : Contents) (after : Put) (new : Contents) : Type 0 where
   pub done : Contents
   pub made : makes old done
   pub put : PutsAll before after done.second done.links
   pub new_is : new ≡ after_finishing done
 
--- ---- a packet is read
+-- ---- reading a packet
 
--- the packet of a frame, which has a value on each axis; its octets are a number of 32 bits
+-- the packet of a frame, which has a value on each axis; its number of octets fits in 32 bits
 pub record IsFrame (packet : Packet) (frame : Seen) : Type 0 where
   pub fields : packet.fields ≡ frame.fields
   pub octets : packet.octets ≡ frame.octets
   pub values : IsFields frame.fields
   pub few : frame.octets < 2 ^ 32
 
--- the class and the path that a line gives a packet: the first class whose region holds it, and path 1, where it names none
+-- the class and the path that a line assigns to a packet; by default the first class whose region contains it, and path 1
 abbrev pub IsGiven : List Class → Action → Packet → Type 0
 IsGiven classes action.Next p =
     (k : ℕ) × (position (λ (c : Class). holds c.region p.fields) classes ≡ Some k) × (p.class ≡ suc k) × (p.path ≡ 1)
@@ -56,12 +56,12 @@ IsGiven classes (action.NextOf class path) p =
     (c : Class) × (entry_numbered classes class ≡ Some c) × (holds c.region p.fields ≡ true) × (p.class ≡ class) × (p.path ≡ path) × (entry_numbered c.paths path ≢ None)
 IsGiven classes _ p = ⊥
 
--- a packet of this second makes all of its crossings
+-- a packet with this timestamp in seconds makes all of its crossings
 abbrev pub after_packet : Net → List Class → Packet → ℕ → Contents → Contents
 after_packet net classes p second c =
     after_path net p.fields (one_packet p) (path classes p) (record c { second = second })
 
--- the packet of a frame is read, whose second is a number of 32 bits
+-- the packet of a frame is read, whose timestamp in seconds fits in 32 bits
 pub record ReadsFrame (net : Net) (classes : List Class) (line : Action) (frame : Seen) (old done : Contents) : Type 0 where
   pub packet : Packet
   pub is_frame : IsFrame packet frame
@@ -69,30 +69,30 @@ pub record ReadsFrame (net : Net) (classes : List Class) (line : Action) (frame 
   pub soon : frame.second < 2 ^ 32
   pub done_is : done ≡ after_packet net classes packet frame.second old
 
--- ---- records leave a holder, and octets are carried
+-- ---- removing records from a holder, and carrying octets
 
--- the record of the least key of a holder leaves
+-- the record with the least key leaves a holder
 pub record LeastLeaves (net : Net) (name : HolderName) (old done : Contents) : Type 0 where
   pub place : ℕ
   pub named : holder_place net name ≡ Some place
   pub there : IsSome (least_at old place)
   pub done_is : done ≡ after_least net place old
 
--- all records of the holder at a place leave, the least key first
+-- all records of the holder at this index leave, in ascending order of keys
 abbrev pub Empties : Net → ℕ → Making
 Empties net place old done = done ≡ after_emptying net place old
 
--- so many octets of the link at a place are carried
+-- this number of octets of the link at this index is carried
 pub record Carries (net : Net) (link n : ℕ) (old done : Contents) : Type 0 where
   pub there : link < length old.links
   pub enough : n ≤ queued_on (slice_get old.links link)
   pub done_is : done ≡ after_carrying net link n old
 
--- the link at a place is carried whole
+-- all octets of the link at this index are carried
 abbrev pub CarriesWhole : Net → ℕ → Making
 CarriesWhole net link old done = done ≡ after_carrying net link (queued_on (slice_get old.links link)) old
 
--- ---- a line
+-- ---- executing a line
 
 -- an exporting process sends to this destination from now on
 pub record Uses (network : NetworkDocument) (device exporter destination : ℕ) (old done : Contents) : Type 0 where
@@ -111,7 +111,7 @@ abbrev pub CarriesOn : Net → ℕ → ℕ → Making
 CarriesOn net zero n old done = ⊥
 CarriesOn net (suc link) n old done = Carries net link n old done
 
--- What a line does. The frame is the capture's next one, if there is one.
+-- The effect of a line. The frame is the next one of the capture, if there is one.
 abbrev pub DoesAction : NetworkDocument → List Class → Option Seen → Action → Making
 DoesAction network classes frame action.Next = ReadsNextFrame (net_of network) classes action.Next frame
 DoesAction network classes frame (action.NextOf class path) = ReadsNextFrame (net_of network) classes (action.NextOf class path) frame
@@ -131,11 +131,11 @@ reads_packet _ = false
 abbrev pub Nothing : Doing
 Nothing before old after new = (after ≡ before) × (new ≡ old)
 
--- one thing after another
+-- the first, then the second
 abbrev pub Then : Doing → Doing → Doing
 Then first second before old after new = (put : Put) × (mid : Contents) × first before old put mid × second put mid after new
 
--- the same with each of these in turn
+-- the same for each item in turn
 abbrev pub Each : {A : Type 0} → (A → Doing) → List A → Doing
 Each do_ [] = Nothing
 Each do_ (x ∷ xs) = Then (do_ x) (Each do_ xs)
@@ -144,7 +144,7 @@ Each do_ (x ∷ xs) = Then (do_ x) (Each do_ xs)
 abbrev pub caches_of_all : Net → List ℕ
 caches_of_all net = flat_map (λ (d : DeviceEntry). d.caches) net.devices
 
--- only where this is so
+-- only if the condition holds
 abbrev pub Where : Bool → Doing → Doing
 Where true do_ = do_
 Where false do_ = Nothing
@@ -158,23 +158,23 @@ abbrev pub leads_to : Option ℕ → ℕ → Bool
 leads_to None process = false
 leads_to (Some to) process = to == process
 
--- the link at a place is carried whole where it leads to this process
+-- all octets of the link at this index are carried if it leads to this process
 abbrev pub CarriesInto : Net → ℕ → ℕ → Doing
 CarriesInto net process link = Where (leads_to (slice_get net.links link) process) (Ended (CarriesWhole net link))
 
--- the places of a process's aggregations among the holders
+-- the indices of a process's aggregations among the holders
 abbrev pub holders_of : Option Process → List ℕ
 holders_of process = map (λ (a : AggregationEntry). a.holder) (aggregations_of process)
 
--- the holders at these places are emptied, one after another
+-- the holders at these indices are emptied, in order
 abbrev pub EmptiesAll : Net → List ℕ → Doing
 EmptiesAll net places = Each (λ place. Ended (Empties net place)) places
 
--- the links into a process are carried whole, in order, and then its aggregations are emptied
+-- all octets of the links into a process are carried, in order of the links, and then its aggregations are emptied
 abbrev pub Finishes : Net → ℕ → Doing
 Finishes net process =
     Then (Each (CarriesInto net process) (link_places net)) (EmptiesAll net (holders_of (slice_get net.processes process)))
 
--- all caches are emptied in document order, and then the collecting processes are finished in this order
+-- all caches are emptied in document order, and then the collecting processes are finished in the given order
 abbrev pub EmptiesNetwork : Net → List ℕ → Doing
 EmptiesNetwork net ranked = Then (EmptiesAll net (caches_of_all net)) (Each (Finishes net) ranked)

@@ -7,11 +7,11 @@ use Rattle.fx_link.specs.Outgoing.{with_one}
 use Rattle.fx_link.specs.Ongoing.{Ongoing}
 use Rattle.fx_net.specs.Contents.{Contents, with_changed}
 
--- a record waits on a link for its message
+-- a record waits on a link until its message is built
 abbrev pub with_waiting : ℕ → Record → Ongoing → Ongoing
 with_waiting time r o = record o { outgoing = with_one time o.outgoing r }
 
--- on each of these links
+-- the record waits on each of these links
 abbrev pub put_each : ℕ → Record → List ℕ → List Ongoing → List Ongoing
 put_each time r [] links = links
 put_each time r (link ∷ rest) links = put_each time r rest (with_changed (with_waiting time r) links link)

@@ -1,4 +1,4 @@
--- What the stores of caches and aggregations are seen as.
+-- How the stores of caches and aggregations are viewed.
 use Rattle.fx_store.specs.Flows.{flows_of}
 use Rattle.fx_net.specs.Stores.{Stored, unbounded, bounded}
 use Rattle.fx_net.specs.declared.store.StoreKind.{StoreKind}

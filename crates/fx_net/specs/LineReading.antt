@@ -40,7 +40,7 @@ use_of ws = do
   destination ← number_first exporter.1
   at_end (Use device.0 exporter.0 destination.0) destination.1
 
--- the action of this kind that all of these words are
+-- the action of this kind that consists of all of these words
 unfoldable pub kind_of : List ℕ → Words → Option Action
 kind_of kind ws =
     if bytes_eq kind (codes "next") then next_of ws
@@ -55,6 +55,6 @@ words_of ws = do
   kind ← first_word ws
   kind_of kind.0 kind.1
 
--- what a line asks for, if it asks for something
+-- the action that a line requests, if it requests one
 abbrev pub action_of : List ℕ → Option Action
 action_of line = if bytes_eq line (codes "next") then Some Next else words_of (words line)

@@ -8,7 +8,7 @@ use Rattle.fx_runs.specs.Making.{intakes_at}
 use Rattle.fx_net.specs.Contents.{Contents}
 use Rattle.fx_net.specs.Taking.{after_taking}
 
--- a packet makes one crossing after another
+-- a packet makes these crossings in order
 abbrev pub after_path : Net → Fields → Counts → List Crossing → Contents → Contents
 after_path net fields counts [] c = c
 after_path net fields counts (crossing ∷ rest) c =

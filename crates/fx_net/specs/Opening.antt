@@ -14,7 +14,7 @@ use Rattle.fx_plan.specs.Tables.{net_of, aggregation_holders}
 use Rattle.fx_net.specs.Stores.{Stored, new_store}
 use Rattle.fx_net.specs.Contents.{Contents}
 
--- `maxFlows` bounds a cache that isn't immediate
+-- `maxFlows` bounds every cache that isn't immediate
 abbrev pub store_of_kind : CacheKind → ℕ → Option Stored
 store_of_kind kind.Immediate max_flows = None
 store_of_kind kind.Timeout max_flows = Some (new_store max_flows)
@@ -30,11 +30,11 @@ caches_in network = flat_map (λ device. device.config.caches) network.devices
 abbrev pub aggregations_in : NetworkDocument → List Holder
 aggregations_in network = aggregation_holders (exporting_labels network.devices) network.devices
 
--- aggregations have no bound
+-- the stores of aggregations are unbounded
 abbrev pub aggregation_stores : List Holder → List (Option Stored)
 aggregation_stores aggregations = map (λ (_ : Holder). Some (new_store 0)) aggregations
 
--- all caches, then all aggregations
+-- the stores of all caches, then those of all aggregations
 abbrev pub stores_of : NetworkDocument → List (Option Stored)
 stores_of network = map store_of (caches_in network) ++ aggregation_stores (aggregations_in network)
 

@@ -36,17 +36,17 @@ pub record RunningNetwork : Type 0 where
   pub network : NetworkDocument
   pub classes : List Class
   pub contents : Contents
-  -- what it answers from now on
+  -- the fault that the network reports from now on
   pub fault : Option Fault
 
--- ---- faults that are answered again
+-- ---- faults that are reported again
 
 abbrev pub fault_of : Stop → Fault
 fault_of (stop.Bare number) = fault_at number places.None
 fault_of (stop.Line number line) = fault_at number (places.Line line)
 fault_of (stop.Octet number octet) = fault_at number (places.Octet octet)
 
--- a text isn't kept
+-- a place that is a text isn't kept
 abbrev pub stop_at : ℕ → Place → Stop
 stop_at number places.None = stop.Bare number
 stop_at number (places.Line line) = stop.Line number line
@@ -58,7 +58,7 @@ stop_of e = stop_at e.number e.place
 
 -- ---- a packet's class and path
 
--- whether there is a class of this number that holds these fields, and a path of this number in it
+-- whether the class of this number exists and contains these fields, and has a path of this number
 abbrev pub is_in_class : Option Class → Fields → ℕ → Bool
 is_in_class None fields path = false
 is_in_class (Some c) fields path = holds c.region fields && is_some (entry_numbered c.paths path)
@@ -66,25 +66,25 @@ is_in_class (Some c) fields path = holds c.region fields && is_some (entry_numbe
 abbrev pub is_in : List Class → Fields → ℕ → ℕ → Bool
 is_in classes fields class path = is_in_class (entry_numbered classes class) fields path
 
--- ---- a line is obeyed
+-- ---- obeying a line
 
--- the frame that the capture went on to, where the line reads one; else the capture stays
+-- the next frame of the capture, if the line reads one; otherwise the capture is unchanged
 abbrev pub GoesTo : Bool → captures.CaptureState → captures.CaptureState → Option captures.Seen → Type 0
 GoesTo true old new frame = captures.AtFrame old new × (frame ≡ Some new.seen)
 GoesTo false old new frame = new ≡ old
 
--- the packet of a frame, of this class and with this path
+-- the packet of a frame, with this class and this path
 abbrev pub packet_of : captures.Seen → ℕ → ℕ → Packet
 packet_of frame class path = record { fields = frame.fields; octets = frame.octets; class = class; path = path }
 
--- What is asked for is done; what it puts on links waits there.
+-- The requested action is done; the records that it puts on links wait there.
 pub record Acts (asked : Action) (old new : RunningNetwork) (at to : captures.CaptureState) : Type 0 where
   pub frame : Option captures.Seen
   pub goes : GoesTo (reads_packet asked) at to frame
   pub does : DoesAction old.network old.classes frame asked old.contents new.contents
   pub rest : new ≡ record old { contents = new.contents }
 
--- The line asks for something, which is done.
+-- The line requests an action, which is done.
 pub record Obeys (line : List ℕ) (old new : RunningNetwork) (at to : captures.CaptureState) (before after : Put) : Type 0 where
   pub asked : Action
   pub asks : AsksFor line asked
@@ -98,7 +98,7 @@ pub record Obeys (line : List ℕ) (old new : RunningNetwork) (at to : captures.
 abbrev pub HoldsNothing : RunningNetwork → HolderName → Type 0
 HoldsNothing old name = (place : ℕ) → holder_place (net_of old.network) name ≡ Some place → least_at old.contents place ≡ None
 
--- the link isn't there, or fewer octets wait on it
+-- the link doesn't exist, or fewer octets wait on it
 abbrev pub HasTooFew : Contents → ℕ → ℕ → Type 0
 HasTooFew c zero octets = Unit {0}
 HasTooFew c (suc link) octets = link < length c.links → queued_on (slice_get c.links link) < octets
@@ -108,7 +108,7 @@ HasNoDestination network device exporter destination =
     (place : ℕ) (e : Exporter) → exporter_place network device exporter ≡ Some place → slice_get (net_of network).exporters place ≡ Some e → entry_numbered e.destinations destination ≡ None
 
 -- a number that names nothing, a holder that holds nothing, too few octets, or no packet; a line that reads no packet
--- leaves the capture as it was
+-- leaves the capture unchanged
 abbrev pub NamesNothing : RunningNetwork → captures.CaptureState → captures.CaptureState → Action → Type 0
 NamesNothing old at to action.Next = captures.AtCaptureEnd at to
 NamesNothing old at to (action.NextOf class path) = captures.AtCaptureEnd at to
@@ -123,7 +123,7 @@ IsNotIn classes frame (action.NextOf class path) =
     (c : Class) → entry_numbered classes class ≡ Some c → holds c.region frame.fields ≡ true → entry_numbered c.paths path ≡ None
 IsNotIn classes frame _ = ⊥
 
--- no class holds the packet
+-- no class contains the packet
 abbrev pub IsOfNone : List Class → captures.Seen → Type 0
 IsOfNone classes frame = position (λ (c : Class). holds c.region frame.fields) classes ≡ None
 
@@ -131,46 +131,46 @@ abbrev pub IsInNone : List Class → captures.Seen → Action → Type 0
 IsInNone classes frame action.Next = IsOfNone classes frame
 IsInNone classes frame _ = ⊥
 
--- 802 or the fault of a capture's record goes before 803 and 804; each stands at the schedule's line
+-- 802 or the fault of a capture's record takes precedence over 803 and 804; each fault is placed at the schedule's line
 pub data RefusesAction (old : RunningNetwork) (at to : captures.CaptureState) (number : ℕ) (asked : Action) (e : Fault) : Type 0 where
   nothing_named : e ≡ fault_at nothing_there (places.Line number) → NamesNothing old at to asked → RefusesAction old at to number asked e
   capture_refused : reads_packet asked ≡ true → captures.RefusesCapture at to e → RefusesAction old at to number asked e
   not_in : e ≡ fault_at not_in_named_class (places.Line number) → captures.AtFrame at to → IsNotIn old.classes to.seen asked → RefusesAction old at to number asked e
   in_none : e ≡ fault_at in_no_class (places.Line number) → captures.AtFrame at to → IsInNone old.classes to.seen asked → RefusesAction old at to number asked e
 
--- 801 goes first, and leaves the capture as it was
+-- 801 takes precedence over the others, and leaves the capture unchanged
 abbrev pub RefusesLine : List ℕ → ℕ → RunningNetwork → captures.CaptureState → captures.CaptureState → Fault → Type 0
 RefusesLine line number old at to e =
     ((e ≡ fault_at schedule_or_bundle (places.Line number)) × ((asked : Action) → AsksFor line asked → ⊥) × (to ≡ at))
     ⊎ ((asked : Action) × AsksFor line asked × RefusesAction old at to number asked e)
 
--- out of memory, or a failed write of octets of links, whatever the line
+-- out of memory, or failure to write octets of links, whatever the line
 abbrev pub FailsOutside : Bool → Fault → Type 0
 FailsOutside failed e = (e ≡ fault_at want_of_memory places.None) ⊎ ((e ≡ fault_at failed_write places.None) × (failed ≡ true))
 
--- a network that has answered a fault answers it again, and nothing changes
+-- a network that has reported a fault reports it again, and nothing changes
 abbrev pub AnswersAgain : RunningNetwork → RunningNetwork → Result (Unit {0}) Fault → Type 0
 AnswersAgain old new result = IfSome old.fault (λ e. (result ≡ Err e) × (new ≡ old))
 
--- where a network has answered a fault, the capture and the links stay as they were
+-- if a network has reported a fault, the capture and the links are unchanged
 abbrev pub LeavesBoth : {L : Type 0} → RunningNetwork → captures.CaptureState → captures.CaptureState → L → L → Type 0
 LeavesBoth old at to before after = IfSome old.fault (λ _. (to ≡ at) × (after ≡ before))
 
 -- ---- the closing phase
 
--- the packet of a frame is read, of the first class that holds it and with path 1
+-- the packet of a frame is read, with path 1 of the first class that contains it
 pub record ReadsOne (old new : RunningNetwork) (frame : captures.Seen) (before after : Put) : Type 0 where
   pub done : Ended (ReadsFrame (net_of old.network) old.classes action.Next frame) before old.contents after new.contents
   pub rest : new ≡ record old { contents = new.contents }
 
--- the packets of these frames are read, one after another, as a reader of a capture goes on
+-- the packets of these frames are read in order, as the reader of a capture advances
 abbrev pub ReadsFrames : List captures.Seen → RunningNetwork → RunningNetwork → captures.CaptureState → captures.CaptureState → Put → Put → Type 0
 ReadsFrames [] old new at to before after = (new ≡ old) × (to ≡ at) × (after ≡ before)
 ReadsFrames (frame ∷ frames) old new at to before after =
     (mid : RunningNetwork) × (on : captures.CaptureState) × (put : Put)
     × captures.AtFrame at on × (on.seen ≡ frame) × ReadsOne old mid frame before put × ReadsFrames frames mid new on to put after
 
--- some frames are read
+-- the packets of some frames are read
 pub record HasRead (old new : RunningNetwork) (at to : captures.CaptureState) (before after : Put) : Type 0 where
   pub frames : List captures.Seen
   pub read : ReadsFrames frames old new at to before after
@@ -192,7 +192,7 @@ pub record Closes (old new : RunningNetwork) (at to : captures.CaptureState) (be
   pub empties : EmptiesNetwork (net_of old.network) ranked put mid.contents after new.contents
   pub rest : new ≡ record old { contents = new.contents }
 
--- a reader of a capture has gone on to some frames
+-- the reader of a capture has advanced over these frames
 abbrev pub GoesOnToFrames : captures.CaptureState → captures.CaptureState → List captures.Seen → Type 0
 GoesOnToFrames at to [] = to ≡ at
 GoesOnToFrames at to (frame ∷ frames) = (on : captures.CaptureState) × captures.AtFrame at on × (on.seen ≡ frame) × GoesOnToFrames on to frames
@@ -200,14 +200,14 @@ GoesOnToFrames at to (frame ∷ frames) = (on : captures.CaptureState) × captur
 abbrev pub HasGoneOn : captures.CaptureState → captures.CaptureState → Type 0
 HasGoneOn at to = (frames : List captures.Seen) × GoesOnToFrames at to frames
 
--- a frame that is left is of no class, or the capture is refused behind some frames
+-- a remaining frame is in no class, or the capture is refused after some frames
 pub data RefusesClose (old : RunningNetwork) (at to : captures.CaptureState) (e : Fault) : Type 0 where
   capture_cut : (mid : captures.CaptureState) → HasGoneOn at mid → captures.RefusesCapture mid to e → RefusesClose old at to e
   none_holds : (mid : captures.CaptureState) → e ≡ fault_at in_no_class places.None → HasGoneOn at mid → captures.AtFrame mid to → IsOfNone old.classes to.seen → RefusesClose old at to e
 
 -- ---- a whole run
 
--- the lines of a schedule are obeyed, one after another, as a reader of it goes on
+-- the lines of a schedule are obeyed in order, as the reader of the schedule advances
 abbrev pub ObeysLines : List (List ℕ) → RunningNetwork → RunningNetwork → captures.CaptureState → captures.CaptureState → Lines → Lines → Put → Put → Type 0
 ObeysLines [] old new at to from last before after = (new ≡ old) × (to ≡ at) × (last ≡ from) × (after ≡ before)
 ObeysLines (line ∷ lines) old new at to from last before after =
@@ -225,7 +225,7 @@ pub record ObeysAll (old new : RunningNetwork) (at to : captures.CaptureState) (
   pub obeyed : HasObeyed old new at to from behind before after
   pub end : AtTextEnd behind last
 
--- and then the closing phase is gone through
+-- all lines of the schedule are obeyed, and then the closing phase is done
 pub record RunsSchedule (old new : RunningNetwork) (at to : captures.CaptureState) (from last : Lines) (before after : Put) : Type 0 where
   pub mid : RunningNetwork
   pub on : captures.CaptureState
@@ -237,13 +237,13 @@ pub record RunsSchedule (old new : RunningNetwork) (at to : captures.CaptureStat
 abbrev pub begun : NetworkDocument → List Class → RunningNetwork
 begun network classes = record { network = network; classes = classes; contents = opening_contents network; fault = None }
 
--- a run comes to these totals
+-- a run ends with these totals
 pub record RunsTo (old : RunningNetwork) (at to : captures.CaptureState) (from last : Lines) (before after : Put) (totals : Totals) : Type 0 where
   pub new : RunningNetwork
   pub runs : RunsSchedule old new at to from last before after
   pub totals_are : totals ≡ new.contents.totals
 
--- a line of the schedule is refused, or the schedule itself, or what is left for the closing phase
+-- a line of the schedule is refused, or the schedule itself, or what remains for the closing phase
 pub data RefusesRun (old : RunningNetwork) (at to : captures.CaptureState) (from last : Lines) (before : Put) (e : Fault) : Type 0 where
   line_refused : (mid : RunningNetwork) (on : captures.CaptureState) (behind : Lines) (put : Put) → HasObeyed old mid at on from behind before put
       → AtLine behind last → RefusesLine last.line last.number mid on to e → RefusesRun old at to from last before e

@@ -1,4 +1,4 @@
--- The lines of a schedule: words with a space between two of them.
+-- The lines of a schedule: words, each two separated by a space.
 use Rattle.std.specs.Prelude.{◌≡◌, ℕ, Bool, true, ◌&&◌, nat_lt, List, [], ◌∷◌, codes, decimal, Option, Some, None}
 use Rattle.std.specs.List.{join_with_byte}
 use Rattle.fx_run_text.specs.RunText.{IsNumber}
@@ -13,7 +13,7 @@ action_words (Emit device process aggregation) = codes "emit" ∷ decimal device
 action_words (Carry link octets) = codes "carry" ∷ decimal link ∷ decimal octets ∷ []
 action_words (Use device exporter destination) = codes "use" ∷ decimal device ∷ decimal exporter ∷ decimal destination ∷ []
 
--- how many octets are carried at once: from 1 to 65,535
+-- the number of octets carried at once: from 1 to 65,535
 abbrev pub is_piece : ℕ → Bool
 is_piece octets = nat_lt 0 octets && nat_lt octets 65536
 
@@ -25,11 +25,11 @@ IsAction (Emit device process aggregation) = IsNumber device × IsNumber process
 IsAction (Carry link octets) = IsNumber link × (is_piece octets ≡ true)
 IsAction (Use device exporter destination) = IsNumber device × IsNumber exporter × IsNumber destination
 
--- the line, without its line feed, asks for this
+-- the line, without its line feed, requests this action
 abbrev pub AsksFor : List ℕ → Action → Type 0
 AsksFor line action = IsAction action × (line ≡ join_with_byte 32 (action_words action))
 
--- what is read in a line: what it asks for, or none where it asks for nothing
+-- the result of reading a line: the action that it requests, or none if it requests none
 abbrev pub ReadsLine : List ℕ → Option Action → Type 0
 ReadsLine line (Some action) = AsksFor line action
 ReadsLine line None = (action : Action) → AsksFor line action → ⊥

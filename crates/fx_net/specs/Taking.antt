@@ -1,4 +1,4 @@
--- Caches and aggregations that take in what comes to them.
+-- How caches and aggregations add the records that come to them.
 use Rattle.std.specs.Prelude.{ℕ, List, [], ◌∷◌, ◌++◌, option_and_then, option_map, Option, Some, None, if◌then◌else◌}
 use Rattle.fx_base.specs.declared.counts.Counts.{Counts}
 use Rattle.fx_tables.specs.declared.holding.Holding.{Holding}
@@ -9,7 +9,7 @@ use Rattle.fx_net.specs.Contents.{Contents, with_changed, stored_at, is_immediat
 use Rattle.fx_net.specs.declared.leaving.Leaver.{Leaver}
 use Rattle.fx_net.specs.Leaving.{leaver, after_leaves}
 
--- the stores once something was added to some of them in turn, and what left to make room
+-- the stores after counts were added to some of them in order, and the entries that left to make room
 pub record Adding : Type 0 where
   pub stores : List (Option Stored)
   pub left : List Leaver
@@ -18,7 +18,7 @@ abbrev pub left_by : ℕ → Option Entry → List Leaver
 left_by holder None = []
 left_by holder (Some e) = leaver holder e ∷ []
 
--- the counts are added at a key of a holder
+-- the counts are added at the key of a holder
 abbrev pub with_holding : Counts → Holding → Adding → Adding
 with_holding counts h a = record {
   stores = with_changed (option_map (λ s. with_counts s h.key counts)) a.stores h.holder;
@@ -41,16 +41,16 @@ abbrev pub all_leave_at_once : List (Option Stored) → Counts → List Holding 
 all_leave_at_once stores counts [] = []
 all_leave_at_once stores counts (h ∷ hs) = leaves_at_once stores counts h ++ all_leave_at_once stores counts hs
 
--- with these in the stores
+-- the contents with these stores
 abbrev pub with_stores : Contents → List (Option Stored) → Contents
 with_stores c stores = record c { stores = stores }
 
--- what makes room has left
+-- the counts are added, and the entries that make room have left
 abbrev pub after_adding : Net → Counts → List Holding → Contents → Contents
 after_adding net counts holdings c =
     after_leaves net (stores_and_leavers c.stores counts holdings).left (with_stores c (stores_and_leavers c.stores counts holdings).stores)
 
--- All these take the counts in: what makes room leaves first, then the records of immediate caches.
+-- The counts are added to all these holders: entries that make room leave first, then the records of immediate caches.
 abbrev pub after_taking : Net → Counts → List Holding → Contents → Contents
 after_taking net counts holdings c =
     after_leaves net (all_leave_at_once (stores_and_leavers c.stores counts holdings).stores counts holdings) (after_adding net counts holdings c)

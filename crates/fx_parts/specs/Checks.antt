@@ -24,7 +24,7 @@ abbrev pub all_leads_alike : Net → Net → List ℕ → List (Option ℕ) → 
 all_leads_alike part whole places ds es =
     length ds == length es && each_lead_alike part whole places ds es
 
--- two exporting processes that are there send alike
+-- two exporting processes that both exist send alike
 abbrev pub exporters_alike : Net → Net → List ℕ → Option Exporter → Option Exporter → Bool
 exporters_alike part whole places (Some e) (Some f) =
     (if e.parallel then f.parallel else not f.parallel) && all_leads_alike part whole places e.destinations f.destinations

@@ -12,7 +12,7 @@ use Rattle.fx_tables.specs.Occurrences.{selects, watches}
 
 -- ---- entries
 
--- an exporting process: the place of the collecting process to which each of its destinations leads, if it leads to one
+-- an exporting process: for each of its destinations, the place of the collecting process that it leads to, if any
 pub record Sending : Type 0 where
   pub parallel : Bool
   pub leads : List (Option ℕ)
@@ -22,7 +22,7 @@ pub record Holding : Type 0 where
   pub layout : Layout
   pub sendings : List Sending
 
--- an aggregation: its match, and what holds its records
+-- an aggregation: its match, and the holder of its records
 pub record Taking : Type 0 where
   pub matches : List MatchEntry
   pub holding : Holding
@@ -61,22 +61,22 @@ abbrev pub metering_of : Net → Option Bounds → Option ℕ → List Metering
 metering_of net region None = []
 metering_of net region (Some holder) = record { region = region; holding = holding_of net (slice_get net.holders holder) } ∷ []
 
--- of these selection processes those that have a cache
+-- those of these selection processes that have a cache
 abbrev pub meterings_of : Net → List Selection → List Metering
 meterings_of net [] = []
 meterings_of net (s ∷ ss) = metering_of net s.region s.holder ++ meterings_of net ss
 
--- those of the observation points that observe a crossing
+-- the selection processes with a cache of the observation points that observe a crossing
 abbrev pub meterings_at : Net → List Point → Crossing → List Metering
 meterings_at net [] crossing = []
 meterings_at net (point ∷ points) crossing =
     (if watches point crossing then meterings_of net point.selections else []) ++ meterings_at net points crossing
 
--- those that a packet on a path passes, in order
+-- the selection processes with a cache that a packet on a path passes, in order
 abbrev pub meterings : Net → List Crossing → List Metering
 meterings net [] = []
 meterings net (c ∷ cs) = meterings_at net (points_of (entry_numbered net.devices c.device)) c ++ meterings net cs
 
--- the caches that take in a packet on a path, in order
+-- the caches that meter a packet on a path, in order
 abbrev pub taken_by : Net → List Crossing → Fields → List Holding
 taken_by net path fields = map (λ m. m.holding) (filter (λ m. selects m.region fields) (meterings net path))

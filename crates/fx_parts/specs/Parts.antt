@@ -12,7 +12,7 @@ use Rattle.fx_parts.specs.Meaning.{Sending, Holding, Taking, Handling, Metering,
 
 -- ---- collecting processes by their places in the whole
 
--- the place in the whole of a collecting process of the part, if there is one: the list has that of each
+-- the place in the whole of a collecting process of the part, if there is one: the list has the place of each
 abbrev pub lead_in : List ℕ → Option ℕ → Option ℕ
 lead_in places None = None
 lead_in places (Some process) = slice_get places process
@@ -34,7 +34,7 @@ metering_in places m = record { region = m.region; holding = holding_in places m
 
 -- ---- parts
 
--- each collecting process of the part has a place in the whole, and the process there does the same with a record; the
+-- each collecting process of the part has a place in the whole, and the process at that place does the same with a record; the
 -- report is the same, with the same layout
 pub record IsPart (part whole : Net) (places : List ℕ) : Type 0 where
   pub each : length places ≡ length part.processes
@@ -47,7 +47,7 @@ pub record IsPart (part whole : Net) (places : List ℕ) : Type 0 where
 abbrev pub MetersTheSame : Net → Net → List ℕ → List Crossing → List Crossing → Type 0
 MetersTheSame part whole places inner outer = meterings whole outer ≡ map (metering_in places) (meterings part inner)
 
--- the same caches take in each packet of a region, also if selection processes that select no packet of the region
+-- the same caches meter each packet of a region, even if selection processes that select no packet of the region
 -- are left out
 abbrev pub TakesInTheSame : Net → Net → List ℕ → Bounds → List Crossing → List Crossing → Type 0
 TakesInTheSame part whole places region inner outer =
@@ -88,7 +88,7 @@ AllCertifiedParts whole parts = (n : ℕ) (part : Part) → slice_get parts n �
 
 -- ---- a class of a part that covers all paths of a class of the whole
 
--- as many paths, on each of which a packet passes the same selection processes as on the one with its number
+-- the same number of paths, on each of which a packet passes the same selection processes as on the path with the same number
 pub record PathsAlike (part whole : Net) (places : List ℕ) (inner outer : List (List Crossing)) : Type 0 where
   pub as_many : length inner ≡ length outer
   pub same : (k : ℕ) (path : List Crossing) → slice_get outer k ≡ Some path → (other : List Crossing) × (slice_get inner k ≡ Some other) × MetersTheSame part whole places other path

@@ -14,20 +14,20 @@ use Rattle.fx_pcap.specs.declared.skipped.Skipped.{Skipped}
 use Rattle.fx_pcap.specs.declared.frame.Frame.{Frame}
 use Rattle.fx_pcap.specs.Records.{CapturedRecord, Records, records_of, format_of}
 
--- what a frame lends, and what it says of its packet
+-- what a frame lends, and what it says about its packet
 pub record Seen : Type 0 where
   -- the octets that were captured
   pub captured : List ℕ
   -- the value on each axis
   pub fields : List ℕ
-  -- how many octets the packet has
+  -- the number of octets of the packet
   pub octets : ℕ
   pub second : ℕ
 
 abbrev pub seen_of : Frame → Seen
 seen_of frame = record { captured = frame.captured.now; fields = frame.fields; octets = frame.octets; second = frame.second }
 
--- the numbers of skipped frames, with one more where this is skipped
+-- the numbers of skipped frames, one of them increased if this frame is skipped
 abbrev pub skips_with : Skipped → Content → Skipped
 skips_with s (Packet fields octets) = s
 skips_with s Other = record s { other = (s.other + 1) % 2 ^ 64 }
@@ -43,12 +43,12 @@ abbrev pub frames_in : Skipped → List CapturedRecord → List (Seen × Skipped
 frames_in s [] = []
 frames_in s (item ∷ items) = with_frame item.content item.captured item.second s (frames_in (skips_with s item.content) items)
 
--- the numbers of skipped frames in the end
+-- the numbers of skipped frames after all records
 abbrev pub skipped_in : Skipped → List CapturedRecord → Skipped
 skipped_in s [] = s
 skipped_in s (item ∷ items) = skipped_in (skips_with s item.content) items
 
--- What is ahead: frames, the numbers of skipped ones behind the last, and the fault at which they end.
+-- What is ahead: frames, the numbers of skipped frames after the last one, and the fault at which they end, if any.
 pub record FramesAhead : Type 0 where
   pub frames : List (Seen × Skipped)
   pub skipped : Skipped
@@ -57,24 +57,24 @@ pub record FramesAhead : Type 0 where
 abbrev pub ahead_in : Skipped → Records → FramesAhead
 ahead_in s r = record { frames = frames_in s r.items; skipped = skipped_in s r.items; fault = r.fault }
 
--- What a reader of a capture is seen as.
+-- The abstract state of a reader of a capture.
 pub record CaptureState : Type 0 where
-  -- the octets behind the frame that it is at, where they are told
+  -- the octets after the current frame, if they are known
   pub left : Option (List ℕ)
   pub format : Format
-  -- the number of the first of them
+  -- the index of the first of these octets
   pub place : ℕ
   pub skipped : Skipped
-  -- the frame that it is at
+  -- the current frame
   pub seen : Seen
-  -- the fault that it answers from now on
+  -- the fault that it returns from now on
   pub stopped : Option Fault
   -- whether its source's last call failed
   pub failed : Bool
-  -- how many calls of its source it has made, and how many were made of it at all, modulo 2 to the 64
+  -- the number of calls of its source that it made, and of all calls made of that source, modulo 2 to the 64
   pub calls : ℕ
   pub asked : ℕ
-  -- how many octets it holds
+  -- the number of octets that it holds
   pub held : ℕ
 
 -- what is ahead of a reader that has these octets left
@@ -87,32 +87,32 @@ nothing_more s fault = record { frames = []; skipped = s; fault = fault }
 abbrev pub with_first : Seen → Skipped → FramesAhead → FramesAhead
 with_first seen s a = record a { frames = (seen, s) ∷ a.frames }
 
--- whatever is left now, this is what was ahead of octets that may have been left
+-- for every possible rest, what was ahead of octets that may have been left is `f` of what is ahead of the rest
 abbrev pub HadAhead : CaptureState → CaptureState → (FramesAhead → FramesAhead) → Type 0
 HadAhead old new f = (rest : List ℕ) → MayBeLeft new.left rest → MayHaveLeft old.left (λ octets. ahead_of old octets ≡ f (ahead_of new rest))
 
--- falls with each frame
+-- a measure that decreases with each frame
 abbrev pub frame_budget : CaptureState → ℕ
 frame_budget r = (call_limit - r.calls) * (ROOM + 1) + r.held
 
--- how many of these octets, which it has left, it hasn't read
+-- the number of these octets, which the reader has left, that it hasn't read yet
 abbrev pub unread : CaptureState → List ℕ → ℕ
 unread r octets = length octets - r.held
 
--- the reader's calls are calls of its source
+-- each call by the reader is a call of its source
 pub record CallsForFrames (old new : CaptureState) : Type 0 where
   pub calls : old.calls ≤ new.calls
   pub asked : IsAsked old.asked (new.calls - old.calls) new.asked
 
--- each call gives an octet, but so many, which come to the end of the capture
+-- each call returns at least one octet, except at most `n` calls, which reach the end of the capture
 abbrev pub GainsFrames : ℕ → CaptureState → CaptureState → Type 0
 GainsFrames n old new =
     IfSome old.left (λ octets. (rest : List ℕ) × (new.left ≡ Some rest) × (new.calls + unread new rest ≤ old.calls + unread old octets + n))
 
--- it goes on to a frame
+-- the reader advances to a frame
 pub record AtFrame (old new : CaptureState) : Type 0 where
   pub going : (old.stopped ≡ None) × (new.stopped ≡ None)
-  -- the frame comes before what is ahead now
+  -- what was ahead is the frame, then what is ahead now
   pub frames : HadAhead old new (with_first new.seen new.skipped)
   pub untold : old.left ≡ None → new.left ≡ None
   pub format : new.format ≡ old.format
@@ -120,7 +120,7 @@ pub record AtFrame (old new : CaptureState) : Type 0 where
   pub gains : GainsFrames 0 old new
   pub smaller : frame_budget new < frame_budget old
 
--- it stays at the end of the capture
+-- the reader stays at the end of the capture
 pub record AtCaptureEnd (old new : CaptureState) : Type 0 where
   pub going : (old.stopped ≡ None) × (new.stopped ≡ None)
   pub frames : MayHaveLeft old.left (λ octets. ahead_of old octets ≡ nothing_more new.skipped None)
@@ -130,46 +130,46 @@ pub record AtCaptureEnd (old new : CaptureState) : Type 0 where
   pub asks : CallsForFrames old new
   pub gains : GainsFrames 1 old new
 
--- its source's last call failed, or it made so many calls and the source hasn't ended
+-- the source's last call failed, or the reader used up the call limit and the source hasn't ended
 abbrev pub IsCaptureCutOff : CaptureState → CaptureState → Type 0
 IsCaptureCutOff old new =
     (new.failed ≡ true)
     ⊎ ((new.calls ≡ call_limit) × CallsForFrames old new × IfSome old.left (λ octets. call_limit ≤ old.calls + unread old octets))
 
--- why a reader that hadn't stopped stops
+-- why a reader that hadn't stopped before stops
 abbrev pub StopsCapture : CaptureState → CaptureState → Fault → Type 0
 StopsCapture old new e =
     ((e ≡ fault_at failed_read places.None) × IsCaptureCutOff old new)
     ⊎ (((e ≡ fault_at capture_cut (places.Octet new.place)) ⊎ (e ≡ fault_at long_capture_record (places.Octet new.place))) × MayHaveLeft old.left (λ octets. ahead_of old octets ≡ nothing_more new.skipped (Some e)))
 
--- it answers a fault, the same one from then on
+-- the reader returns a fault, and the same fault from then on
 pub record RefusesCapture (old new : CaptureState) (e : Fault) : Type 0 where
   pub from_now_on : new.stopped ≡ Some e
   pub same : IsSome old.stopped → new ≡ old
   pub again : IfSome old.stopped (λ f. e ≡ f)
   pub first : old.stopped ≡ None → StopsCapture old new e
 
--- what a reader of a capture answers where it fails: 901, or 703 or 704 at an octet
+-- the faults of a reader of a capture: 901, or 703 or 704 at an octet
 pub data IsToldByCapture (e : Fault) : Type 0 where
   not_read : e ≡ fault_at failed_read places.None → IsToldByCapture e
   cut_off : (octet : ℕ) → e ≡ fault_at capture_cut (places.Octet octet) → IsToldByCapture e
   too_long : (octet : ℕ) → e ≡ fault_at long_capture_record (places.Octet octet) → IsToldByCapture e
 
--- what going on to the next frame does
+-- the effect of advancing to the next frame
 abbrev pub AdvancesToFrame : CaptureState → CaptureState → Result Bool Fault → Type 0
 AdvancesToFrame old new (Ok true) = AtFrame old new
 AdvancesToFrame old new (Ok false) = AtCaptureEnd old new
 AdvancesToFrame old new (Err e) = RefusesCapture old new e
 
--- what a reader in this state may answer: it goes on to the frame that it lends, or stays at the end, or answers a fault
+-- what a reader in this state may return: the frame that it advances to, no frame at the end of the capture, or a fault
 abbrev pub NextFrameIs : CaptureState → Result (Option Frame) Fault → Type 0
 NextFrameIs old (Ok (Some frame)) = (new : CaptureState) × AtFrame old new × (seen_of frame ≡ new.seen)
 NextFrameIs old (Ok None) = (new : CaptureState) × AtCaptureEnd old new
 NextFrameIs old (Err e) = (new : CaptureState) × RefusesCapture old new e
 
--- a reader of a source that has these octets left, of which so many calls were made, behind the file header
+-- a reader just after the file header, of a source that had these octets left and these calls made of it
 pub record IsOpened (left : Option (List ℕ)) (asked : ℕ) (new : CaptureState) : Type 0 where
-  -- whatever is left behind the header, octets that begin with it may have been left
+  -- for every possible rest after the header, the header and the rest are octets that may have been left before
   pub format : (rest : List ℕ) → MayBeLeft new.left rest → MayHaveLeft left (λ octets. (format_of octets ≡ Ok new.format) × (drop 24 octets ≡ rest))
   pub rest : IfSome left (λ octets. new.left ≡ Some (drop 24 octets))
   pub untold : left ≡ None → new.left ≡ None
@@ -177,14 +177,14 @@ pub record IsOpened (left : Option (List ℕ)) (asked : ℕ) (new : CaptureState
   pub skipped : new.skipped ≡ record { other = 0; malformed = 0 }
   pub going : new.stopped ≡ None
   pub asks : IsAsked asked new.calls new.asked
-  -- each call gave an octet
+  -- each call returned at least one octet
   pub gains : IfSome left (λ octets. new.calls + unread new (drop 24 octets) ≤ length octets)
 
--- a source that has these octets left, of which so many calls were made, can't be read: so it says at last
+-- a source with these octets left and these calls made of it can't be read to its end, as its last state shows
 abbrev pub IsUnreadable : {R : Type 0} → (R → ℕ) → (R → Bool) → Option (List ℕ) → ℕ → Type 0
 IsUnreadable {R} calls failed left asked = (last : R) × IsUnread left asked (calls last) (failed last)
 
--- why a capture isn't opened: want of memory, a source that can't be read, or its file header
+-- why a capture isn't opened: out of memory, a source that can't be read, or its file header
 abbrev pub IsRefusedCapture : Option (List ℕ) → Type 0 → Fault → Type 0
 IsRefusedCapture left unread e =
     (e ≡ fault_at want_of_memory places.None)

@@ -1,4 +1,4 @@
--- The first record among the octets of a capture, of which some are held.
+-- The first record of a capture of which some octets are held.
 use Rattle.std.specs.Prelude.{◌≡◌, ℕ, ◌+◌, ◌≤◌, ◌<◌, List, [], length, Some, IfSome}
 use Rattle.fx_base.specs.Device.{MayHaveLeft}
 use Rattle.fx_base.specs.Window.{Held, octets_of, HasFailed}
@@ -8,11 +8,11 @@ use Rattle.fx_pcap.specs.declared.stop.CaptureStop.{CaptureStop}
 use Rattle.fx_pcap.specs.declared.stop.CaptureStop.TheVariants.{Device, Cut, TooLong}
 use Rattle.fx_pcap.specs.Records.{captured_length, record_fault}
 
--- nothing is left
+-- no octets are held or left
 abbrev pub HasEnded : Held → Type 0
 HasEnded w = (w.held ≡ []) × IfSome w.left (λ left. left ≡ [])
 
--- the first record is held, whole, and has so many octets
+-- the first record is held as a whole, and has this number of octets
 pub record HasRecord (order : Order) (n : ℕ) (held : List ℕ) : Type 0 where
   pub size : n ≡ 16 + captured_length order held
   pub short : captured_length order held ≤ 262144

@@ -1,7 +1,7 @@
--- What packets of both versions of IP have.
+-- What IPv4 and IPv6 packets have in common.
 use Rattle.std.specs.Prelude.{ℕ, ◌/◌, Bool, ◌==◌, ◌||◌, List, slice_index}
 
--- the first four bits
+-- the IP version: the first four bits
 abbrev pub version : List ℕ → ℕ
 version octets = slice_index octets 0 / 16
 

@@ -1,4 +1,4 @@
--- A reader of a capture by what it keeps.
+-- A reader of a capture in terms of the state that it keeps.
 use Rattle.std.specs.Prelude.{◌≡◌, ℕ, ◌-◌, ◌≤◌, ◌<◌, Bool, true, false, List, length, drop, min, Option, None, slice_range, Result, Ok, Err}
 use Rattle.std.specs.Option.{option_map}
 use Rattle.std.specs.Io.KnownBytes.{prepend_known}
@@ -46,12 +46,12 @@ reading_of w k =
       held = length w.held - k.taken;
     }
 
--- the record that it is at is at the front of what its window holds
+-- the current record is at the front of what the window holds
 pub record IsCaptureWindow (w : Held) (taken : ℕ) : Type 0 where
   pub room : w.room ≡ ROOM
   pub within : taken ≤ length w.held
 
--- a record was taken, and its frame passed over
+-- a record was read, and its frame skipped
 pub record Passes (old new : CaptureState) : Type 0 where
   pub going : new.stopped ≡ None
   pub frames : HadAhead old new (λ a. a)
@@ -61,19 +61,19 @@ pub record Passes (old new : CaptureState) : Type 0 where
   pub gains : GainsFrames 0 old new
   pub smaller : frame_budget new < frame_budget old
 
--- it can't go on
+-- the reader can't continue
 pub record Halts (old new : CaptureState) (e : Fault) : Type 0 where
   pub going : new.stopped ≡ None
   pub why : StopsCapture old new e
 
--- what taking the next record does
+-- the effect of reading the next record
 abbrev pub Takes : CaptureState → CaptureState → Result RecordKind CaptureStop → Type 0
 Takes old new (Ok taken.Frame) = AtFrame old new
 Takes old new (Ok taken.Skipped) = Passes old new
 Takes old new (Ok taken.End) = AtCaptureEnd old new
 Takes old new (Err stop) = Halts old new (fault_of new.place stop)
 
--- what going on to the next frame does, but for the fault that is kept
+-- the effect of advancing to the next frame, without storing the fault
 abbrev pub GoesOnToFrame : CaptureState → CaptureState → Result Bool CaptureStop → Type 0
 GoesOnToFrame old new (Ok true) = AtFrame old new
 GoesOnToFrame old new (Ok false) = AtCaptureEnd old new

@@ -4,11 +4,11 @@ use Rattle.byteorder.specs.Endian.{big_number, little_number}
 use Rattle.fx_pcap.specs.declared.order.Order.{Order}
 use Rattle.fx_pcap.specs.declared.order.Order.TheVariants.{Big, Little}
 
--- the number in so many octets from a place on, the most significant first
+-- the number in `n` octets from an index on, most significant octet first
 abbrev pub network : ℕ → ℕ → List ℕ → ℕ
 network n at octets = big_number n (drop at octets)
 
--- the same in either order
+-- the same in the given octet order
 abbrev pub number_in : Order → ℕ → ℕ → List ℕ → ℕ
 number_in Big n at octets = big_number n (drop at octets)
 number_in Little n at octets = little_number n (drop at octets)

@@ -15,7 +15,7 @@ use Rattle.fx_pcap.specs.Frames.{content_of}
 
 -- ---- the file header: 24 octets
 
--- of captures with microseconds and with nanoseconds
+-- the magic numbers of captures with microseconds and with nanoseconds
 abbrev pub is_magic : ℕ → Bool
 is_magic n = n == 0xa1b2c3d4 || n == 0xa1b23c4d
 
@@ -39,7 +39,7 @@ of_order (Some order) octets =
     then of_link order (link_of (number_in order 4 20 octets))
     else no_capture
 
--- magic, version, and behind zone, accuracy and snap length the link type
+-- magic number and version, and, after time zone, accuracy and snap length, the link type
 abbrev pub format_of : List ℕ → Result Format Fault
 format_of octets = if nat_lt (length octets) 24 then no_capture else of_order (order_of octets) octets
 
@@ -52,14 +52,14 @@ second_of order octets = number_in order 4 0 octets
 abbrev pub captured_length : Order → List ℕ → ℕ
 captured_length order octets = number_in order 4 8 octets
 
--- what is wrong with the first record of some octets
+-- the number of the fault of the first record of some octets, if any
 abbrev pub record_fault : Order → List ℕ → Option ℕ
 record_fault order octets =
     if nat_lt (length octets) 16 then Some capture_cut
     else (if nat_lt 262144 (captured_length order octets) then Some long_capture_record
     else (if nat_lt (length octets) (16 + captured_length order octets) then Some capture_cut else None))
 
--- what a record holds: its captured octets, what they are, and when they were captured
+-- what a record holds: its captured octets, their content, and the second of capture
 pub record CapturedRecord : Type 0 where
   pub captured : List ℕ
   pub content : Content
@@ -75,12 +75,12 @@ item_of format octets = record {
   second = second_of format.order octets;
 }
 
--- records, and the fault at which they end
+-- records, and the fault at which they end, if any
 pub record Records : Type 0 where
   pub items : List CapturedRecord
   pub fault : Option Fault
 
--- an octet's number stops at 2 to the 64 less 1
+-- the index of an octet is capped at 2 to the 64 less 1
 abbrev pub place_after : ℕ → ℕ → ℕ
 place_after place n = min (place + n) (2 ^ 64 - 1)
 
@@ -88,7 +88,7 @@ abbrev pub with_item : Option ℕ → ℕ → CapturedRecord → Records → Rec
 with_item (Some number) place item rest = record { items = []; fault = Some (fault_at number (places.Octet place)) }
 with_item None place item rest = record { items = item ∷ rest.items; fault = rest.fault }
 
--- the records of octets from this place on, of which the first few belong to a record that was read already
+-- the records of octets from this place on, of which the first `n` octets belong to a record that was already read
 abbrev pub records_behind : Format → ℕ → ℕ → List ℕ → Records
 records_behind format place n [] = record { items = []; fault = None }
 records_behind format place (suc n) (o ∷ octets) = records_behind format (place_after place 1) n octets
@@ -98,9 +98,9 @@ records_behind format place zero (o ∷ octets) =
 abbrev pub records_of : Format → ℕ → List ℕ → Records
 records_of format place octets = records_behind format place 0 octets
 
--- ---- the same, said case by case
+-- ---- the same, stated case by case
 
--- no octets have no records; a whole record comes before those of the octets behind it; a fault comes at a record's place
+-- no octets hold no records; a whole record precedes those of the octets after it; a fault is at the place of its record
 pub data AreRecords (format : Format) : ℕ → List ℕ → Records → Type 0 where
   no_octets : (place : ℕ) → AreRecords format place [] (record { items = []; fault = None })
   whole_record : (place : ℕ) (octets : List ℕ) (behind : Records) → 0 < length octets → record_fault format.order octets ≡ None → AreRecords format (place_after place (16 + captured_length format.order octets)) (drop (16 + captured_length format.order octets) octets) behind → AreRecords format place octets (record { items = item_of format octets ∷ behind.items; fault = behind.fault })

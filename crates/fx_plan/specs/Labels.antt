@@ -1,4 +1,4 @@
--- How the things of a network's devices are named: by the device and by their own name.
+-- How the parts of a network's devices are named: by the device and by their own name.
 use Rattle.std.specs.Prelude.{◌≡◌, ℕ, ◌<◌, ◌≤◌, List, [], ◌∷◌, length, Bool, ◌&&◌, map, slice_index_or}
 use Rattle.std.specs.List.{flat_map, position_or_len}
 use Rattle.std.specs.Str.{bytes_eq}
@@ -8,7 +8,7 @@ pub record Label : Type 0 where
   pub device : List ℕ
   pub name : List ℕ
 
--- those of a device's things, and of all devices' in document order
+-- the labels of the parts of one device, and of all devices in document order
 abbrev pub device_labels : {X : Type 0} → (X → List ℕ) → List ℕ → List X → List Label
 device_labels name device things = map (λ thing. record { device = device; name = name thing }) things
 
@@ -27,13 +27,13 @@ collecting_labels = labels_of (λ x. x.config.collecting_processes) (λ p. p.nam
 abbrev pub is_label : List ℕ → List ℕ → Label → Bool
 is_label device name label = bytes_eq label.device device && bytes_eq label.name name
 
--- the place in a table whose entries have these labels; behind the table where there is none
+-- the index of the table entry with this label; the length of the table if there is none
 abbrev pub place : List Label → List ℕ → List ℕ → ℕ
 place labels device name = position_or_len (is_label device name) labels
 
 -- ---- groups
 
--- labels of one device that stand one after another, up to an end
+-- consecutive labels of one device, up to an end
 pub record Group : Type 0 where
   pub device : List ℕ
   pub start : ℕ
@@ -42,7 +42,7 @@ pub record Group : Type 0 where
 abbrev pub AreOfDevice : Group → List Label → Type 0
 AreOfDevice group labels = (k : ℕ) (d : Label) → group.start ≤ k → k < group.end → (slice_index_or labels k d).device ≡ group.device
 
--- labels fall into groups, from this place on up to an end
+-- labels fall into consecutive groups, from this index up to an end
 abbrev pub AreGrouped : ℕ → List Label → List Group → ℕ → Type 0
 AreGrouped from labels [] end = from ≡ end
 AreGrouped from labels (group ∷ groups) end =

@@ -10,7 +10,7 @@ is_known known layout = list_any (λ other. same_layout other layout) known
 abbrev pub with_layout : List Layout → Layout → List Layout
 with_layout known layout = if is_known known layout then known else known ++ layout ∷ []
 
--- layouts more, each only where it isn't there yet
+-- adds layouts, each only if it isn't in the list yet
 abbrev pub with_layouts : List Layout → List Layout → List Layout
 with_layouts known [] = known
 with_layouts known (layout ∷ layouts) = with_layouts (with_layout known layout) layouts
@@ -21,7 +21,7 @@ held_layouts holders = map (λ holder. holder.layout) holders
 abbrev pub layouts_of : Net → List Layout
 layouts_of net = with_layout (with_layouts [] (held_layouts net.holders)) net.report_layout
 
--- these are the numbers, from 0, of the layouts of what holds records
+-- these are the 0-based numbers of the layouts of the holders of records
 abbrev pub AreNumbers : List Layout → List Holder → List ℕ → Type 0
 AreNumbers layouts [] [] = Unit {0}
 AreNumbers layouts [] (number ∷ numbers) = ⊥

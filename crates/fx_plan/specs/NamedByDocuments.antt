@@ -25,13 +25,13 @@ SelectorsNameOnly named process = All (λ (s : Selector). MethodNamesOnly named 
 abbrev pub AggregationsNameOnly : (Axis → Bool) → CollectingProcess → Type 0
 AggregationsNameOnly named process = All (λ (a : Aggregation). LayoutNamesOnly named a.key) process.aggregations
 
--- a device's filters, fields of caches and keys of aggregations are of named axes; what aggregations match may be of any
+-- the filters, cache fields and aggregation keys of a device use only named axes; the matches of aggregations may use any axis
 pub record DeviceNamesOnly (named : Axis → Bool) (device : Device) : Type 0 where
   pub selectors : All (SelectorsNameOnly named) device.selection_processes
   pub caches : All (λ (c : Cache). LayoutNamesOnly named c.layout) device.caches
   pub aggregations : All (AggregationsNameOnly named) device.collecting_processes
 
--- so are those of all devices, and the report's key
+-- all devices, and the report's key, use only named axes
 pub record DocumentNamesOnly (named : Axis → Bool) (network : NetworkDocument) : Type 0 where
   pub devices : All (λ (x : NetworkDevice). DeviceNamesOnly named x.config) network.devices
   pub report : LayoutNamesOnly named (report_layout_of network)

@@ -1,4 +1,4 @@
--- What a network document is planned as, and what refuses it once its walk has found no fault.
+-- The plan of a network document, and the refusals that remain once its walk has found no fault.
 use Rattle.std.specs.Prelude.{◌≡◌, ◌⊎◌, ℕ, ◌<◌, ◌≤◌, List, [], length, reverse, slice_get, Result, Ok, Err}
 use Rattle.serde_json.specs.Data.{Data}
 use Rattle.fx_base.specs.declared.fault.Fault.{Fault}
@@ -19,17 +19,17 @@ use Rattle.fx_topology.specs.Networks.{network_faults, network_of}
 use Rattle.fx_ranks.specs.Ranks.{AreStuck, IsStuck, IsWhole, LinksLead}
 use Rattle.fx_plan.specs.Tables.{net_of}
 
--- the links and the report lead to processes that are there
+-- the links and the report lead to existing processes
 pub record IsResolved (net : Net) : Type 0 where
   pub leads : LinksLead net
   pub report : net.report < length net.processes
 
--- ---- what refuses it
+-- ---- refusals
 
 abbrev pub HasTooManyLayouts : Net → Type 0
 HasTooManyLayouts net = layout_limit < length (layouts_of net)
 
--- some processes are stuck, so there are no ranks, and the fault tells them all
+-- some processes are stuck, so there are no ranks, and the fault lists all stuck processes
 pub record IsCycle (network : NetworkDocument) (e : Fault) : Type 0 where
   pub stuck : List ℕ
   pub are_stuck : AreStuck (net_of network) stuck
@@ -44,14 +44,14 @@ RefusesNetwork network e =
     ((e ≡ fault_at too_many_layouts places.None) × HasTooManyLayouts (net_of network))
     ⊎ ((length (layouts_of (net_of network)) ≤ layout_limit) × IsCycle network e)
 
--- what reading a plan comes to: the network that the document means, if it has no fault at all, and else its first
--- fault; or want of memory
+-- the result of reading a plan: the network that the document declares, if it has no fault, otherwise its first
+-- fault; or out of memory
 abbrev pub ReadsPlan : Data → Result NetworkDocument Fault → Type 0
 ReadsPlan d (Ok network) =
     (network_faults [] d ≡ []) × (network ≡ network_of d) × (length (layouts_of (net_of network)) ≤ layout_limit) × ((process : ℕ) → IsStuck (net_of network) process → ⊥)
 ReadsPlan d (Err e) = Refuses e (network_faults [] d) ⊎ ((network_faults [] d ≡ []) × RefusesNetwork (network_of d) e)
 
--- ---- what it keeps
+-- ---- the contents of a plan
 
 pub record IsPlan (network : NetworkDocument) (net : Net) (ranked order : List ℕ) (layouts : List Layout) (numbers : List ℕ) : Type 0 where
   pub net_is : net ≡ net_of network

@@ -1,4 +1,4 @@
--- The tables of the network that a document means.
+-- The tables of the network that a document declares.
 use Rattle.std.specs.Prelude.{ℕ, ◌+◌, List, [], ◌∷◌, ◌++◌, length, Bool, true, false, ◌&&◌, map, Option, Some, None, option_map, option_and_then, if◌then◌else◌}
 use Rattle.std.specs.List.{flat_map, position}
 use Rattle.std.specs.Option.{unwrap_or}
@@ -27,9 +27,9 @@ use Rattle.fx_plan.specs.Labels.{Label, exporting_labels, cache_labels, collecti
 use Rattle.fx_topology.specs.Links.{leads_from}
 use Rattle.fx_topology.specs.Reports.{key_layout}
 
--- ---- exporting processes: each destination with the place of the link that leads from it, if there is one
+-- ---- exporting processes: each destination with the index of the link that leads from it, if any
 
--- whether each record goes to all destinations; in the other modes it goes to any one
+-- whether each record goes to all destinations; in the other modes it goes to any one of them
 abbrev pub is_parallel : ExportMode → Bool
 is_parallel Parallel = true
 is_parallel LoadBalancing = false
@@ -44,7 +44,7 @@ exporter_of links device process = record {
 abbrev pub exporters_of : List NamedLink → List NetworkDevice → List machine.Exporter
 exporters_of links devices = flat_map (λ x. map (exporter_of links x.name) x.config.exporting_processes) devices
 
--- ---- what holds records: all caches, then all aggregations, with the places of the exporting processes that they name
+-- ---- holders of records: all caches, then all aggregations, with the indices of the exporting processes that they name
 
 abbrev pub holder_with : List Label → List ℕ → Layout → List (List ℕ) → machine.Holder
 holder_with exporting device layout names = record { layout = layout; exporters = map (place exporting device) names }
@@ -55,7 +55,7 @@ cache_holder exporting device cache = holder_with exporting device cache.layout 
 abbrev pub aggregation_holder : List Label → List ℕ → Aggregation → machine.Holder
 aggregation_holder exporting device aggregation = holder_with exporting device aggregation.key aggregation.exporting_processes
 
--- what holds the records of these processes' aggregations
+-- the holders of the records of these processes' aggregations
 abbrev pub held_by : List Label → List ℕ → List CollectingProcess → List machine.Holder
 held_by exporting device processes = flat_map (λ p. map (aggregation_holder exporting device) p.aggregations) processes
 
@@ -74,7 +74,7 @@ holders_of devices = cache_holders (exporting_labels devices) devices ++ aggrega
 abbrev pub match_entry : PropertyMatch → MatchEntry
 match_entry m = record { axis = m.axis; bits = m.range.bits; value = leading_bits (axis_width m.axis) m.range.bits m.range.low }
 
--- aggregations whose records are held from this place on
+-- aggregations whose holders begin at this index
 abbrev pub aggregations_from : ℕ → List Aggregation → List machine.AggregationEntry
 aggregations_from holder [] = []
 aggregations_from holder (a ∷ rest) = record { holder = holder; matches = map match_entry a.matches } ∷ aggregations_from (holder + 1) rest
@@ -95,7 +95,7 @@ processes_in exporting holder (x ∷ xs) =
     processes_from exporting x.name holder x.config.collecting_processes
     ++ processes_in exporting (holder + length (held_by exporting x.name x.config.collecting_processes)) xs
 
--- their records are held behind those of all caches
+-- collecting processes, whose holders come after those of all caches
 abbrev pub processes_of : List NetworkDevice → List machine.Process
 processes_of devices = processes_in (exporting_labels devices) (length (cache_holders (exporting_labels devices) devices)) devices
 
@@ -105,14 +105,14 @@ abbrev pub process_named : List SelectionProcess → List ℕ → Option Selecti
 process_named [] name = None
 process_named (p ∷ ps) name = if bytes_eq p.name name then Some p else process_named ps name
 
--- a selection process of this name, with the place of its cache, if it has one
+-- the selection process of this name, with the index of its cache, if any
 abbrev pub selection_of : List Label → NetworkDevice → List ℕ → Selection
 selection_of caches x name = record {
   region = option_and_then region_of (process_named x.config.selection_processes name);
   holder = option_map (place caches x.name) (option_and_then (λ p. p.cache) (process_named x.config.selection_processes name));
 }
 
--- which way the packets go that a point sees
+-- whether a point observes packets that come in, and packets that go out
 abbrev pub sees_in : Direction → Bool
 sees_in Ingress = true
 sees_in Egress = false

@@ -1,4 +1,4 @@
--- What confirming goes through.
+-- The steps of confirming a refutation.
 use Rattle.std.specs.Prelude.{◌≡◌, ℕ, ◌+◌, List, ◌∷◌, ◌++◌, map, length, Ok, Err}
 use Rattle.fx_base.specs.declared.fault.Fault.{Fault}
 use Rattle.fx_base.specs.declared.fault.Place.TheVariants as places
@@ -15,7 +15,7 @@ use Rattle.fx_machine.specs.Steps.{run, after, one_packet}
 use Rattle.fx_machine.specs.Sums.{total_at}
 use Rattle.fx_collect.specs.Totals.{Totals, nothing, with_records}
 
--- the first of these steps that isn't enabled is told by its line
+-- the first of these steps that isn't enabled is reported by its line
 pub record IsStopped (net : Net) (classes : List Class) (packets : List Packet) (steps : List Step) (s : State) (e : Fault) : Type 0 where
   pub before : List Step
   pub step : Step
@@ -31,11 +31,11 @@ pub record IsStopped (net : Net) (classes : List Class) (packets : List Packet) 
 abbrev pub own_record : Layout → Packet → Record
 own_record layout p = record { key = key_of layout p.fields; counts = one_packet p }
 
--- what is counted where the record of each of these packets is tallied
+-- the totals that result when the record of each of these packets is tallied
 abbrev pub plain_totals : Layout → List Packet → Totals
 plain_totals layout packets = with_records (nothing layout) (map (own_record layout) packets)
 
--- nothing is unassigned, there are as many keys, and both have the same at this one
+-- nothing is unassigned, both have the same number of keys, and both have the same total at this key
 pub record TotalsAgreeAt (ran plain : Totals) (key : Key) : Type 0 where
   pub assigned : ran.unassigned ≡ 0
   pub keys : length ran.entries ≡ length plain.entries

@@ -1,4 +1,4 @@
--- How reading goes on from line to line.
+-- How reading continues from line to line.
 use Rattle.std.specs.Prelude.{◌≡◌, ℕ, List, [], ◌∷◌, Ok, Err}
 use Rattle.fx_base.specs.declared.fault.Fault.{Fault}
 use Rattle.fx_base.specs.Device.{MayBeLeft, MayHaveLeft}
@@ -9,19 +9,19 @@ use Rattle.fx_run_text.specs.declared.run_line.RunLine.{RunLine}
 use Rattle.fx_run_text.specs.RunReading.{TextLine, at_line}
 use Rattle.fx_refute.specs.RefutationReading.{Read, line_said}
 
--- whatever is left now, what the second reads in it is what the first reads in a text that may have been left before
+-- for every possible rest, the second reading of it equals the first reading of a text that may have been left before
 abbrev pub Leads : Lines → Lines → (List TextLine → Read) → (List TextLine → Read) → Type 0
 Leads old new before after =
     (rest : List ℕ) → MayBeLeft new.left rest
     → MayHaveLeft old.left (λ text. before (text_lines text) ≡ after (text_lines rest))
 
--- the reader goes past one line, which says this
+-- the reader passes one line, and that line says this
 pub record Says (version : TextVersion) (old new : Lines) (x : RunLine) : Type 0 where
   pub number : new.number ≡ next_number old.number
   pub line : (rest : List ℕ) → MayBeLeft new.left rest
       → MayHaveLeft old.left (λ text. (l : TextLine) × (text_lines text ≡ l ∷ text_lines rest) × (line_said version l ≡ Ok x))
 
--- the first of these lines, which come behind the line n, isn't there or says nothing
+-- the first of these lines, which follow line n, is missing or isn't well-formed
 abbrev pub FirstIsWrong : TextVersion → ℕ → Fault → List TextLine → Type 0
 FirstIsWrong version n e [] = e ≡ at_line refutation_form (next_number n)
 FirstIsWrong version n e (l ∷ ls) = (number : ℕ) × (line_said version l ≡ Err number) × (e ≡ at_line number (next_number n))

@@ -35,12 +35,12 @@ only p = record { packet = p; steps = [] }
 abbrev pub with_step : Refutation → Step → Refutation
 with_step r s = record { packet = r.packet; steps = r.steps ++ s ∷ [] }
 
--- no line comes behind the last, which has the number n
+-- no line may follow the last one, which has the number n
 abbrev pub end_of_lines : ℕ → Refutation → List TextLine → Read
 end_of_lines n r [] = Ok r
 end_of_lines n r (l ∷ ls) = Err (at_line (if nat_lt 4096 (length l.0) then long_line else refutation_form) (next_number n))
 
--- the line n behind the packet's: a step more, if there may be one, or the end; `next` reads the lines behind it
+-- line n, after the packet's line: another step, if there may be one, or the end; `next` reads the lines after it
 abbrev pub from_step : ℕ → Refutation → Result RunLine ℕ → List TextLine → (Refutation → Read) → Read
 from_step n r (Err number) ls next = Err (at_line number n)
 from_step n r (Ok (line.Packet p)) ls next = Err (at_line refutation_form n)
@@ -48,13 +48,13 @@ from_step n r (Ok (line.Step s)) ls next =
     if nat_lt (length r.steps) step_limit then next (with_step r s) else Err (at_line refutation_form n)
 from_step n r (Ok line.End) ls next = end_of_lines n r ls
 
--- the refutation that the lines behind the line n complete, or the first fault
+-- the refutation that the lines after line n complete, or the first fault
 abbrev pub steps_behind : TextVersion → ℕ → Refutation → List TextLine → Read
 steps_behind version n r [] = Err (at_line refutation_form (next_number n))
 steps_behind version n r (l ∷ ls) =
     from_step (next_number n) r (line_said version l) ls (λ x. steps_behind version (next_number n) x ls)
 
--- the line n of the packet, and those behind it
+-- line n, which must be the packet's, and the lines after it
 abbrev pub from_packet : TextVersion → ℕ → Result RunLine ℕ → List TextLine → Read
 from_packet version n (Err number) ls = Err (at_line number n)
 from_packet version n (Ok (line.Packet p)) ls = steps_behind version n (only p) ls
@@ -65,7 +65,7 @@ abbrev pub packet_behind : TextVersion → ℕ → List TextLine → Read
 packet_behind version n [] = Err (at_line refutation_form (next_number n))
 packet_behind version n (l ∷ ls) = from_packet version (next_number n) (line_said version l) ls
 
--- the refutation whose text has these lines, the first of which comes behind the line n, or the first fault
+-- the refutation whose text has these lines, the first of which follows line n, or the first fault
 abbrev pub refutation_in : ℕ → List TextLine → Read
 refutation_in n [] = Err (at_line refutation_form (next_number n))
 refutation_in n (l ∷ ls) =
@@ -74,10 +74,10 @@ refutation_in n (l ∷ ls) =
     else if l.1 && bytes_eq l.0 (codes "once-refutation 2") then packet_behind Two (next_number n) ls
     else Err (at_line refutation_form (next_number n))
 
--- what this comes to, of the lines of a text that the reader may have left
+-- the result of a reading of the lines of a text that the reader may have left
 abbrev pub MayGive : Lines → (List TextLine → Read) → Read → Type 0
 MayGive lines read result = MayHaveLeft lines.left (λ text. read (text_lines text) ≡ result)
 
--- what reading comes to, of such a text
+-- the result of reading a refutation from such a text
 abbrev pub MayReadRefutation : Lines → Read → Type 0
 MayReadRefutation lines result = MayGive lines (refutation_in lines.number) result

@@ -1,4 +1,4 @@
--- The text of a refutation, in the versions of a run's.
+-- The text of a refutation, in the text versions of a run.
 use Rattle.std.specs.Prelude.{ℕ, ◌≤◌, List, [], ◌∷◌, ◌++◌, map, length, codes}
 use Rattle.std.specs.List.{AllByRecursion, join_with_byte}
 use Rattle.fx_run_text.specs.declared.text_version.TextVersion.{TextVersion}
@@ -12,7 +12,7 @@ abbrev pub first_words : TextVersion → List (List ℕ)
 first_words One = codes "once-refutation" ∷ codes "1" ∷ []
 first_words Two = codes "once-refutation" ∷ codes "2" ∷ []
 
--- its lines: the first, that of the packet, one for each step, and the last
+-- the lines of a refutation: the first, that of the packet, one for each step, and the last
 abbrev pub refutation_lines : TextVersion → Refutation → List (List ℕ)
 refutation_lines version r =
     map (join_with_byte 32) (first_words version ∷ packet_words version r.packet ∷ (map step_words r.steps ++ last_words ∷ []))
@@ -24,7 +24,7 @@ refutation_text version r = lines_text (refutation_lines version r)
 abbrev pub steps_text : List Step → List ℕ
 steps_text steps = lines_text (map (join_with_byte 32) (map step_words steps))
 
--- what has a text
+-- a refutation that has a text in this version
 pub record IsRefutation (version : TextVersion) (r : Refutation) : Type 0 where
   pub packet : IsPacket r.packet × CanSay version r.packet.fields
   pub steps : AllByRecursion IsStep r.steps

@@ -16,28 +16,28 @@ use Rattle.fx_machine.specs.Steps.{run, after}
 use Rattle.fx_machine.specs.Sums.{plain_sum, total_at}
 use Rattle.fx_collect.specs.Totals.{Totals, IsTable, totals_in}
 
--- a packet, and the steps of a run over it alone
+-- a packet, and the steps of a run over this packet alone
 pub record Refutation : Type 0 where
   pub packet : Packet
   pub steps : List Step
 
--- the packet, where it is to be counted
+-- the packet, unless its class is exempt
 abbrev pub packets_to_count : List Class → Refutation → List Packet
 packets_to_count classes r = to_count classes (r.packet ∷ [])
 
--- the packet is of its class, and the steps lead from its opening to this state
+-- the packet is in its class, and the steps lead from the initial state with this packet to this state
 pub record ReachesState (net : Net) (classes : List Class) (r : Refutation) (last : State) : Type 0 where
   pub of_class : IsOf r.packet (entry_numbered classes r.packet.class)
   pub runs : run net classes (r.packet ∷ []) r.steps (opening net classes (r.packet ∷ [])) ≡ Ok last
 
--- the run is complete, and its totals aren't the plain sums or something is unassigned
+-- the run is complete, and its totals aren't the plain sums, or something is unassigned
 pub record Refutes (net : Net) (classes : List Class) (r : Refutation) : Type 0 where
   pub last : State
   pub runs_to : ReachesState net classes r last
   pub complete : Complete last
   pub wrong : CountsEachOnce net (packets_to_count classes r) last → ⊥
 
--- ---- what is answered
+-- ---- answers
 
 -- these totals have each key once, and are the plain sums over these packets
 pub record IsPlainSumTable (layout : Layout) (packets : List Packet) (t : Totals) : Type 0 where
@@ -53,7 +53,7 @@ pub record AreTotals (net : Net) (classes : List Class) (r : Refutation) (ran pl
   pub totals : ran ≡ totals_in net.report_layout (told_state last)
   pub sums : IsPlainSumTable net.report_layout (packets_to_count classes r) plain
 
--- why nothing is refuted: the packet isn't of its class, a step isn't enabled (they begin at line 3), the run isn't
+-- why nothing is refuted: the packet isn't in its class, a step isn't enabled (steps begin at line 3), the run isn't
 -- complete, or its totals are the plain sums and nothing is unassigned
 pub data IsNoRefutation (net : Net) (classes : List Class) (r : Refutation) : Fault → Type 0 where
   no_member : (IsOf r.packet (entry_numbered classes r.packet.class) → ⊥) → IsNoRefutation net classes r (fault_at refutation_packet (places.Line 2))

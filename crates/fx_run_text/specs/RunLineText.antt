@@ -1,4 +1,4 @@
--- The text of a line of a run behind the first, without its line feed.
+-- The text of a line of a run after the first line, without its line feed.
 use Rattle.std.specs.Prelude.{◌≢◌, ℕ, true, List, ◌∷◌, flat_map}
 use Rattle.std.specs.List.{AllByRecursion, join_with_byte}
 use Rattle.fx_run_text.specs.declared.run_line.RunLine.{RunLine}
@@ -15,7 +15,7 @@ line_words version End = last_words
 abbrev pub run_line_text : TextVersion → RunLine → List ℕ
 run_line_text version x = join_with_byte 32 (line_words version x)
 
--- what has a text: values on their axes that the version can say, and numbers below 2 to the 64
+-- the lines that have a text: values on their axes that the version can express, and numbers below 2 to the 64
 abbrev pub IsRunLine : TextVersion → RunLine → Type 0
 IsRunLine version (Packet p) = IsPacket p × CanSay version p.fields
 IsRunLine version (Step s) = IsStep s
@@ -28,6 +28,6 @@ IsOneLine line = AllByRecursion (λ b. b ≢ 10) line
 abbrev pub ended_line : List ℕ → TextLine
 ended_line line = (line, true)
 
--- each of these words behind a space
+-- each of these words, preceded by a space
 abbrev pub spaced_words : List (List ℕ) → List ℕ
 spaced_words ws = flat_map (λ w. 32 ∷ w) ws

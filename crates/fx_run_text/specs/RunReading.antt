@@ -32,11 +32,11 @@ use Rattle.fx_run_text.specs.RunText.{Run}
 
 -- ---- a packet
 
--- this, if no word is left
+-- this value, if no word is left
 abbrev pub at_end : {A : Type 0} → A → Words → Option A
 at_end x ws = if none_left ws then Some x else None
 
--- the values on the axes behind the first six, and the words behind them: the first version has packets of IPv4 alone
+-- the values on the axes after the first six, and the words after them: the first version has packets of IPv4 only
 unfoldable pub last_first : TextVersion → Words → Option (LastFields × Words)
 last_first One ws = Some (record { version = 4; source = 0; destination = 0 }, ws)
 last_first Two ws = do
@@ -45,7 +45,7 @@ last_first Two ws = do
   destination ← value_first Destination6 source.1
   Some (record { version = version.0; source = source.0; destination = destination.0 }, destination.1)
 
--- the values on all axes, and the words behind them
+-- the values on all axes, and the words after them
 unfoldable pub fields_first : TextVersion → Words → Option (Fields × Words)
 fields_first version ws = do
   source ← value_first Source ws
@@ -57,7 +57,7 @@ fields_first version ws = do
   last ← last_first version service.1
   Some (source.0 ∷ destination.0 ∷ protocol.0 ∷ source_port.0 ∷ destination_port.0 ∷ service.0 ∷ last.0.version ∷ last.0.source ∷ last.0.destination ∷ [], last.1)
 
--- the packet that all of these words are, behind the word `packet`
+-- the packet that all of these words describe, after the word `packet`
 unfoldable pub packet_of : TextVersion → Words → Option Packet
 packet_of version ws = do
   class ← number_first ws
@@ -81,7 +81,7 @@ aggregation_first ws = do
   aggregation ← number_first process.1
   Some (Aggregation device.0 process.0 aggregation.0, aggregation.1)
 
--- a cache or an aggregation, and the words behind it
+-- a cache or an aggregation, and the words after it
 unfoldable pub holder_first : Words → Option (HolderName × Words)
 holder_first ws = do
   kind ← first_word ws
@@ -113,11 +113,11 @@ action_of kind ws =
     else if bytes_eq kind (codes "arrive") then arrive_first ws
     else None
 
--- a new record, or a number
+-- a new record, or the number of a held one
 abbrev pub choice_of : List ℕ → Option (Option ℕ)
 choice_of word = if bytes_eq word (codes "n") then Some None else option_map (λ n. Some n) (number_of largest word)
 
--- the choices behind those that were read
+-- the choices read so far, followed by those in the words
 abbrev pub choices_behind : List (Option ℕ) → Words → Option (List (Option ℕ))
 choices_behind choices [] = Some choices
 choices_behind choices (w ∷ ws) = choice_of w >>= λ choice. choices_behind (choices ++ choice ∷ []) ws
@@ -127,7 +127,7 @@ step_with (Cross packet crossing) choices = step.Cross packet crossing choices
 step_with (Expire holder position) choices = step.Expire holder position choices
 step_with (Arrive link position) choices = step.Arrive link position choices
 
--- the step of this kind that all of these words are
+-- the step of this kind that all of these words describe
 unfoldable pub step_of : List ℕ → Words → Option Step
 step_of kind ws = do
   action ← action_of kind ws
@@ -136,7 +136,7 @@ step_of kind ws = do
 
 -- ---- a line
 
--- what was read of a line, with the packet in its place
+-- what was read from a line, with the packet inserted
 abbrev pub line_with : Packet → ReadLine → RunLine
 line_with packet read.Packet = line.Packet packet
 line_with packet (read.Step s) = line.Step s
@@ -178,11 +178,11 @@ with_packet run p = record { packets = run.packets ++ p ∷ []; steps = run.step
 abbrev pub with_step : Run → Step → Run
 with_step run s = record { packets = run.packets; steps = run.steps ++ s ∷ [] }
 
--- the fault of a packet line: 855 behind a step, 856 where the packet isn't of its class
+-- the fault of a packet line: 855 after a step, 856 if the packet isn't of its class
 abbrev pub packet_fault : List Class → Run → Packet → Option ℕ
 packet_fault classes run p = if length run.steps == 0 then (if is_of p (entry_numbered classes p.class) then None else Some run_packet) else Some run_form
 
--- no line comes behind the last, which has the number n
+-- no line follows the last one, which has the number n
 abbrev pub end_of_lines : ℕ → Run → List TextLine → Result Run Fault
 end_of_lines n run [] = Ok run
 end_of_lines n run (l ∷ ls) = Err (at_line (if nat_lt 4096 (length l.0) then long_line else run_form) (next_number n))
@@ -192,19 +192,19 @@ abbrev pub unless : Option ℕ → ℕ → Result Run Fault → Result Run Fault
 unless None n result = result
 unless (Some number) n result = Err (at_line number n)
 
--- the run that the line n and those behind it complete, where `next` reads those behind it
+-- the run that the line n and those after it complete, where `next` reads those after it
 abbrev pub from_line : List Class → ℕ → Run → Result RunLine ℕ → List TextLine → (Run → Result Run Fault) → Result Run Fault
 from_line classes n run (Err number) ls next = Err (at_line number n)
 from_line classes n run (Ok (line.Packet p)) ls next = unless (packet_fault classes run p) n (next (with_packet run p))
 from_line classes n run (Ok (line.Step s)) ls next = next (with_step run s)
 from_line classes n run (Ok line.End) ls next = end_of_lines n run ls
 
--- the run that the lines of such a text behind the line n complete, or the first fault
+-- the run that the lines after the line n complete, in this version, or the first fault
 abbrev pub behind : TextVersion → List Class → ℕ → Run → List TextLine → Result Run Fault
 behind version classes n run [] = Err (at_line run_form (next_number n))
 behind version classes n run (l ∷ ls) = from_line classes (next_number n) run (said version l) ls (λ r. behind version classes (next_number n) r ls)
 
--- the run whose text has these lines, the first of which comes behind the line n, or the first fault
+-- the run whose text has these lines, the first of which follows the line n, or the first fault
 abbrev pub run_in : List Class → ℕ → List TextLine → Result Run Fault
 run_in classes n [] = Err (at_line run_form (next_number n))
 run_in classes n (l ∷ ls) =
@@ -213,30 +213,30 @@ run_in classes n (l ∷ ls) =
     else if l.1 && bytes_eq l.0 (codes "once-run 2") then behind Two classes (next_number n) no_run ls
     else Err (at_line run_header (next_number n))
 
--- what reading comes to, of a text that the reader of lines may have left
+-- the result of reading a text that the reader of lines may have left
 abbrev pub MayReadRun : List Class → Lines → Result Run Fault → Type 0
 MayReadRun classes lines result = MayHaveLeft lines.left (λ text. run_in classes lines.number (text_lines text) ≡ result)
 
--- the same of a reader that is behind the first line and has read so much of a run, and of one that is behind the last
+-- the same for a reader that is after the first line and has read this part of a run, and for one that is after the last line
 abbrev pub MayReadBehind : TextVersion → List Class → Lines → Run → Result Run Fault → Type 0
 MayReadBehind version classes lines run result = MayHaveLeft lines.left (λ text. behind version classes lines.number run (text_lines text) ≡ result)
 
 abbrev pub MayEnd : Lines → Run → Result Run Fault → Type 0
 MayEnd lines run result = MayHaveLeft lines.left (λ text. end_of_lines lines.number run (text_lines text) ≡ result)
 
--- whatever is left behind the first line, reading it is reading a text that may have been left before it
+-- whatever text is left after the first line, reading it amounts to reading a text that may have been left before that line
 abbrev pub ReadsFirst : TextVersion → Lines → Lines → Type 0
 ReadsFirst version old new =
     (rest : List ℕ) → MayBeLeft new.left rest
     → MayHaveLeft old.left (λ text. (classes : List Class) → run_in classes old.number (text_lines text) ≡ behind version classes new.number no_run (text_lines rest))
 
--- the same of a later line, which says this
+-- the same for a later line, which says this
 abbrev pub ReadsNextLine : TextVersion → Lines → Lines → RunLine → Type 0
 ReadsNextLine version old new x =
     (rest : List ℕ) → MayBeLeft new.left rest
     → MayHaveLeft old.left (λ text. (classes : List Class) (run : Run) → behind version classes old.number run (text_lines text) ≡ from_line classes new.number run (Ok x) (text_lines rest) (λ r. behind version classes new.number r (text_lines rest)))
 
--- the same of the first line and later ones, which said so much of a run
+-- the same for the first line and later ones, which together gave this part of a run
 abbrev pub ReadsOn : TextVersion → List Class → Lines → Lines → Run → Type 0
 ReadsOn version classes old new run =
     (rest : List ℕ) → MayBeLeft new.left rest
@@ -244,12 +244,12 @@ ReadsOn version classes old new run =
 
 -- ---- a text that is read step by step
 
--- so much of a run was read, and this step behind it or, with none, the run's end
+-- this part of a run was read, followed by this step or, if there is none, by the run's end
 abbrev pub ReadsUpTo : TextVersion → List Class → Lines → Lines → Run → Option Step → Type 0
 ReadsUpTo version classes old new run None = MayReadRun classes old (Ok run)
 ReadsUpTo version classes old new run (Some step) = ReadsOn version classes old new (with_step run step)
 
--- whatever was read of a run, this step is its next or, with none, the run is read
+-- whatever was read of a run, this step is its next one or, if there is none, the run is complete
 abbrev pub ReadsNextStep : TextVersion → Lines → Lines → Option Step → Type 0
 ReadsNextStep version old new None = (classes : List Class) (run : Run) → MayReadBehind version classes old run (Ok run)
 ReadsNextStep version old new (Some step) = ReadsNextLine version old new (line.Step step)

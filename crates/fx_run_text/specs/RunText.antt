@@ -24,12 +24,12 @@ pub record Run : Type 0 where
 
 -- ---- the words of its lines
 
--- the axes that a packet's line has: in the first version those of IPv4, in the second all
+-- the axes in a packet's line: in the first version those of IPv4, in the second all
 abbrev pub line_axes : TextVersion → List Axis
 line_axes One = Source ∷ Destination ∷ Protocol ∷ SourcePort ∷ DestinationPort ∷ ClassOfService ∷ []
 line_axes Two = axes
 
--- a new record, or a number
+-- a new record, or the number of a held one
 abbrev pub choice_word : Option ℕ → List ℕ
 choice_word None = codes "n"
 choice_word (Some n) = decimal n
@@ -91,7 +91,7 @@ IsStep (Arrive link position choices) = IsNumber link × IsNumber position × Ar
 abbrev pub IsPacket : Packet → Type 0
 IsPacket p = (length p.fields ≡ axis_count) × IsFields p.fields × IsNumber p.class × IsNumber p.path × IsNumber p.octets
 
--- the first version speaks of packets of IPv4 alone
+-- the first version has packets of IPv4 only
 abbrev pub CanSay : TextVersion → Fields → Type 0
 CanSay One fields = (field fields Version ≡ 4) × (field fields Source6 ≡ 0) × (field fields Destination6 ≡ 0)
 CanSay Two fields = Unit {0}

@@ -1,4 +1,4 @@
--- The destinations in use: the links that exporting processes send on, and the choices that say the same.
+-- The destinations in use: the links that exporting processes send on, and the corresponding choices.
 use Rattle.std.specs.Prelude.{◌≡◌, ◌≢◌, ℕ, false, List, [], ◌∷◌, ◌++◌, Option, Some, None, slice_get, if◌then◌else◌}
 use Rattle.std.specs.Option.{unwrap_or}
 use Rattle.fx_tables.specs.Network.{Net, Exporter}
@@ -10,7 +10,7 @@ use Rattle.fx_machine.specs.Sends.{link_list, links_of}
 abbrev pub number_in_use : List ℕ → ℕ → ℕ
 number_in_use chosen place = unwrap_or (slice_get chosen place) 0
 
--- each exporting process that chooses one has the destination that it uses
+-- each exporting process that selects one destination has the destination that it uses
 abbrev pub AllUsable : Net → List ℕ → Type 0
 AllUsable net chosen =
     (place : ℕ) (e : Exporter) → slice_get net.exporters place ≡ Some e → e.parallel ≡ false
@@ -26,7 +26,7 @@ link_of (Some destination) = link_list destination
 abbrev pub link_numbered : List (Option ℕ) → ℕ → List ℕ
 link_numbered destinations number = link_of (entry_numbered destinations number)
 
--- the links of all destinations, or that of the one in use
+-- the links of all destinations, or the link of the one in use
 abbrev pub links_of_exporter : Exporter → ℕ → List ℕ
 links_of_exporter e number = if e.parallel then links_of e.destinations else link_numbered e.destinations number
 

@@ -1,4 +1,4 @@
--- That steps can be made with the destinations in use, and what they make.
+-- Steps can be made with the destinations in use, and what they make.
 use Rattle.std.specs.Prelude.{◌≡◌, ℕ, suc, List, ◌∷◌, ◌++◌, ◌==◌, remove, slice_get, slice_set, Some, Ok, if◌then◌else◌}
 use Rattle.fx_elements.specs.Axes.{Fields}
 use Rattle.fx_tables.specs.declared.holding.Holding.{Holding}
@@ -20,11 +20,11 @@ use Rattle.fx_tables.specs.Takers.{intakes}
 use Rattle.fx_machine.specs.Steps.{one_packet, place, after}
 use Rattle.fx_runs.specs.Destinations.{AllUsable, links_used, sent_by}
 
--- what meters a packet at a crossing, with its keys
+-- the holders that meter a packet at a crossing, with its keys
 abbrev pub intakes_at : Net → Fields → Crossing → List Holding
 intakes_at net fields crossing = met_holdings net.holders fields (occurrences net crossing fields)
 
--- at the report it is tallied
+-- at the report's process, the record is tallied
 abbrev pub tallied_at : Net → ℕ → Record → State → State
 tallied_at net process r s = if process == net.report then after_tally net r.key r.counts s else s
 
@@ -45,7 +45,7 @@ ExpiresAreMade =
       carried = put_all (links_used net chosen (named_by (slice_get net.holders holder))) r s.carried;
     })
 
--- The first record on a link can arrive, where the aggregations that take it can take it in by these choices.
+-- The first record on a link can arrive, if the aggregations that accept it can add it by these choices.
 abbrev pub ArrivesAreMade : Type 0
 ArrivesAreMade =
     (net : Net) (classes : List Class) (packets : List Packet) (chosen : List ℕ) (s : State)
@@ -62,7 +62,7 @@ ArrivesAreMade =
       carried = put_all (links_used net chosen process.exporters) r (slice_set s.carried link rs);
     })
 
--- A crossing that is to come can be made, where the caches that meet it can take the packet in by these choices.
+-- A crossing that is to come can be made, if the caches that meter it can add the packet by these choices.
 abbrev pub CrossesAreMade : Type 0
 CrossesAreMade =
     (net : Net) (classes : List Class) (packets : List Packet) (s : State)

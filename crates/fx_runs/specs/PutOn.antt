@@ -15,21 +15,21 @@ use Rattle.fx_runs.specs.Extending.{coming_too}
 abbrev pub carried_on : State → ℕ → List Record
 carried_on s link = entries (slice_get s.carried link)
 
--- one record leaves the link where one arrives from it
+-- one record leaves the link if the step is an arrival from it
 abbrev pub gone_by : Step → ℕ → ℕ
 gone_by (Arrive from number choices) link = if from == suc link then 1 else 0
 gone_by _ link = 0
 
--- the records that a step put on the link at this place: those behind the ones that were there
+-- the records that a step put on the link at this place: those after the ones that were on it before
 abbrev pub put_by : Step → ℕ → State → State → List Record
 put_by step link s t = drop (length (carried_on s link) - gone_by step link) (carried_on t link)
 
--- these, and then what is put from there on
+-- the records that a step put, followed by those put from then on
 abbrev pub put_then : Step → ℕ → State → (State → List Record) → Outcome → List Record
 put_then step link s next (Err n) = []
 put_then step link s next (Ok t) = put_by step link s t ++ next t
 
--- the records that some steps put on it, in the order of the steps
+-- the records that some steps put on a link, in the order of the steps
 abbrev pub put_on : Net → List Class → List Packet → ℕ → List Step → State → List Record
 put_on net classes packets link [] s = []
 put_on net classes packets link (step ∷ steps) s =
@@ -37,7 +37,7 @@ put_on net classes packets link (step ∷ steps) s =
 
 -- ---- the laws
 
--- The same is put over more packets, with more crossings to come.
+-- The same records are put over more packets, with more crossings to come.
 abbrev pub PutExtends : Type 0
 PutExtends =
     (net : Net) (classes : List Class) (packets : List Packet) (extra : List Packet)
@@ -46,7 +46,7 @@ PutExtends =
     → put_on net classes (packets ++ extra) link steps (coming_too more s)
     ≡ put_on net classes packets link steps s
 
--- Steps behind others put what they put.
+-- Steps that follow others put the same records.
 abbrev pub PutJoins : Type 0
 PutJoins =
     (net : Net) (classes : List Class) (packets : List Packet) (link : ℕ) (first : List Step)

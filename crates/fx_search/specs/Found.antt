@@ -22,7 +22,7 @@ use Rattle.fx_search.specs.Fronts.{most_lines}
 use Rattle.fx_search.specs.declared.found.Found.{Found}
 use Rattle.fx_search.specs.declared.found.Found.TheVariants as found
 
--- each split is at a bound of what cuts its region
+-- each split of the tree is at a bound of something that cuts its region
 abbrev pub AtBounds : Net → List Crossing → Bounds → Tree → Type 0
 AtBounds net path region (Leaf crossing point process) = Unit {0}
 AtBounds net path region Uncounted = Unit {0}
@@ -37,7 +37,7 @@ abbrev pub some_exempt : List Class → Bool
 some_exempt [] = false
 some_exempt (class ∷ classes) = class.exempt || some_exempt classes
 
--- the version in which these classes have certificates: the second just where some class is exempt
+-- the version of the certificates for these classes: version 2 exactly if some class is exempt
 abbrev pub version_for : List Class → Version
 version_for classes = if some_exempt classes then Two else One
 
@@ -55,13 +55,13 @@ pub record IsFound (net : Net) (classes : List Class) (limit : ℕ) (items : Lis
 abbrev pub certificate_text : List Item → List ℕ
 certificate_text items = lines_text (map item_text items)
 
--- a certificate whose splits are at bounds, and whose text the checker accepts, or a run that refutes
+-- a certificate whose splits are at bounds, and whose text the checker accepts; or a run that refutes
 abbrev pub IsRight : Net → List Class → ℕ → Found → Type 0
 IsRight net classes limit (found.Certificate items) = IsFound net classes limit items.items × IsCertificate net classes (text_lines (certificate_text items.items))
 IsRight net classes limit (found.Refutation r) = Refutes net classes r
 
--- after a certificate each packet is counted exactly once, and those of exempt classes never, also modulo 2 to the 64;
--- after a run it isn't so
+-- for a certificate each packet is counted exactly once, and those of exempt classes never, also modulo 2 to the 64;
+-- for a refutation this isn't the case
 abbrev pub Settles : Net → List Class → Found → Type 0
 Settles net classes (found.Certificate items) = ExactlyOnce net classes × OnceModulo net classes
 Settles net classes (found.Refutation r) = ExactlyOnce net classes → ⊥

@@ -1,4 +1,4 @@
--- What a search goes through: the beginnings of certificates, and why it gives up.
+-- The states of a search: the beginnings of certificates, and why a search gives up.
 use Rattle.std.specs.Prelude.{◌≡◌, ◌≢◌, ◌⊎◌, ◌<◌, ℕ, suc, ◌+◌, min, true, false, List, ◌∷◌, map}
 use Rattle.fx_elements.specs.declared.axis.Axis.{Axis}
 use Rattle.fx_elements.specs.Axes.{axis_index}
@@ -25,19 +25,19 @@ pub record RegionAhead : Type 0 where
 abbrev pub root : Target → RegionAhead
 root t = record { target = t; region = t.region; depth = 0 }
 
--- the parts of its region
+-- the lower and the upper part of the region
 abbrev pub lower : RegionAhead → Axis → ℕ → RegionAhead
 lower a axis at = record { target = a.target; region = below_part a.region (axis_index axis) at; depth = a.depth + 1 }
 
 abbrev pub upper : RegionAhead → Axis → ℕ → RegionAhead
 upper a axis at = record { target = a.target; region = above_part a.region (axis_index axis) at; depth = a.depth + 1 }
 
--- a leaf of the kind that the class wants is sound for it
+-- a leaf of the kind that the class requires is sound for the region
 pub data HasLeaf (net : Net) (a : RegionAhead) : Type 0 where
   counted : (crossing point process : ℕ) → a.target.exempt ≡ false → SoundLeaf net a.target.crossings a.region crossing point process → HasLeaf net a
   never : a.target.exempt ≡ true → SoundNever net a.target.crossings a.region → HasLeaf net a
 
--- after so many split and leaf lines these regions are ahead: each leaf was sound, each split at a bound of what cuts
+-- after `n` split and leaf lines these regions are ahead: each leaf was sound, each split at a bound of something that cuts
 pub data SearchFront (net : Net) (targets : List Target) : List RegionAhead → ℕ → Type 0 where
   begins : SearchFront net targets (map root targets) 0
   leaf : (a : RegionAhead) (rest : List RegionAhead) (n : ℕ) → SearchFront net targets (a ∷ rest) n → HasLeaf net a → SearchFront net targets rest (suc n)
@@ -45,24 +45,24 @@ pub data SearchFront (net : Net) (targets : List Target) : List RegionAhead → 
 
 -- ---- why nothing is found
 
--- something cuts its region
+-- something cuts the region
 abbrev pub IsCut : Net → RegionAhead → Type 0
 IsCut net a = NothingCuts net a.target.crossings a.region → ⊥
 
--- at most so many split and leaf lines are written
+-- the most split and leaf lines that are written
 abbrev pub most_lines : ℕ → ℕ
 most_lines limit = min limit line_limit
 
--- what a certificate of at most so many split and leaf lines, or a refutation, needs is too large
+-- a certificate of at most `most` split and leaf lines, or a refutation, would be too large
 pub data IsTooLarge (net : Net) (targets : List Target) (most : ℕ) : Type 0 where
-  -- a line more
+  -- one more line would be needed
   lines : (a : RegionAhead) (rest : List RegionAhead) → SearchFront net targets (a ∷ rest) most → IsCut net a ⊎ HasLeaf net a → IsTooLarge net targets most
-  -- a split deeper than any may be
+  -- a split deeper than allowed would be needed
   depth : (a : RegionAhead) (rest : List RegionAhead) (n : ℕ) → SearchFront net targets (a ∷ rest) n → a.depth ≡ depth_limit → IsCut net a → IsTooLarge net targets most
-  -- nothing cuts the region, and its least packet hasn't the fate that the class wants, but no run that shows it is short enough
+  -- nothing cuts the region, and its least packet hasn't the fate that the class requires, but no run that shows it is short enough
   steps : (a : RegionAhead) (rest : List RegionAhead) (n : ℕ) → SearchFront net targets (a ∷ rest) n → NothingCuts net a.target.crossings a.region → packet_fate net a.region.low a.target.crossings ≢ wanted_fate a.target.exempt → HasNoRun net a.region.low a.target.crossings a.target.exempt → IsTooLarge net targets most
 
--- so it is at this region, by this limit
+-- what is needed is too large at this region, because of this limit
 pub data IsTooLargeAt (net : Net) (targets : List Target) (most : ℕ) (a : RegionAhead) : Limit → Type 0 where
   at_lines : (rest : List RegionAhead) → SearchFront net targets (a ∷ rest) most → IsCut net a ⊎ HasLeaf net a → IsTooLargeAt net targets most a limits.Lines
   at_depth : (rest : List RegionAhead) (n : ℕ) → SearchFront net targets (a ∷ rest) n → a.depth ≡ depth_limit → IsCut net a → IsTooLargeAt net targets most a limits.Depth

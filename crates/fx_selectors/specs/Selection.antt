@@ -11,7 +11,7 @@ use Rattle.fx_config.specs.declared.selection_process.SelectionProcess.{Selectio
 
 -- ---- selection
 
--- the value on the axis of the match is one of its values
+-- the value on the axis of the match is one of the match's values
 abbrev pub has : PropertyMatch → Fields → Bool
 has m fields = nat_le m.range.low (field fields m.axis) && nat_le (field fields m.axis) m.range.high
 
@@ -29,7 +29,7 @@ selects process fields = list_all (λ selector. passes selector.method fields) p
 abbrev pub everything : Bounds
 everything = record { low = map (λ axis. 0) axes; high = tops }
 
--- the bounds of what is left by a match: no value on its axis is below its low or above its high
+-- the bounds that remain after a match: no value on its axis is below its low or above its high
 abbrev pub bounds_within : Bounds → PropertyMatch → Bounds
 bounds_within b m = record {
   low = slice_set b.low (axis_index m.axis) (max (field b.low m.axis) m.range.low);
@@ -43,7 +43,7 @@ narrowed_by b (FilterMatch m) = bounds_within b m
 abbrev pub bounds_of : List Selector → Bounds
 bounds_of selectors = fold (λ b selector. narrowed_by b selector.method) everything selectors
 
--- some fields are within the bounds: the high values are fields, and none is below the low
+-- the bounds contain some fields: the high values are valid fields, and none is below its low value
 abbrev pub has_room : Bounds → Bool
 has_room b = holds (record { low = b.low; high = tops }) b.high
 

@@ -7,7 +7,7 @@ use Rattle.fx_session.specs.Flows.{flow_in}
 use Rattle.fx_session.specs.declared.stream_fault.StreamFault.{StreamFault}
 use Rattle.fx_session.specs.declared.stream_fault.StreamFault.TheVariants as faults
 
--- what was taken so far: the records that wait, how many were skipped, and how many data records the message had
+-- what was read so far: the waiting records, the number of skipped records, and the number of data records in the message
 pub record Taken : Type 0 where
   pub waiting : List Record
   pub skipped : ℕ
@@ -25,11 +25,11 @@ abbrev pub after_values : Taken → Option (List Value × List ℕ) → Result (
 after_values t (Some p) = after_flow t p.1 (flow_in p.0)
 after_values t None = Err faults.CutRecord
 
--- the data record at the front, and what follows it: 619 goes before 620
+-- the data record at the front, and the octets after it: refusal 619 takes precedence over 620
 abbrev pub flow_record : List FieldSpecifier → Taken → List ℕ → Result (Taken × List ℕ) StreamFault
 flow_record fields t octets = after_values t (record_at fields octets)
 
--- Record after record; fewer octets than a record can have are padding. Each has octets, so as many turns do as there are octets.
+-- The records in order; fewer octets than the shortest record are padding. Each record has octets, so their number bounds the turns.
 unfoldable pub flow_records : ℕ → List FieldSpecifier → Taken → List ℕ → Result Taken StreamFault
 flow_records zero fields t octets = Ok t
 flow_records (suc turns) fields t octets =
@@ -52,7 +52,7 @@ option_records (suc turns) fields t octets =
 unfoldable pub option_set : List FieldSpecifier → Taken → List ℕ → Result Taken StreamFault
 option_set fields t octets = option_records (length octets) fields t octets
 
--- the first record that waits leaves, if there is one
+-- the first waiting record is removed, if there is one
 abbrev pub FirstLeaves : Taken → Taken → Option Record → Type 0
 FirstLeaves old new None = (old.waiting ≡ []) × (new ≡ old)
 FirstLeaves old new (Some r) = old ≡ record { waiting = r ∷ new.waiting; skipped = new.skipped; count = new.count }

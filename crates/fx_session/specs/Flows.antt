@@ -15,15 +15,15 @@ use Rattle.fx_session.specs.declared.stream_fault.StreamFault.TheVariants as fau
 
 -- ---- what is read of a data record
 
--- the number in the octets, the highest first (RFC 7011, section 6.1.1); of more than 16 the last 16 count
+-- the number in the octets, most significant octet first (RFC 7011, section 6.1.1); of more than 16 octets, the last 16
 unfoldable pub number_in : List ℕ → ℕ
 number_in octets = fold (λ n b. n * 256 + b) 0 octets % 2 ^ 128
 
--- the number in the first field of such an element, if there is one
+-- the number in the first field whose element satisfies the predicate, if there is one
 abbrev pub first_where : (Element → Bool) → List Value → Option ℕ
 first_where is values = option_map (λ v. number_in v.content) (find (λ v. is (element_of v.field)) values)
 
--- elements that give the value on an axis, a prefix of it, and how long that prefix is
+-- elements that give the value on an axis, a prefix of that value, and the length of that prefix
 abbrev pub is_value : Axis → Element → Bool
 is_value axis (OnAxis own) = same_axis own axis
 is_value axis _ = false
@@ -51,12 +51,12 @@ is_packets _ = false
 abbrev pub Found : Type 0
 Found = Option Leading
 
--- a prefix without its length is not read, one of length 0 tells nothing, and one longer than the address is refused
+-- a prefix without its length is ignored, a prefix of length 0 says nothing, and a prefix longer than the address is refused
 abbrev pub prefix_part : Axis → Option ℕ → Option ℕ → Result Found StreamFault
 prefix_part axis (Some value) (Some bits) = if bits == 0 then Ok None else if nat_lt (axis_width axis) bits then Err faults.PrefixLength else Ok (Some (record { bits = bits; value = value }))
 prefix_part axis _ _ = Ok None
 
--- a value goes before a prefix, which only addresses have
+-- a value takes precedence over a prefix, which only addresses have
 abbrev pub part_on : Axis → Option ℕ → Option ℕ → Option ℕ → Result Found StreamFault
 part_on axis (Some value) prefix bits = Ok (Some (record { bits = axis_width axis; value = value }))
 part_on axis None prefix bits = if is_address axis then prefix_part axis prefix bits else Ok None
@@ -73,7 +73,7 @@ abbrev pub value_of : Axis → Found → ℕ
 value_of axis (Some p) = p.value % 2 ^ axis_width axis
 value_of axis None = 0
 
--- what is known on each axis makes a layout, and fields, and the key there
+-- the layout, the fields and the key given by what is known on each axis
 abbrev pub layout_of : (Axis → Found) → Layout
 layout_of found = flat_map (λ axis. part_of axis (found axis)) axes
 
@@ -91,7 +91,7 @@ abbrev pub is_refused : Result Found StreamFault → Bool
 is_refused (Ok found) = false
 is_refused (Err fault) = true
 
--- the key of what is known on the axes, if it is refused on none
+-- the key of what is known on the axes, if no axis is refused
 abbrev pub key_by : (Axis → Result Found StreamFault) → Result Key StreamFault
 key_by found =
     if list_any (λ axis. is_refused (found axis)) axes then Err faults.PrefixLength else Ok (key_along (λ axis. found_or_none (found axis)))
@@ -106,6 +106,6 @@ abbrev pub flow_by : Option ℕ → Option ℕ → Result Key StreamFault → Re
 flow_by (Some octets) (Some packets) key = with_counts octets packets key
 flow_by _ _ key = Ok None
 
--- the flow record of a data record; none without both counters
+-- the flow record of a data record; none if either counter is missing
 unfoldable pub flow_in : List Value → Result (Option Record) StreamFault
 flow_in values = flow_by (first_where is_octets values) (first_where is_packets values) (key_by (found_in values))

@@ -1,4 +1,4 @@
--- What a message does to what a session knows.
+-- How a message changes what a session knows.
 use Rattle.std.specs.Prelude.{ℕ, ◌+◌, ◌%◌, ◌^◌, ◌==◌, if◌then◌else◌, List, [], ◌∷◌, Option, Some, None, Result, Ok, Err}
 use Rattle.fx_tables.specs.declared.record.Record.{Record}
 use Rattle.fx_session.specs.declared.domain.Domain.{Domain}
@@ -13,7 +13,7 @@ use Rattle.fx_session.specs.declared.stream_fault.StreamFault.TheVariants as fau
 
 -- ---- sets
 
--- in the middle of a message: the templates of its domain, and what was taken so far
+-- in the middle of a message: the templates of its observation domain, and what was read so far
 pub record Reading : Type 0 where
   pub templates : Templates
   pub taken : Taken
@@ -43,7 +43,7 @@ sets_read r (s ∷ ss) = elim (set_read r s) [ Ok next ↦ sets_read next ss | E
 
 -- ---- messages
 
--- a domain that had no message
+-- an observation domain that has had no message
 abbrev pub new_domain : Domain
 new_domain = record { templates = no_templates; next = None }
 
@@ -51,19 +51,19 @@ abbrev pub domain_of : Option Domain → Domain
 domain_of (Some domain) = domain
 domain_of None = new_domain
 
--- what a session knows: its domains by number, the records that wait, and the numbers of gaps and of skipped records
+-- what a session knows: its observation domains by number, the waiting records, and the numbers of gaps and of skipped records
 pub record Known : Type 0 where
   pub domains : List (ℕ × Domain)
   pub waiting : List Record
   pub gaps : ℕ
   pub skipped : ℕ
 
--- a message with another sequence number than the one that comes next is a gap (section 3.1)
+-- a message whose sequence number is not the expected one is a gap (section 3.1)
 abbrev pub gaps_after : ℕ → Option ℕ → ℕ → ℕ
 gaps_after gaps None sequence = gaps
 gaps_after gaps (Some next) sequence = if next == sequence then gaps else (gaps + 1) % 2 ^ 64
 
--- the entry of a domain goes, and a new one comes
+-- the entry of an observation domain is replaced by a new one
 abbrev pub with_domain : List (ℕ × Domain) → ℕ → Domain → List (ℕ × Domain)
 with_domain domains number domain = with_entry (without_entry domains number) number domain
 
@@ -76,14 +76,14 @@ known_after k m domain (Ok r) = Ok (record {
 })
 known_after k m domain (Err fault) = Err fault
 
--- the sets are read under the templates of a domain
+-- the sets are read under the templates of an observation domain
 abbrev pub read_under : Known → Message → Domain → Result Known StreamFault
 read_under k m domain = known_after k m domain (sets_read (record { templates = domain.templates; taken = record { waiting = k.waiting; skipped = k.skipped; count = 0 } }) m.sets)
 
--- The sets are read under the templates of the message's domain. The first fault refuses the message.
+-- The sets are read under the templates of the message's observation domain. The first fault refuses the message.
 unfoldable pub message_read : Known → Message → Result Known StreamFault
 message_read k m = read_under k m (domain_of (at_number k.domains m.header.observation_domain))
 
--- what stays where a message is refused: the records before it and the numbers, but no template
+-- what remains when a message is refused: the records before it and the numbers, but no template
 abbrev pub without_domains : Known → Known
 without_domains k = record { domains = []; waiting = k.waiting; gaps = k.gaps; skipped = k.skipped }

@@ -1,4 +1,4 @@
--- The numbers of what messages of a stream are refused for.
+-- The refusal numbers of stream faults.
 use Rattle.std.specs.Prelude.{ℕ}
 use Rattle.fx_session.specs.declared.stream_fault.StreamFault.{StreamFault}
 use Rattle.fx_session.specs.declared.stream_fault.StreamFault.TheVariants as faults

@@ -19,7 +19,7 @@ is_counter OctetDeltaCount = true
 is_counter PacketDeltaCount = true
 is_counter _ = false
 
--- counters of less than 8 octets wrap, and no other length is read
+-- counters of fewer than 8 octets wrap; only length 8 is accepted
 abbrev pub is_narrow : FieldSpecifier → Bool
 is_narrow f = is_counter (element_of f) && not (f.field_length == 8)
 
@@ -27,7 +27,7 @@ unfoldable pub has_narrow : List FieldSpecifier → Bool
 has_narrow [] = false
 has_narrow (f ∷ fs) = if is_narrow f then true else has_narrow fs
 
--- only the counters of flows are read
+-- only counters in plain templates are checked, since only those are read
 abbrev pub narrow_in : TemplateKind → List FieldSpecifier → Bool
 narrow_in kinds.Plain fields = has_narrow fields
 narrow_in kinds.Options fields = false
@@ -48,11 +48,11 @@ with_heading ts kind (Ok p) = elim p.0 [
 ]
 with_heading ts kind (Err why) = Err (faults.Malformed why)
 
--- what the template record at the front leaves, and the octets after it: 614 goes before 618, and 618 before 616
+-- the templates after the template record at the front, and the octets after it: refusal 614 takes precedence over 618, and 618 over 616
 unfoldable pub template_record : Templates → TemplateKind → List ℕ → Result (Templates × List ℕ) StreamFault
 template_record ts kind octets = with_heading ts kind (heading_at kind octets)
 
--- Record after record; fewer than four octets are padding (section 3.3.1). Each has octets, so as many turns do as there are octets.
+-- The records in order; fewer than four octets are padding (section 3.3.1). Each record has octets, so their number bounds the turns.
 unfoldable pub template_records : ℕ → Templates → TemplateKind → List ℕ → Result Templates StreamFault
 template_records zero ts kind octets = Ok ts
 template_records (suc turns) ts kind octets =

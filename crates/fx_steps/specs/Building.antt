@@ -1,4 +1,4 @@
--- A run in the making: the records that are on their way, of which the one that came last leaves first.
+-- A run under construction: the records in transit, of which the last one added leaves first.
 use Rattle.std.specs.Prelude.{◌≡◌, ◌<◌, true, false, ℕ, List, [], ◌∷◌, ◌++◌, length, Option, Some, None}
 use Rattle.fx_base.specs.declared.counts.Counts.{Counts}
 use Rattle.fx_layout.specs.Keys.{Key}
@@ -13,12 +13,12 @@ pub data Item : Type 0 where
   Held : (holder : ℕ) (key : Key) → Item
   Carried : (link : ℕ) (key : Key) → Item
 
--- it comes last at its place
+-- the record is appended at its place
 abbrev pub with_item : Counts → Item → State → State
 with_item counts (Held holder key) s = record s { held = put_last s.held holder (record { key = key; counts = counts }) }
 with_item counts (Carried link key) s = record s { carried = put_last s.carried link (record { key = key; counts = counts }) }
 
--- one after another; the last of them is on top
+-- these records are appended in order; the last of them is on top
 abbrev pub with_items : Counts → List Item → State → State
 with_items counts [] s = s
 with_items counts (i ∷ is) s = with_items counts is (with_item counts i s)
@@ -28,7 +28,7 @@ abbrev pub with_tallies : Net → Counts → List Key → State → State
 with_tallies net counts [] s = s
 with_tallies net counts (k ∷ ks) s = with_tallies net counts ks (after_tally net k counts s)
 
--- the task may be done with these choices: these records come of it, in this order, and these keys are tallied
+-- the task can be done with these choices: it results in these records, in this order, and these keys are tallied
 pub data Spreads (net : Net) : Task → Choices → List Item → List Key → Type 0 where
   no_act : Spreads net (acts []) [] [] []
   next_act : (a : Act) (as' : List Act) (c d : Choices) (is js : List Item) (ks ls : List Key) → Spreads net (one a) c is ks → Spreads net (acts as') d js ls → Spreads net (acts (a ∷ as')) (c ++ d) (is ++ js) (ks ++ ls)

@@ -1,4 +1,4 @@
--- In how many steps a packet may come to be counted so often, along one list of acts, as a run goes.
+-- The numbers of steps in which a packet can have a given fate, along one list of acts in the order of a run.
 use Rattle.std.specs.Prelude.{◌≡◌, true, false, ℕ, suc, ◌+◌, ◌<◌, List, [], ◌∷◌, length, Option, Some, None, slice_get}
 use Rattle.fx_layout.specs.Keys.{Key}
 use Rattle.fx_tables.specs.Network.{Net, Exporter}
@@ -11,7 +11,7 @@ use Rattle.fx_leaf.specs.Fates.{both}
 use Rattle.fx_tables.specs.Runnable.{IsHolder}
 use Rattle.fx_steps.specs.Ways.{tally_fate}
 
--- each record goes to all of these destinations, or to any one of them
+-- an exporting process that sends each record to all of these destinations, or to any one of them
 abbrev pub all_of : List (Option ℕ) → Exporter
 all_of destinations = record { parallel = true; destinations = destinations }
 

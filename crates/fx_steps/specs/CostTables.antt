@@ -15,7 +15,7 @@ use Rattle.fx_steps.specs.Costs.{costs_of_never, costs_of_once, costs_of_unassig
 abbrev pub CostTable : Type 0
 CostTable = List (List Costs)
 
--- what a packet's least numbers of steps are worked out from: what a plan lends, and the table
+-- the data from which a packet's least numbers of steps are computed: what a plan provides, and the table
 pub record PacketCosts : Type 0 where
   pub tables : Tables
   pub packet : Packet
@@ -32,7 +32,7 @@ cost_in (Some row) number = or_never (slice_get row number)
 abbrev pub cost_entry : CostTable → ℕ → ℕ → Costs
 cost_entry table process number = cost_in (slice_get table process) number
 
--- ---- a record of the layout of this number that is sent
+-- ---- a record, with the layout of this number, that is sent
 
 abbrev pub process_costs : CostTable → ℕ → Option ℕ → Costs
 process_costs table number None = costs_of_never
@@ -57,9 +57,9 @@ abbrev pub sent_costs : CostTable → Net → ℕ → List Exporter → Costs
 sent_costs table net number [] = costs_of_never
 sent_costs table net number (e ∷ es) = both_costs (send_costs table net number e) (sent_costs table net number es)
 
--- ---- a record that comes to a collecting process
+-- ---- a record that arrives at a collecting process
 
--- a record that a holder takes in
+-- a record that a holder adds
 abbrev pub holder_costs : CostTable → Net → Numbering → ℕ → Costs
 holder_costs table net n holder = one_step_more (sent_costs table net (number_of_layout n holder) (exporters_of net (slice_get net.holders holder)))
 
@@ -80,13 +80,13 @@ abbrev pub cost_entry_from : CostTable → Net → Numbering → Fields → ℕ 
 cost_entry_from table net n fields process number layout =
     both_costs (tally_costs net layout process) (handled_costs table net n fields number layout (slice_get net.processes process))
 
--- a row, from the layout of this number on
+-- a row, starting at the layout of this number
 abbrev pub cost_row : CostTable → Net → Numbering → Fields → ℕ → ℕ → List Layout → List Costs
 cost_row table net n fields process number [] = []
 cost_row table net n fields process number (layout ∷ layouts) =
     cost_entry_from table net n fields process number layout ∷ cost_row table net n fields process (suc number) layouts
 
--- the rows of these processes, one after another
+-- the rows of these processes, filled in order
 abbrev pub cost_fill : Net → Numbering → Fields → List ℕ → CostTable → CostTable
 cost_fill net n fields [] table = table
 cost_fill net n fields (process ∷ processes) table =
@@ -94,7 +94,7 @@ cost_fill net n fields (process ∷ processes) table =
 
 -- ---- a packet
 
--- what the caches of these occurrences take in
+-- the records that the caches of these occurrences add
 abbrev pub occurrence_costs : CostTable → Net → Numbering → List Occurrence → Costs
 occurrence_costs table net n [] = costs_of_never
 occurrence_costs table net n (o ∷ os) = both_costs (holder_costs table net n o.holder) (occurrence_costs table net n os)

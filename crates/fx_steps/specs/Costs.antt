@@ -5,7 +5,7 @@ use Rattle.fx_leaf.specs.declared.verdict.Fate.{Fate}
 use Rattle.fx_leaf.specs.declared.verdict.Fate.TheVariants.{Never, Once, Many, Differing, Unassigned}
 use Rattle.fx_steps.specs.declared.costs.Costs.{Costs}
 
--- more steps than a run may have
+-- one more than the largest number of steps of a run
 abbrev pub over_limit : ℕ
 over_limit = 1000001
 
@@ -23,7 +23,7 @@ cost_of c Many = c.many
 cost_of c Unassigned = c.unassigned
 cost_of c Differing = over_limit
 
--- the pairs of fates that are this one together
+-- the pairs of fates whose combination is this fate
 abbrev pub pairs : Fate → List (Fate × Fate)
 pairs Never = (Never, Never) ∷ []
 pairs Once = (Never, Once) ∷ (Once, Never) ∷ []
@@ -55,7 +55,7 @@ costs_of_unassigned = record { never = over_limit; once = over_limit; many = ove
 abbrev pub costs_of_no_way : Costs
 costs_of_no_way = record { never = over_limit; once = over_limit; many = over_limit; unassigned = over_limit }
 
--- the least number of steps to each fate, where it is within the limit
+-- the least number of steps to each fate, if it is within the limit
 pub record Tells (c : Costs) (comes : Fate → ℕ → Type 0) : Type 0 where
   pub least : (f : Fate) (n : ℕ) → comes f n → cost_of c f ≤ n
   pub reached : (f : Fate) → cost_of c f ≤ step_limit → comes f (cost_of c f)

@@ -1,4 +1,4 @@
--- The records that come of a step, each with the fate to which it is to come, and what the step chooses.
+-- The records that result from a step, each with the fate it must have, and the choices of the step.
 use Rattle.std.specs.Prelude.{◌≡◌, ◌<◌, ◌==◌, ◌+◌, ◌++◌, length, ℕ, suc, List, [], ◌∷◌, map, Option, Some, None, if◌then◌else◌, slice_get}
 use Rattle.fx_elements.specs.Axes.{Fields}
 use Rattle.fx_layout.specs.Keys.{Layout, Key, Fits, key_of}
@@ -23,7 +23,7 @@ use Rattle.fx_steps.specs.Costs.{cost_of}
 use Rattle.fx_steps.specs.CostTables.{CostTable, destination_costs, send_costs, sent_costs, holder_costs, all_taken_costs, tally_costs, handled_costs, occurrence_costs}
 use Rattle.fx_steps.specs.Spread.{SentRecord, shares, records_by_exporter, choices_by_exporter}
 
--- these records come last in a plan, and these choices
+-- these records and these choices are appended to a plan
 pub record AddsPlan (old new : StepPlan) (xs : List Pending) (cs : Choices) : Type 0 where
   pub pending : new.pending.items ≡ old.pending.items ++ xs
   pub choices : new.choices.items ≡ old.choices.items ++ cs
@@ -31,7 +31,7 @@ pub record AddsPlan (old new : StepPlan) (xs : List Pending) (cs : Choices) : Ty
 abbrev pub pending_on_links : ℕ → List SentRecord → List Pending
 pending_on_links number xs = map (λ (x : SentRecord). OnLink x.link number x.fate) xs
 
--- ---- what exporting processes send of a record of the layout of this number
+-- ---- what exporting processes send for a record with the layout of this number
 
 abbrev pub sent_pending : CostTable → Net → ℕ → List Exporter → Fate → List Pending
 sent_pending table net number [] f = []
@@ -45,7 +45,7 @@ sent_choices table net number (e ∷ es) f =
     let p = shares (send_costs table net number e) (sent_costs table net number es) f in
     choices_by_exporter table net number e p.0 ++ sent_choices table net number es p.1
 
--- by the first of them, if it is there, where the others cost so much
+-- the records sent by the first exporting process, if there is one, given the costs of the others
 abbrev pub first_pending : CostTable → Net → ℕ → Option Exporter → Costs → Fate → List Pending
 first_pending table net number None others f = []
 first_pending table net number (Some e) others f = pending_on_links number (records_by_exporter table net number e (shares (send_costs table net number e) others f).0)
@@ -58,7 +58,7 @@ abbrev pub fate_left_by : CostTable → Net → ℕ → Option Exporter → Cost
 fate_left_by table net number None others f = f
 fate_left_by table net number (Some e) others f = (shares (send_costs table net number e) others f).1
 
--- ---- what aggregations take in
+-- ---- what aggregations add
 
 abbrev pub all_taken_pending : CostTable → Net → Numbering → Key → List AggregationEntry → Fate → List Pending
 all_taken_pending table net n key [] f = []
@@ -85,12 +85,12 @@ handled_choices table net n fields number layout (Some p) f =
     let q = shares (sent_costs table net number (at_places net.exporters p.exporters)) (all_taken_costs table net n (key_of layout fields) p.aggregations) f in
     sent_choices table net number (at_places net.exporters p.exporters) q.0 ++ all_taken_choices table net n (key_of layout fields) p.aggregations
 
--- the fate that is left behind the report's tally
+-- the fate that remains after the report's tally
 abbrev pub fate_behind_tally : CostTable → Net → Numbering → Fields → ℕ → ℕ → Layout → Fate → Fate
 fate_behind_tally table net n fields process number layout f =
     (shares (tally_costs net layout process) (handled_costs table net n fields number layout (slice_get net.processes process)) f).1
 
--- ---- what caches take in of a packet
+-- ---- what caches add for a packet
 
 abbrev pub occurrence_pending : CostTable → Net → Numbering → List Occurrence → Fate → List Pending
 occurrence_pending table net n [] f = []
@@ -102,7 +102,7 @@ abbrev pub occurrence_choices : List Occurrence → Choices
 occurrence_choices [] = []
 occurrence_choices (o ∷ os) = None ∷ occurrence_choices os
 
--- ---- what they cost, what they come to, and which records they are
+-- ---- the cost of pending records, their combined fate, and the records themselves
 
 abbrev pub pending_cost : CostTable → Net → Numbering → Pending → ℕ
 pending_cost table net n (AtHolder holder f) = cost_of (holder_costs table net n holder) f
@@ -131,7 +131,7 @@ item_of net n fields (OnLink link number f) = Carried link (key_of (layout_in (s
 abbrev pub pending_items : Net → Numbering → Fields → List Pending → List Item
 pending_items net n fields xs = map (item_of net n fields) xs
 
--- ---- a record on its way takes its step
+-- ---- the step of a record in transit
 
 abbrev pub arrival_pending : CostTable → Net → Numbering → Fields → ℕ → Layout → Option ℕ → Fate → List Pending
 arrival_pending table net n fields number layout None f = []
@@ -145,7 +145,7 @@ abbrev pub arrival_keys : Net → Fields → Layout → Option ℕ → List Key
 arrival_keys net fields layout None = []
 arrival_keys net fields layout (Some process) = if process == net.report then key_of layout fields ∷ [] else []
 
--- the records that come of it, what the step chooses, and the keys that are tallied
+-- the records that result from the step, the choices of the step, and the keys that are tallied
 abbrev pub step_pending : CostTable → Net → Numbering → Fields → Pending → List Pending
 step_pending table net n fields (AtHolder holder f) = sent_pending table net (number_of_layout n holder) (exporters_of net (slice_get net.holders holder)) f
 step_pending table net n fields (OnLink link number f) = arrival_pending table net n fields number (layout_in (slice_get n.layouts number)) (slice_get net.links link) f
@@ -158,7 +158,7 @@ abbrev pub step_keys : Net → Numbering → Fields → Pending → List Key
 step_keys net n fields (AtHolder holder f) = []
 step_keys net n fields (OnLink link number f) = arrival_keys net fields (layout_in (slice_get n.layouts number)) (slice_get net.links link)
 
--- the acts of its step
+-- the acts of the record's step
 abbrev pub step_acts : Net → Numbering → Fields → Pending → List Act
 step_acts net n fields (AtHolder holder f) = acts_of_leaving net holder (key_of (layout_of (slice_get net.holders holder)) fields)
 step_acts net n fields (OnLink link number f) = acts_of_arrival net (key_of (layout_in (slice_get n.layouts number)) fields) (slice_get net.links link)
@@ -167,18 +167,18 @@ abbrev pub keys_fate : Net → List Key → Fate
 keys_fate net [] = Never
 keys_fate net (k ∷ ks) = both (tally_fate net k) (keys_fate net ks)
 
--- its place is there, and its layout
+-- the record's place exists, and so does its layout
 abbrev pub IsThere : Net → Numbering → Pending → Type 0
 IsThere net n (AtHolder holder f) = IsHolder net holder
 IsThere net n (OnLink link number f) = (link < length net.links) × ((layout : Layout) × (slice_get n.layouts number ≡ Some layout) × Fits layout)
 
--- it may take its step so: what comes of it costs one step less, and comes to the same fate with what is tallied
+-- the record can make this step: the resulting records cost one step less, and with the tallied keys have the same fate
 pub record Steps (table : CostTable) (net : Net) (n : Numbering) (fields : Fields) (x : Pending) : Type 0 where
   pub spreads : Spreads net (acts (step_acts net n fields x)) (step_choices table net n fields x) (pending_items net n fields (step_pending table net n fields x)) (step_keys net n fields x)
   pub cost : suc (total_cost table net n (step_pending table net n fields x)) ≡ pending_cost table net n x
   pub fate : both (keys_fate net (step_keys net n fields x)) (total_fate (step_pending table net n fields x)) ≡ pending_fate x
 
--- a packet's crossing may be made so
+-- the packet can make this crossing with these choices
 pub record Crosses (table : CostTable) (net : Net) (n : Numbering) (fields : Fields) (c : Crossing) (f : Fate) : Type 0 where
   pub spreads : Spreads net (acts (crossing_acts net fields (Some c))) (occurrence_choices (occurrences net c fields)) (pending_items net n fields (occurrence_pending table net n (occurrences net c fields) f)) []
   pub cost : total_cost table net n (occurrence_pending table net n (occurrences net c fields) f) ≡ cost_of (occurrence_costs table net n (occurrences net c fields)) f

@@ -15,20 +15,20 @@ use Rattle.fx_leaf.specs.declared.verdict.Fate.{Fate}
 use Rattle.fx_leaf.specs.declared.verdict.Fate.TheVariants.{Never, Once, Many, Unassigned}
 use Rattle.fx_leaf.specs.Fates.{wanted_fate}
 
--- the counts tallied so many times under a key
+-- the totals with the counts tallied this number of times under a key
 abbrev pub totals_with : ℕ → Key → Counts → List Record → List Record
 totals_with zero key counts ts = ts
 totals_with (suc n) key counts ts = totals_with n key counts (add_at ts key counts)
 
--- the fate of what was tallied so many times, with so many of its records unassigned
+-- the fate of a packet tallied this number of times, with this number of its records unassigned
 abbrev pub fate_of : ℕ → ℕ → Fate
 fate_of tallies (suc unassigned) = Unassigned
 fate_of zero zero = Never
 fate_of (suc zero) zero = Once
 fate_of (suc (suc tallies)) zero = Many
 
--- steps that lead from the opening of this one packet to a complete state, in which it has come to this fate;
--- where another fate is wanted, that state doesn't count as it should
+-- steps that lead from the opening state of this one packet to a complete state, in which the packet has this fate;
+-- if another fate is required, that state doesn't count the packet as it should
 pub record RunOf (net : Net) (classes : List Class) (p : Packet) (fate : Fate) (number : ℕ) : Type 0 where
   pub steps : List Step
   pub final : State

@@ -1,4 +1,4 @@
--- Runs of one packet in the making.
+-- Runs of one packet under construction.
 use Rattle.std.specs.Prelude.{◌≡◌, ◌≤◌, ◌+◌, ◌++◌, ℕ, suc, List, [], ◌∷◌, length, Some, Ok, slice_get}
 use Rattle.std.specs.List.{AllByRecursion}
 use Rattle.fx_layout.specs.Keys.{key_of}
@@ -27,8 +27,8 @@ use Rattle.fx_steps.specs.Planning.{pending_items, total_fate, total_cost, step_
 use Rattle.fx_steps.specs.Playing.{totals_with, fate_of}
 use Rattle.fx_steps.specs.Waiting.{Wait, zeros_for, holder_counts, link_counts}
 
--- nothing is held or on a link, these crossings are to come, and the packet was tallied so many times, with so many of
--- its records unassigned
+-- nothing is held or on a link, these crossings are pending, and the packet was tallied this number of times, with this
+-- number of its records unassigned
 abbrev pub state_of_tallies : Net → Packet → ℕ → ℕ → List Coming → State
 state_of_tallies net p tallies unassigned coming = record {
   coming = coming;
@@ -38,8 +38,8 @@ state_of_tallies net p tallies unassigned coming = record {
   unassigned = unassigned;
 }
 
--- the steps lead to where these records are on their way and these crossings are to come; with what these records are to
--- come to, the packet comes to this fate
+-- the steps lead to a state with these records in transit and these crossings pending; combined with the fates required of
+-- these records, the packet has this fate
 pub record UnderWay (net : Net) (n : Numbering) (classes : List Class) (p : Packet) (coming : List Coming) (fate : Fate) (steps : List Step) (xs : List Pending) : Type 0 where
   pub tallies : ℕ
   pub unassigned : ℕ
@@ -53,20 +53,20 @@ pub record HasCosts (t : Tables) (fields : Fields) (table : CostTable) : Type 0 
   pub room : length before ≡ length t.net.processes
   pub filled : table ≡ cost_fill t.net t.numbering fields t.order before
 
--- all is there that a run of the packet is built by: the table was filled for it, and these are the holders' names
+-- everything is available from which a run of the packet is built: the table filled for the packet, and the holders' names
 pub record IsPrepared (c : PacketCosts) (names : List HolderName) : Type 0 where
   pub tables : AreTables c.tables
   pub runnable : IsRunnable c.tables.net
   pub filled : HasCosts c.tables c.packet.fields c.table
   pub named : NameAll c.tables.net names
 
--- these records can leave, after so many steps, within the limit
+-- these records can leave, after this number of steps, within the limit
 pub record CanLeave (table : CostTable) (net : Net) (n : Numbering) (steps : ℕ) (xs : List Pending) (w : Waiting) : Type 0 where
   pub there : AllByRecursion (IsThere net n) xs
   pub waiting : Wait net xs w
   pub few : steps + total_cost table net n xs ≤ step_limit
 
--- this is the step of a record that came behind all of these
+-- this is the step of a record that was added after all of these
 abbrev pub IsStepOf : CostTable → Net → Numbering → Fields → List Pending → Pending → Step → Type 0
 IsStepOf table net n fields xs (AtHolder holder f) step =
     (name : HolderName) × (count : ℕ) × (holder_place net name ≡ Some holder) × (slice_get (holder_counts (zeros_for net.holders) xs) holder ≡ Some count)
@@ -75,14 +75,14 @@ IsStepOf table net n fields xs (OnLink link number f) step =
     (count : ℕ) × (slice_get (link_counts (zeros_for net.links) xs) link ≡ Some count)
     × (step ≡ Arrive (suc link) (suc count) (step_choices table net n fields (OnLink link number f)))
 
--- this step was made, and these records are on their way behind it
+-- this step was made, and these records are in transit after it
 pub record Leaves (table : CostTable) (net : Net) (n : Numbering) (fields : Fields) (xs : List Pending) (x : Pending) (old new : List Step) : Type 0 where
   pub step : Step
   pub is : IsStepOf table net n fields xs x step
   pub last : new ≡ old ++ step ∷ []
 
--- this is the step by which a record left that came behind all others; what comes of it is on its way behind them, and
--- doesn't wait yet
+-- this is the step by which the last record added leaves; the resulting records are appended to those in transit, but not
+-- yet counted as waiting
 pub record TopLeaves (c : PacketCosts) (old new : Building) (x : Pending) (step : Step) : Type 0 where
   pub is : IsStepOf c.table c.tables.net c.tables.numbering c.packet.fields old.plan.pending.items x step
   pub pending : new.plan.pending.items ≡ old.plan.pending.items ++ step_pending c.table c.tables.net c.tables.numbering c.packet.fields x

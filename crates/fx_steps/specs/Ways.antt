@@ -1,4 +1,4 @@
--- In how many steps a packet may come to be counted so often.
+-- The numbers of steps in which a packet can have a given fate.
 use Rattle.std.specs.Prelude.{◌≡◌, true, false, ℕ, suc, ◌+◌, ◌<◌, List, [], ◌∷◌, length, Option, Some, None, slice_get, if◌then◌else◌}
 use Rattle.fx_elements.specs.Axes.{Fields}
 use Rattle.fx_layout.specs.Keys.{Key, refines}
@@ -15,25 +15,25 @@ use Rattle.fx_leaf.specs.Fates.{both}
 abbrev pub tally_fate : Net → Key → Fate
 tally_fate net key = if refines key.layout net.report_layout then Once else Unassigned
 
--- what is to be done: acts, one act, or a key sent to these destinations
+-- a task: acts, one act, or a key sent to these destinations
 pub data Task : Type 0 where
   acts : List Act → Task
   one : Act → Task
   to : Key → List (Option ℕ) → Task
 
--- by some choices, and without records joined, a task and all that follows from it comes to this fate in so many steps
+-- for some choices, without joining records, a task and everything that follows from it has this fate in this number of steps
 pub data Comes (net : Net) : Task → Fate → ℕ → Type 0 where
-  -- nothing is never counted, in no step
+  -- no acts: never counted, in 0 steps
   no_act : Comes net (acts []) Never 0
   next_act : (a : Act) (as' : List Act) (f g : Fate) (m n : ℕ) → Comes net (one a) f m → Comes net (acts as') g n → Comes net (acts (a ∷ as')) (both f g) (m + n)
   tally : (key : Key) → Comes net (one (Tally key)) (tally_fate net key) 0
-  -- a record that is held leaves, by one step
+  -- a held record leaves, by one step
   hold : (holder : ℕ) (key : Key) (f : Fate) (n : ℕ) → IsHolder net holder → Comes net (acts (acts_of_leaving net holder key)) f n → Comes net (one (Hold holder key)) f (suc n)
-  -- to all destinations, or to one of them
+  -- the record is sent to all destinations, or to one of them
   to_all : (e : Exporter) (key : Key) (f : Fate) (n : ℕ) → e.parallel ≡ true → Comes net (to key e.destinations) f n → Comes net (one (Send e key)) f n
   to_any : (e : Exporter) (key : Key) (number : ℕ) (d : Option ℕ) (f : Fate) (n : ℕ) → e.parallel ≡ false → entry_numbered e.destinations number ≡ Some d → Comes net (to key (d ∷ [])) f n → Comes net (one (Send e key)) f n
   no_destination : (key : Key) → Comes net (to key []) Never 0
-  -- a record that is sent on a link arrives, by one step; without a link it is gone
+  -- a record sent on a link arrives, by one step; without a link it leaves the network
   to_outside : (key : Key) (ds : List (Option ℕ)) (f : Fate) (n : ℕ) → Comes net (to key ds) f n → Comes net (to key (None ∷ ds)) f n
   to_link : (key : Key) (link : ℕ) (ds : List (Option ℕ)) (f g : Fate) (m n : ℕ) → link < length net.links → Comes net (acts (acts_of_arrival net key (slice_get net.links link))) f m → Comes net (to key ds) g n → Comes net (to key (Some link ∷ ds)) (both f g) (suc m + n)
 

@@ -1,4 +1,4 @@
--- Runs of one packet that show a wrong total.
+-- Runs of one packet that demonstrate a wrong total.
 use Rattle.std.specs.Prelude.{◌≡◌, ◌≢◌, ◌≤◌, ℕ, Bool, List, [], ◌∷◌, length, Ok}
 use Rattle.fx_elements.specs.Axes.{Fields}
 use Rattle.fx_tables.specs.declared.packet.Packet.{Packet}
@@ -14,8 +14,8 @@ use Rattle.fx_leaf.specs.Fates.{wanted_fate}
 use Rattle.fx_machine.specs.Limits.{step_limit}
 use Rattle.fx_steps.specs.Ways.{PacketComes}
 
--- the steps, as many as a run may have at most, lead from the opening of this one packet to a complete state, in which it
--- isn't counted as it should be
+-- the steps, no more than a run may have, lead from the opening state of this one packet to a complete state, in which the
+-- packet isn't counted as it should be
 pub record IsWrongRun (net : Net) (classes : List Class) (p : Packet) (steps : List Step) : Type 0 where
   pub last : State
   pub runs : run net classes (p ∷ []) steps (opening net classes (p ∷ [])) ≡ Ok last
@@ -23,12 +23,12 @@ pub record IsWrongRun (net : Net) (classes : List Class) (p : Packet) (steps : L
   pub wrong : CountsEachOnce net (to_count classes (p ∷ [])) last → ⊥
   pub few : length steps ≤ step_limit
 
--- in no fewer steps a packet with these fields, on this path, comes to another fate than the wanted one
+-- a packet with these fields, on this path, needs at least this number of steps to have a fate other than the required one
 abbrev pub IsLeast : Net → Fields → List Crossing → Bool → ℕ → Type 0
 IsLeast net fields path exempt number =
     (f : Fate) (n : ℕ) → f ≢ wanted_fate exempt → PacketComes net fields path f n → number ≤ n
 
--- it comes to no other fate than the wanted one in as many steps as a run may have
+-- the packet can't have a fate other than the required one within the largest number of steps of a run
 abbrev pub HasNoRun : Net → Fields → List Crossing → Bool → Type 0
 HasNoRun net fields path exempt =
     (f : Fate) (n : ℕ) → f ≢ wanted_fate exempt → n ≤ step_limit → PacketComes net fields path f n → ⊥

@@ -13,11 +13,11 @@ Flows = FinMap key_cmp Counts
 abbrev pub Entry : Type 0
 Entry = Key × Counts
 
--- the flows of some entries, of which none have the same key
+-- the flows of some entries with distinct keys
 abbrev pub flows_of : List Entry → Flows
 flows_of es = from_entries es
 
--- what was counted before, with more
+-- the counts so far, with more added
 abbrev pub with_more : Option Counts → Counts → Counts
 with_more None more = more
 with_more (Some before) more = add_counts before more
@@ -26,17 +26,17 @@ with_more (Some before) more = add_counts before more
 abbrev pub with_added : Flows → Key → Counts → Flows
 with_added flows key counts = insert flows key (with_more (get flows key) counts)
 
--- the entry is taken out, if there is one
+-- the entry is removed, if there is one
 abbrev pub without : Flows → Option Entry → Flows
 without flows None = flows
 without flows (Some e) = remove flows e.0
 
--- the entry of the least key
+-- the entry with the least key
 abbrev pub least : Flows → Option Entry
 least flows = slice_get (entries flows) 0
 
 -- Counts are added at a key, and an entry may leave.
 pub record Adds (old new : Flows) (key : Key) (counts : Counts) (left : Option Entry) : Type 0 where
   pub flows : new ≡ with_added (without old left) key counts
-  -- only where the key is new, and then another key's entry with all its counts
+  -- an entry leaves only if the key is new, and then it is another key's entry with all its counts
   pub whole : IfSome left (λ e. (get old key ≡ None) × (get old e.0 ≡ Some e.1))

@@ -1,4 +1,4 @@
--- The order of keys is total and tells all keys apart.
+-- The order of keys is total and distinguishes all keys.
 use Rattle.std.proofs.Common.{◌≡◌, ℕ, true, List, ap, ap₂, subst, eq-eqb}
 use Rattle.std.specs.Bool.{Decides, one_answer}
 use Rattle.std.specs.Ordering.{nat_cmp, is_eq, eq_by_cmp}
@@ -15,7 +15,7 @@ use Rattle.fx_elements.proofs.EveryAxis.{axis_is}
 use Rattle.fx_layout.proofs.Projections.{same_key_is, same_key_decides}
 use Rattle.fx_store.specs.Order.{part_cmp, layout_cmp, key_cmp}
 
--- ---- total
+-- ---- totality
 
 part_cmp_total : IsTotalOrder part_cmp
 part_cmp_total = then_total (on_total (λ (p : Part). axis_index p.axis) nat_cmp_total) (on_total (λ (p : Part). p.bits) nat_cmp_total)
@@ -23,7 +23,7 @@ part_cmp_total = then_total (on_total (λ (p : Part). axis_index p.axis) nat_cmp
 pub key_cmp_total : IsTotalOrder key_cmp
 key_cmp_total = then_total (on_total (λ (k : Key). k.values) nat_list_cmp_total) (on_total (λ (k : Key). k.layout) (lists_total part_cmp_total))
 
--- ---- only equal keys tie
+-- ---- only equal keys compare as equal
 
 part_apart : IsAntisymmetric part_cmp
 part_apart p q e =
@@ -45,17 +45,17 @@ key_cmp_decides : (a b : Key) → Decides (eq_by_cmp key_cmp a b) (a ≡ b)
 key_cmp_decides a b =
     (λ e. key_cmp_apart a b ((Equal-is (key_cmp a b)).0 e), λ e. subst (λ (k : Key). eq_by_cmp key_cmp a k ≡ true) e (ap is_eq (tied_itself key_cmp_total a)))
 
--- keys are the same just where they tie
+-- two keys are the same if and only if they compare as equal
 pub same_key_ties : (a b : Key) → same_key a b ≡ eq_by_cmp key_cmp a b
 same_key_ties a b =
     let d = key_cmp_decides a b in
     let s = same_key_decides a b in
     one_answer (same_key a b) (eq_by_cmp key_cmp a b) s d
 
--- what a key feeds a hasher
+-- the data that a key writes to a hasher
 abbrev pub hash_writes : Key → HashWrites
 hash_writes k = slice u128 k.values
 
--- what is the same is hashed alike
+-- equal keys have equal hashes
 pub hashes_alike : (a b : Key) → same_key a b ≡ true → hash_writes a ≡ hash_writes b
 hashes_alike a b h = ap hash_writes (same_key_is a b h)

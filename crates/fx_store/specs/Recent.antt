@@ -1,4 +1,4 @@
--- A bounded number of flows by how recently they were added to.
+-- A bounded number of flows, ordered by how recently counts were added to them.
 use Rattle.std.specs.Prelude.{◌≡◌, ℕ, List, ◌∷◌, Option, take, slice_get}
 use Rattle.std.specs.List.{list_any}
 use Rattle.std.specs.Ordering.{eq_by_cmp}
@@ -9,7 +9,7 @@ use Rattle.fx_layout.specs.Keys.{Key, same_key}
 use Rattle.fx_store.specs.Order.{key_cmp}
 use Rattle.fx_store.specs.Flows.{Entry, Flows, with_more}
 
--- the entries, the latest added-to first, and how many there may be
+-- the entries, the most recently updated first, and their largest number
 pub record Recent : Type 0 where
   pub entries : List Entry
   pub capacity : ℕ
@@ -20,7 +20,7 @@ counts_at entries key = lookup (same_key key) entries
 abbrev pub without_key : List Entry → Key → List Entry
 without_key entries key = remove_entry (same_key key) entries
 
--- the counts are added at the key, whose entry comes first now
+-- the counts are added at the key, whose entry now comes first
 abbrev pub with_latest : List Entry → Key → Counts → List Entry
 with_latest entries key counts = (key, with_more (counts_at entries key) counts) ∷ without_key entries key
 
@@ -32,6 +32,6 @@ after_add r key counts = record r { entries = take r.capacity (with_latest r.ent
 abbrev pub pushed_out : Recent → Key → Counts → Option Entry
 pushed_out r key counts = slice_get (with_latest r.entries key counts) r.capacity
 
--- the keys are those of the flows
+-- the keys are exactly those of the flows
 abbrev pub AreKeysOf : Flows → List Key → Type 0
 AreKeysOf flows keys = (q : Key) → list_any (eq_by_cmp key_cmp q) keys ≡ contains_key flows q

@@ -19,15 +19,15 @@ use Rattle.fx_sums.specs.SumText.{comes_behind}
 
 -- ---- words
 
--- this, if no word is left
+-- the value, if no words are left
 abbrev pub at_end : {A : Type 0} → A → Words → Option A
 at_end x ws = if none_left ws then Some x else None
 
--- the words behind this one
+-- the words after this one
 abbrev pub word_first : List ℕ → Words → Option Words
 word_first word ws = first_word ws >>= λ w. if bytes_eq w.0 word then Some w.1 else None
 
--- the number that is all of these words
+-- the number of which these words consist
 abbrev pub last_number : Words → Option ℕ
 last_number ws = number_first ws >>= λ n. at_end n.0 n.1
 
@@ -38,13 +38,13 @@ number_behind word line = do
   behind ← word_first word (words line)
   last_number behind
 
--- ---- the line of a key
+-- ---- the line for a key
 
--- a value of which nothing stands behind these leading bits
+-- a value that is zero after its leading bits
 abbrev pub that_begins : ℕ → ℕ → Option ℕ
 that_begins size value = if value % size == 0 then Some value else None
 
--- an address whose number of leading bits is this
+-- an address followed by this number of leading bits
 unfoldable pub prefix_start : Part → List ℕ → Option ℕ
 prefix_start part word = do
   p ← cut_at 47 word
@@ -52,11 +52,11 @@ prefix_start part word = do
   value ← written_on part.axis p.0
   if bits == part.bits then that_begins (2 ^ (axis_width part.axis - part.bits)) value else None
 
--- the first value that begins with the leading bits that are written so
+-- the first value with the leading bits that the word spells
 abbrev pub start_of : Part → List ℕ → Option ℕ
 start_of part word = if nat_lt part.bits (axis_width part.axis) then prefix_start part word else written_on part.axis word
 
--- a value for each part, and the words behind them
+-- a value for each part, and the remaining words
 unfoldable pub values_first : Layout → Words → Option (List ℕ × Words)
 values_first [] ws = Some ([], ws)
 values_first (part ∷ parts) ws = do
@@ -64,7 +64,7 @@ values_first (part ∷ parts) ws = do
   values ← values_first parts start.1
   Some (leading_bits (axis_width part.axis) part.bits start.0 ∷ values.0, values.1)
 
--- what fields have for each part
+-- the values of fields for each part
 abbrev pub values_under : Layout → Fields → List ℕ
 values_under parts fields = map (λ part. leading_bits (axis_width part.axis) part.bits (field fields part.axis)) parts
 
@@ -73,7 +73,7 @@ abbrev pub key_first : Layout → Words → Option (List ℕ × Words)
 key_first [] ws = option_map (λ ws. ([], ws)) (word_first (codes "all") ws)
 key_first (part ∷ parts) ws = values_first (part ∷ parts) ws
 
--- the counts that all of these words are
+-- the counts of which these words consist
 unfoldable pub counts_of : Words → Option Counts
 counts_of ws = do
   ws ← word_first (codes "packets") ws
@@ -88,7 +88,7 @@ record_of layout line = do
   counts ← counts_of values.1
   Some (record { key = record { layout = layout; values = values.0 }; counts = counts })
 
--- the same, if its key comes behind the last one
+-- the record of a line, if its key is after the last one
 unfoldable pub record_behind : Layout → Option (List ℕ) → List ℕ → Option Record
 record_behind layout last line = do
   r ← record_of layout line
@@ -108,7 +108,7 @@ frames_of ws = do
   malformed ← last_number ws
   Some (Frames (record { other = other.0; malformed = malformed }))
 
--- frames of a capture, or records of a stream
+-- skipped frames of a capture, or skipped records of a stream
 unfoldable pub skipped_of : Words → Option Note
 skipped_of ws = do
   w ← first_word ws
@@ -126,7 +126,7 @@ note_of line = do
   kind ← first_word (words line)
   note_of_kind kind.0 kind.1
 
--- what stands behind those that are there: first whether a run was complete, then frames, gaps and skipped records
+-- the notes with another one appended: first whether a run was complete, then frames, gaps and skipped records
 abbrev pub with_note : Notes → Note → Option Notes
 with_note n (Complete whole) =
     if is_some n.complete || is_some n.frames || is_some n.gaps then None else Some (record n { complete = Some whole })
@@ -134,21 +134,21 @@ with_note n (Frames frames) = if is_some n.frames || is_some n.gaps then None el
 with_note n (Gaps gaps) = if is_some n.gaps then None else Some (record n { gaps = Some gaps })
 with_note n (Skipped skipped) = if is_some n.gaps && not (is_some n.skipped) then Some (record n { skipped = Some skipped }) else None
 
--- the notes with that of a line
+-- the notes with that of a line appended
 unfoldable pub notes_with : Notes → List ℕ → Option Notes
 notes_with notes line = note_of line >>= λ note. with_note notes note
 
--- gaps stand with skipped records alone
+-- gaps occur only together with skipped records
 abbrev pub are_whole : Notes → Bool
 are_whole n = not (is_some n.gaps) || is_some n.skipped
 
--- ---- behind notes
+-- ---- after notes
 
--- where a line says how many keys the next text has, the notes are whole
+-- if a line gives the number of keys of the next text, the notes must be whole
 abbrev pub notes_or_keys : Notes → List ℕ → Option ℕ → Option LineBehind
 notes_or_keys notes line (Some keys) = if are_whole notes then Some (behind.Keys keys) else None
 notes_or_keys notes line None = option_map (λ more. behind.Notes more) (notes_with notes line)
 
--- the notes with that of a line, or how many keys the text has that begins there
+-- the notes with that of a line appended, or the number of keys of the text that begins at the line
 unfoldable pub line_behind : Notes → List ℕ → Option LineBehind
 line_behind notes line = notes_or_keys notes line (number_behind (codes "keys") line)

@@ -26,33 +26,33 @@ abbrev pub ◌>>=◌ : {A B : Type 0} → Result A Fault → (A → Result B Fau
 abbrev pub TextLine : Type 0
 TextLine = List ℕ × Bool
 
--- the number of the line before, and the lines that are still to be read
+-- the number of the previous line, and the lines still to be read
 abbrev pub Rest : Type 0
 Rest = ℕ × List TextLine
 
--- the line behind the line n is missing
+-- the fault if the line after line n is missing
 abbrev pub missing : ℕ → Fault
 missing n = fault_at totals_form (places.Line (next_number n))
 
--- the line n doesn't say what it should
+-- the fault if line n doesn't have the required form
 abbrev pub wrong : ℕ → Fault
 wrong n = fault_at totals_form (places.Line n)
 
--- the bytes of the line n, which is short and which a line feed ends
+-- the bytes of line n, which is within the limit and ended by a line feed
 abbrev pub bytes_of : ℕ → TextLine → Result (List ℕ) Fault
 bytes_of n l = if nat_lt line_length_limit (length l.0) then Err (fault_at long_line (places.Line n)) else if l.1 then Ok l.0 else Err (wrong n)
 
--- what the line n says, if it says something
+-- what line n says, or the fault if it says nothing
 abbrev pub formed : {A : Type 0} → ℕ → Option A → Result A Fault
 formed n None = Err (wrong n)
 formed n (Some x) = Ok x
 
--- the next line, which may not be missing
+-- the next line, which must exist
 abbrev pub next_line : Rest → Result (List ℕ × Rest) Fault
 next_line (n, []) = Err (missing n)
 next_line (n, l ∷ ls) = bytes_of (next_number n) l >>= λ line. Ok (line, (next_number n, ls))
 
--- what is read in it
+-- the result of reading the next line
 abbrev pub in_line : {A : Type 0} → (List ℕ → Option A) → Rest → Result (A × Rest) Fault
 in_line read rest = do
   line ← next_line rest
@@ -61,28 +61,28 @@ in_line read rest = do
 
 -- ---- totals and notes
 
--- the totals with so many records more, each on a line of its own, whose keys ascend behind the last one
+-- the totals with this number of records added, each on its own line, with keys that ascend after the last one
 abbrev pub tallied : Layout → ℕ → Option (List ℕ) → Totals → Rest → Result (Totals × Rest) Fault
 tallied layout zero last t rest = Ok (t, rest)
 tallied layout (suc more) last t rest = in_line (record_behind layout last) rest >>= λ r. tallied layout more (Some r.0.key.values) (with_record t r.0) r.1
 
--- the totals with those of a text, behind the line that says how many keys it has
+-- the totals with those of a text added, after the line that gives its number of keys
 unfoldable pub totals_with : Layout → ℕ → Totals → Rest → Result (Totals × Rest) Fault
 totals_with layout keys t rest = do
   sum ← tallied layout keys None t rest
   unassigned ← in_line (number_behind (codes "unassigned")) sum.1
   Ok (with_unassigned sum.0 unassigned.0, unassigned.1)
 
--- where a text ends: at the end of the lines, or at the line that says how many keys the next one has, and what is behind it
+-- where a text ends: at the end of the lines, or at the line that gives the next text's number of keys, with the lines after it
 abbrev pub Next : Type 0
 Next = Option (ℕ × Rest)
 
--- what is read behind a line, or where its text ends
+-- the result of reading on after a line, or where the text ends
 abbrev pub on_or_next : (Notes → Result (Notes × Next) Fault) → Notes → Rest → LineBehind → Result (Notes × Next) Fault
 on_or_next on notes rest (behind.Notes more) = on more
 on_or_next on notes rest (behind.Keys keys) = Ok (notes, Some (keys, rest))
 
--- these notes and those up to where the text ends
+-- these notes and those up to the end of the text
 abbrev pub notes_first : Notes → ℕ → List TextLine → Result (Notes × Next) Fault
 notes_first notes n [] = if are_whole notes then Ok (notes, None) else Err (missing n)
 notes_first notes n (l ∷ ls) = do
@@ -94,7 +94,7 @@ notes_first notes n (l ∷ ls) = do
 abbrev pub notes_of : Rest → Result (Notes × Next) Fault
 notes_of rest = notes_first no_notes rest.0 rest.1
 
--- the sum with the totals and the notes of a text, behind the line that says how many keys it has
+-- the sum with the totals and the notes of a text added, after the line that gives the number of keys
 unfoldable pub sum_with : ℕ → Sum → Rest → Result (Sum × Next) Fault
 sum_with keys s rest = do
   totals ← totals_with s.totals.layout keys s.totals rest
@@ -103,50 +103,50 @@ sum_with keys s rest = do
 
 -- ---- texts
 
--- the sum with each text up to the end; there are no more than so many
+-- the sum with each text up to the end added, with at most this number of texts
 abbrev pub texts_up_to : Sum → Next → ℕ → Result Sum Fault
 texts_up_to s None most = Ok s
 texts_up_to s (Some next) zero = Err (missing next.1.0)
 texts_up_to s (Some next) (suc most) = sum_with next.0 s next.1 >>= λ r. texts_up_to r.0 r.1 most
 
--- the sum with one text or more; each has a line at least
+-- the sum with one or more texts added; each text has at least one line
 unfoldable pub sum_of_texts : Sum → Rest → Result Sum Fault
 sum_of_texts s rest = do
   first ← in_line (number_behind (codes "keys")) rest
   texts_up_to s (Some first) (length rest.1)
 
--- ---- of a reader of lines
+-- ---- for a reader of lines
 
--- it hasn't stopped, and has gone on
+-- the reader hasn't stopped, and has advanced
 pub record GoesOnFrom (old new : Lines) : Type 0 where
   pub going : new.stopped ≡ None
   pub on : GoesOnToLines old new
   pub smaller : line_budget new < line_budget old
 
--- this comes of what it may have left
+-- this is the result of reading what the reader may have left
 abbrev pub MayGive : {A : Type 0} → (Rest → Result A Fault) → Lines → Result A Fault → Type 0
 MayGive read lines result = MayHaveLeft lines.left (λ text. read (lines.number, text_lines text) ≡ result)
 
--- whatever is left now, this was read in what may have been left before
+-- whatever is left now, this is what was read from what may have been left before
 abbrev pub Gives : {A : Type 0} → (Rest → Result (A × Rest) Fault) → Lines → Lines → A → Type 0
 Gives read old new x = (rest : List ℕ) → MayBeLeft new.left rest → MayGive read old (Ok (x, (new.number, text_lines rest)))
 
--- it fails as a reader of lines does, or as this is read
+-- the reader fails as a reader of lines does, or with the fault of this reading
 abbrev pub Refuses : {A : Type 0} → (Rest → Result A Fault) → Lines → Lines → Fault → Type 0
 Refuses read old new e = Fails old new e ⊎ MayGive read old (Err e)
 
--- what was read ends a text, and the reader is where the text ends: at the end, or behind the next text's first line
+-- the result ends a text, and the reader is where the text ends: at the end, or after the next text's first line
 abbrev pub GivesText : {A : Type 0} → (Rest → Result (A × Next) Fault) → Lines → Lines → A → Option ℕ → Type 0
 GivesText read old new x None = MayGive read old (Ok (x, None))
 GivesText read old new x (Some keys) =
     GoesOnFrom old new
     × ((rest : List ℕ) → MayBeLeft new.left rest → MayGive read old (Ok (x, Some (keys, (new.number, text_lines rest)))))
 
--- a line is left, and this holds of it and of the lines behind it
+-- a line is left, and the property holds for it and the lines after it
 abbrev pub MayMeet : Lines → (TextLine → List TextLine → Type 0) → Type 0
 MayMeet lines P = MayHaveLeft lines.left (λ text. (l : TextLine) × (ls : List TextLine) × (text_lines text ≡ l ∷ ls) × P l ls)
 
--- it goes on to a line that a line feed ends
+-- the reader advances to a line that a line feed ends
 pub record GoesOnToLine (old new : Lines) : Type 0 where
   pub going : new.stopped ≡ None
   pub on : GoesOnToLines old new
@@ -154,7 +154,7 @@ pub record GoesOnToLine (old new : Lines) : Type 0 where
   pub smaller : line_budget new < line_budget old
   pub meets : (rest : List ℕ) → MayBeLeft new.left rest → MayMeet old (λ l ls. (bytes_of new.number l ≡ Ok new.line) × (ls ≡ text_lines rest))
 
--- it is at the end of the text
+-- the reader is at the end of the text
 pub record IsAtEnd (old new : Lines) : Type 0 where
   pub number : new.number ≡ old.number
   pub ends : MayHaveLeft old.left (λ text. text ≡ [])

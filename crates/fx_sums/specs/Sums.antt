@@ -1,4 +1,4 @@
--- What totals of one report come to that were collected apart, and what was noted beside them.
+-- The sum of totals of one report that were collected separately, and of the notes that accompany them.
 use Rattle.std.specs.Prelude.{◌≡◌, ℕ, ◌+◌, ◌%◌, ◌^◌, ◌&&◌, Bool, List, [], ◌∷◌, Option, Some, None}
 use Rattle.fx_layout.specs.Keys.{Layout, Key}
 use Rattle.fx_machine.specs.Sums.{total_at}
@@ -10,11 +10,11 @@ pub record Sum : Type 0 where
   pub totals : Totals
   pub notes : Notes
 
--- all but the records under keys is the same
+-- the two sums differ at most in the records under keys
 abbrev pub IsSumBut : Sum → Sum → Type 0
 IsSumBut s t = (t.totals.layout ≡ s.totals.layout) × (t.totals.unassigned ≡ s.totals.unassigned) × (t.notes ≡ s.notes)
 
--- ---- of nothing
+-- ---- the empty sum
 
 abbrev pub no_notes : Notes
 no_notes = record { complete = None; frames = None; gaps = None; skipped = None }
@@ -22,9 +22,9 @@ no_notes = record { complete = None; frames = None; gaps = None; skipped = None 
 abbrev pub no_sum : Layout → Sum
 no_sum layout = record { totals = nothing layout; notes = no_notes }
 
--- ---- of two
+-- ---- the sum of two
 
--- what was noted twice is put together, and what was noted once stays
+-- notes that both have are combined, and a note that only one has is kept
 abbrev pub joined : {A : Type 0} → (A → A → A) → Option A → Option A → Option A
 joined f None other = other
 joined f (Some x) None = Some x
@@ -36,7 +36,7 @@ plus_numbers a b = (a + b) % 2 ^ 64
 abbrev pub plus_frames : SkippedFrames → SkippedFrames → SkippedFrames
 plus_frames a b = record { other = plus_numbers a.other b.other; malformed = plus_numbers a.malformed b.malformed }
 
--- complete where both are, and the sums of the numbers
+-- complete if both are, and the sums of the numbers
 abbrev pub plus_notes : Notes → Notes → Notes
 plus_notes m n = record {
   complete = joined (λ (a b : Bool). a && b) m.complete n.complete;
@@ -45,21 +45,21 @@ plus_notes m n = record {
   skipped = joined plus_numbers m.skipped n.skipped;
 }
 
--- what was counted under each key of the second is counted under it once more, and so are its unassigned records
+-- the counts under each key of the second are added to the first, and so are its unassigned records
 abbrev pub plus_totals : Totals → Totals → Totals
 plus_totals t u = with_unassigned (with_records t u.entries) u.unassigned
 
 abbrev pub plus : Sum → Sum → Sum
 plus s t = record { totals = plus_totals s.totals t.totals; notes = plus_notes s.notes t.notes }
 
--- each in turn
+-- each is added in order
 abbrev pub plus_all : Sum → List Sum → Sum
 plus_all s [] = s
 plus_all s (t ∷ ts) = plus_all (plus s t) ts
 
--- ---- alike
+-- ---- equivalence
 
--- the same total at each key, and as many unassigned records
+-- the same total at each key, and the same number of unassigned records
 abbrev pub HaveSameTotals : Totals → Totals → Type 0
 HaveSameTotals t u = ((key : Key) → total_at t.entries key ≡ total_at u.entries key) × (t.unassigned ≡ u.unassigned)
 

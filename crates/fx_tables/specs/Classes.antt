@@ -28,7 +28,7 @@ to_count classes = filter (λ packet. not (exempts (entry_numbered classes packe
 abbrev pub path : List Class → Packet → List Crossing
 path classes packet = entries (entry_numbered (paths_of (entry_numbered classes packet.class)) packet.path)
 
--- a packet is of a class and has one of its paths
+-- a packet is in the region of a class and has one of its paths
 abbrev pub IsOf : Packet → Option Class → Type 0
 IsOf packet None = ⊥
 IsOf packet (Some class) = (holds class.region packet.fields ≡ true) × (entry_numbered class.paths packet.path ≢ None)

@@ -1,4 +1,4 @@
--- What the caches that meter a packet are to hold of it.
+-- What the caches that meter a packet must hold of it.
 use Rattle.std.specs.Prelude.{List, map, slice_get}
 use Rattle.fx_elements.specs.Axes.{Fields}
 use Rattle.fx_layout.specs.Keys.{key_of}
@@ -6,7 +6,7 @@ use Rattle.fx_tables.specs.declared.holding.Holding.{Holding}
 use Rattle.fx_tables.specs.declared.observation.Occurrence.{Occurrence}
 use Rattle.fx_tables.specs.Network.{Holder, layout_of}
 
--- the cache of an occurrence, with the packet's key there
+-- the cache of an occurrence, with the packet's key in that cache
 abbrev pub holding_of : List Holder → Fields → Occurrence → Holding
 holding_of holders fields o = record { holder = o.holder; key = key_of (layout_of (slice_get holders o.holder)) fields }
 

@@ -1,6 +1,6 @@
--- How much a network may have.
+-- The limits on the size of a network.
 use Rattle.std.specs.Prelude.{ℕ}
 
--- The most different layouts.
+-- The largest number of distinct layouts.
 abbrev pub layout_limit : ℕ
 layout_limit = 64

@@ -8,19 +8,19 @@ use Rattle.fx_tables.specs.declared.observation.Selection.{Selection}
 use Rattle.fx_tables.specs.declared.holder_name.HolderName.{HolderName}
 use Rattle.fx_tables.specs.declared.holder_name.HolderName.TheVariants.{Cache, Aggregation as AggregationOf}
 
--- ---- what a network is made of
+-- ---- the parts of a network
 
 -- an exporting process: the link of each of its destinations, if it has one
 pub record Exporter : Type 0 where
   pub parallel : Bool
   pub destinations : List (Option ℕ)
 
--- a cache or an aggregation: what holds records of one layout, and the places of the exporting processes that it names
+-- a cache or an aggregation: the layout of the records that it holds, and the indices of the exporting processes that it names
 pub record Holder : Type 0 where
   pub layout : Layout
   pub exporters : List ℕ
 
--- where an aggregation's records are held, and its match
+-- an aggregation: the holder of its records, and its match
 pub record AggregationEntry : Type 0 where
   pub holder : ℕ
   pub matches : List MatchEntry
@@ -30,14 +30,14 @@ pub record Process : Type 0 where
   pub exporters : List ℕ
   pub aggregations : List AggregationEntry
 
--- an observation point: the names of its interfaces, which way the packets go, and its selection processes
+-- an observation point: the names of its interfaces, the directions that it observes, and its selection processes
 pub record Point : Type 0 where
   pub interfaces : List (List ℕ)
   pub ingress : Bool
   pub egress : Bool
   pub selections : List Selection
 
--- a device: its points, and the places of its caches and of its collecting processes
+-- a device: its points, and the indices of its caches and of its collecting processes
 pub record DeviceEntry : Type 0 where
   pub points : List Point
   pub caches : List ℕ
@@ -54,7 +54,7 @@ pub record Net : Type 0 where
 
 -- ---- look-ups
 
--- the entries of a list that may not be there
+-- the entries of an optional list
 abbrev pub entries : {A : Type 0} → Option (List A) → List A
 entries None = []
 entries (Some xs) = xs
@@ -63,7 +63,7 @@ abbrev pub before : {A : Type 0} → Option A → List A → List A
 before None xs = xs
 before (Some x) xs = x ∷ xs
 
--- the entries at these places
+-- the entries at these indices
 abbrev pub at_places : {A : Type 0} → List A → List ℕ → List A
 at_places xs [] = []
 at_places xs (place ∷ places) = before (slice_get xs place) (at_places xs places)
@@ -85,11 +85,11 @@ takes_with holders key aggregation =
     refines key.layout (layout_of (slice_get holders aggregation.holder))
     && list_all (λ e. reads key.layout e.axis e.bits && bits_on key e.axis e.bits == e.value) aggregation.matches
 
--- an aggregation takes a key that its own key and its match can be read from, where the match holds
+-- an aggregation accepts a key if its own key and its match can be read from that key and the match holds
 abbrev pub takes : Net → Key → AggregationEntry → Bool
 takes net key aggregation = takes_with net.holders key aggregation
 
--- ---- where a holder that is named by numbers stands in the table
+-- ---- the index in the table of a holder that is named by numbers
 
 abbrev pub points_of : Option DeviceEntry → List Point
 points_of None = []
@@ -120,6 +120,6 @@ place_named devices processes (Cache device cache) = entry_numbered (caches_of (
 place_named devices processes (AggregationOf device process aggregation) =
     held_at (entry_numbered (aggregations_of (process_at processes (entry_numbered (processes_of (entry_numbered devices device)) process))) aggregation)
 
--- the place of the holder that the name means, if there is one
+-- the index of the holder with this name, if there is one
 abbrev pub holder_place : Net → HolderName → Option ℕ
 holder_place net name = place_named net.devices net.processes name

@@ -23,7 +23,7 @@ met_by point process [] fields = []
 met_by point process (s ∷ ss) fields =
     (if selects s.region fields then occurrence point process s.holder else []) ++ met_by point (process + 1) ss fields
 
--- the point is at the interface, and its direction agrees
+-- the point observes the interface in the direction of the crossing
 abbrev pub watches : Point → Crossing → Bool
 watches point crossing =
     list_any (λ name. bytes_eq name crossing.interface) point.interfaces && (if crossing.inwards then point.ingress else point.egress)

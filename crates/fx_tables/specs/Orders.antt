@@ -2,7 +2,7 @@
 use Rattle.std.specs.Prelude.{ℕ, ◌<◌, List, [], ◌∷◌, length, Contains}
 use Rattle.fx_tables.specs.Network.{Net}
 
--- behind those that have come, each process comes behind all of higher rank
+-- after the processes that have come, each process comes after all those of higher rank
 abbrev pub Descends : Net → (ℕ → ℕ) → List ℕ → List ℕ → Type 0
 Descends net rank done [] = Unit {0}
 Descends net rank done (process ∷ processes) =

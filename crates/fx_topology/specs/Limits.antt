@@ -1,4 +1,4 @@
--- How much a network document may have.
+-- The limits of a network document.
 use Rattle.std.specs.Prelude.{ℕ}
 
 -- The most devices.

@@ -30,7 +30,7 @@ abbrev pub device_named : List NetworkDevice → List ℕ → Option Device
 device_named [] name = None
 device_named (x ∷ xs) name = if bytes_eq x.name name then Some x.config else device_named xs name
 
--- an exporting process has this name, and a destination of that one
+-- an exporting process has this name and a destination of that name
 abbrev pub sends_to : List ℕ → List ℕ → ExportingProcess → Bool
 sends_to process destination exporting = bytes_eq exporting.name process && is_among (map (λ x. x.name) exporting.destinations) destination
 
@@ -42,7 +42,7 @@ abbrev pub has_collecting_process : List ℕ → Option Device → Bool
 has_collecting_process process None = false
 has_collecting_process process (Some device) = is_among (map (λ x. x.name) device.collecting_processes) process
 
--- both ends of a link are there
+-- both ends of a link exist
 abbrev pub has_ends : List NetworkDevice → NamedLink → Bool
 has_ends devices link =
     has_destination link.exporting_process link.destination (device_named devices link.device)
@@ -58,7 +58,7 @@ starts_there earlier link = list_any (same_start link) earlier
 
 -- ---- faults
 
--- a link behind others: its members, its ends (201), a second link of one destination (202)
+-- a link after others: its members, its ends (201), a second link of one destination (202)
 abbrev pub link_rows : List NetworkDevice → List NamedLink → List Row
 link_rows devices earlier =
     required_row (codes "device") name_faults
@@ -77,12 +77,12 @@ name_rows = take 5 (link_rows [] [])
 abbrev pub link_faults : List NetworkDevice → List NamedLink → List ℕ → Data → List FoundFault
 link_faults devices earlier = object_faults (link_rows devices earlier)
 
--- the faults of the links from the i-th on, behind these
+-- the faults of the links from the i-th on, after these earlier ones
 abbrev pub links_faults : List NetworkDevice → List NamedLink → List ℕ → ℕ → List Data → List FoundFault
 links_faults devices earlier up i [] = []
 links_faults devices earlier up i (d ∷ ds) = link_faults devices earlier (nth up i) d ++ links_faults devices (earlier ++ link_of d ∷ []) up (i + 1) ds
 
--- the list of links, which may be empty but must be there
+-- the list of links, which may be empty but is required
 abbrev pub links_row : List NetworkDevice → Row
 links_row devices = required_row (codes "links") (list_faults 0 link_limit (λ up ds. links_faults devices [] up 0 ds))
 

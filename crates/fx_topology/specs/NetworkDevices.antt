@@ -22,6 +22,6 @@ network_device_of d = record {
   config = device_of (member_of (codes "config") d);
 }
 
--- how many collecting processes they have
+-- the number of collecting processes of these devices
 abbrev pub process_count : List NetworkDevice → ℕ
 process_count devices = sum_by (λ x. length x.config.collecting_processes) devices

@@ -1,4 +1,4 @@
--- Network documents: devices, the links between them, and the report that is asked for.
+-- Network documents: devices, the links between them, and the requested report.
 use Rattle.std.specs.Prelude.{ℕ, List, [], ◌∷◌, codes, map, nat_lt, Option}
 use Rattle.std.specs.Option.{option_map}
 use Rattle.serde_json.specs.Data.{Data}
@@ -19,7 +19,7 @@ use Rattle.fx_topology.specs.Reports.{report_faults, report_of}
 abbrev pub devices_of : Data → List NetworkDevice
 devices_of d = map network_device_of (items_of (member_of (codes "devices") d))
 
--- links and the report name things of the devices
+-- links and the report refer to the devices by name
 abbrev pub network_rows : List NetworkDevice → List Row
 network_rows devices =
     required_entries device_limit (codes "devices") network_device_faults (λ d. (network_device_of d).name)
@@ -42,6 +42,6 @@ network_of d = record {
   report = report_of (member_of (codes "report") d);
 }
 
--- the configuration of the device of this number, from 1
+-- the configuration of the device of this number, counted from 1
 abbrev pub device_numbered : NetworkDocument → ℕ → Option Device
 device_numbered network number = option_map (λ device. device.config) (entry_numbered network.devices number)

@@ -1,4 +1,4 @@
--- The report: the collecting process whose totals are asked for, and their key.
+-- The report: the collecting process whose totals are requested, and their key.
 use Rattle.std.specs.Prelude.{ℕ, List, [], ◌∷◌, Bool, not, codes, map, Option, Some, is_some, option_and_then, take}
 use Rattle.serde_json.specs.Data.{Data}
 use Rattle.fx_layout.specs.Keys.{Layout}
@@ -17,7 +17,7 @@ use Rattle.fx_base.specs.Refusals.{report_key, unknown_report_process}
 
 -- ---- its key
 
--- a layout with fields more; none where one stands for nothing, or for an axis that stands there already
+-- a layout with further fields; none if a field has no meaning, or if its axis is in the layout already
 abbrev pub with_fields : Layout → List KeyField → Option Layout
 with_fields layout [] = Some layout
 with_fields layout (field ∷ fields) = option_and_then (λ more. with_fields more fields) (with_field layout field)
@@ -34,7 +34,7 @@ report_of d = record {
   key = map key_field_of (items_of (member_of (codes "key") d));
 }
 
--- the collecting process that it names is there
+-- the collecting process that the report names exists
 abbrev pub has_place : List NetworkDevice → Report → Bool
 has_place devices report = has_collecting_process report.collecting_process (device_named devices report.device)
 
@@ -47,7 +47,7 @@ report_rows devices =
     ∷ then_check (λ up d. fault_if (not (is_some (key_layout (report_of d).key))) report_key up)
     ∷ []
 
--- its members
+-- the members of a report
 abbrev pub member_rows : List Row
 member_rows = take 3 (report_rows [])
 

@@ -18,7 +18,7 @@ use Rattle.fx_base.specs.Refusals.{traffic_value}
 abbrev pub paths_faults : List (List ℕ) → List ℕ → Data → List FoundFault
 paths_faults devices = list_faults 1 path_limit (λ up ds. items_faults (path_faults devices) up 0 ds)
 
--- an empty type: being there it says that the class is exempt
+-- an empty type: its presence says that the class is exempt
 abbrev pub exempt_faults : List ℕ → Data → List FoundFault
 exempt_faults up d = fault_if (not (is_empty_type d)) traffic_value up
 
@@ -43,7 +43,7 @@ class_of devices d = record {
   exempt = is_some (get (codes "exempt") d);
 }
 
--- ---- the document, of which crates above speak by these two words
+-- ---- the document; crates above use only these two functions
 
 abbrev pub list_of_classes_faults : List (List ℕ) → List ℕ → Data → List FoundFault
 list_of_classes_faults devices = list_faults 0 class_limit (λ up ds. entries_faults (class_faults devices) class_name [] up 0 ds)

@@ -14,11 +14,11 @@ use Rattle.fx_base.specs.Refusals.{unknown_device}
 
 -- ---- a crossing's members
 
--- the number, from 1, of the first device that has the name
+-- the number, from 1, of the first device with this name
 abbrev pub number_in : List (List ℕ) → List ℕ → Option ℕ
 number_in devices name = option_map (λ place. suc place) (place_in devices name)
 
--- a name that one of the devices has
+-- a value that is the name of one of the devices
 abbrev pub device_faults : List (List ℕ) → List ℕ → Data → List FoundFault
 device_faults devices up d = name_faults up d ++ fault_if (not (is_some (number_in devices (text_of d)))) unknown_device up
 

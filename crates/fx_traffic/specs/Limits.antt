@@ -1,4 +1,4 @@
--- How much a traffic declaration may have.
+-- The limits on a traffic declaration.
 use Rattle.std.specs.Prelude.{ℕ}
 
 -- The most classes.

@@ -28,13 +28,13 @@ axis_name Version = codes "ipVersion"
 axis_name Source6 = codes "sourceIPv6Address"
 axis_name Destination6 = codes "destinationIPv6Address"
 
--- the values from one to another
+-- the values from one end to the other
 abbrev pub span : Option ℕ → Option ℕ → Option Range
 span None high = None
 span (Some low) None = None
 span (Some low) (Some high) = if nat_le low high then Some (record { low = low; high = high; bits = 0 }) else None
 
--- two values with a hyphen between them stand for all from the first to the second; else a text is a single value
+-- two values with a hyphen between them denote all values from the first to the second; any other text is a single value
 -- or a prefix of addresses
 abbrev pub values_by : Axis → List ℕ → Option (List ℕ × List ℕ) → Option Range
 values_by axis text None = option_or (values_of (OnAxis axis) text) (values_of (Prefix axis) text)
@@ -53,12 +53,12 @@ all_on axis = record { low = 0; high = slice_index tops (axis_index axis); bits 
 abbrev pub values_in : Axis → Data → Range
 values_in axis d = unwrap_or (values_on axis (text_of d)) (all_on axis)
 
--- an axis that isn't named has all its values
+-- an axis that the document doesn't name has all its values
 abbrev pub values_given : Axis → Option Data → Range
 values_given axis None = all_on axis
 values_given axis (Some d) = values_in axis d
 
--- a low that is at most its high, and no value past the greatest
+-- the low value is at most the high value, and the high value is at most the greatest
 abbrev pub IsOn : Axis → Range → Type 0
 IsOn axis values = (values.low ≤ values.high) × (values.high ≤ slice_index tops (axis_index axis))
 

@@ -1,4 +1,4 @@
--- Texts in a declaration of traffic, where every text that isn't allowed is the same fault.
+-- Texts in a traffic declaration, where every text that isn't allowed is the same fault.
 use Rattle.std.specs.Prelude.{ℕ, List, Bool}
 use Rattle.serde_json.specs.Data.{Data}
 use Rattle.fx_base.specs.Name.{is_name}

@@ -1,15 +1,15 @@
--- Names that stand for things that are known by theirs.
+-- Names that refer to known entries.
 use Rattle.std.specs.Prelude.{ℕ, List, [], Option, Some, None, not, IsSome}
 use Rattle.fx_walk.specs.Pointer.{below}
 use Rattle.fx_walk.specs.Walk.{FoundFault, fault_if}
 use Rattle.fx_walk.specs.Lists.{is_among, items_faults, place_in}
 use Rattle.fx_base.specs.Refusals.{unknown_name}
 
--- a name stands for one of those that have these names
+-- a name is one of the known names
 abbrev pub IsKnown : List (List ℕ) → List ℕ → Type 0
 IsKnown known name = IsSome (place_in known name)
 
--- a name that is not among those that are known
+-- the fault of a name that isn't among the known names
 abbrev pub unknown : List (List ℕ) → List ℕ → List ℕ → List FoundFault
 unknown known up name = fault_if (not (is_among known name)) unknown_name up
 

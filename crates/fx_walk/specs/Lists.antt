@@ -30,7 +30,7 @@ items_of d = unwrap_or (items_in d) []
 
 -- ---- faults
 
--- too many items, too few, or those of the items; the first two have these numbers
+-- too many items, too few, or the faults of the items; the first two have these numbers
 abbrev pub by_length : ℕ → ℕ → ℕ → ℕ → List ℕ → ℕ → List FoundFault → List FoundFault
 by_length few many least most up n rest = if nat_lt most n then (many, up) ∷ [] else (if nat_lt n least then (few, up) ∷ [] else rest)
 
@@ -44,11 +44,11 @@ abbrev pub faults_of_list : ℕ → ℕ → (List ℕ → List Data → List Fou
 faults_of_list least most faults up name None = fault_if (nat_lt 0 least) missing_member up
 faults_of_list least most faults up name (Some d) = list_faults least most faults (below up name) d
 
--- A member that is a list of `least` to `most` items. Where it may be empty it may be left out, which is the same.
+-- A member that is a list of `least` to `most` items. If it may be empty, it may be left out, with the same meaning.
 abbrev pub list_row : ℕ → ℕ → List ℕ → (List ℕ → List Data → List FoundFault) → Row
 list_row least most name faults = record { names = name ∷ []; faults = λ up d. faults_of_list least most faults up name (get name d) }
 
--- the faults of the items from the i-th on
+-- the faults of the items from index i on
 abbrev pub items_faults : {X : Type 0} → (List ℕ → X → List FoundFault) → List ℕ → ℕ → List X → List FoundFault
 items_faults faults up i [] = []
 items_faults faults up i (x ∷ xs) = faults (nth up i) x ++ items_faults faults up (i + 1) xs
@@ -56,9 +56,9 @@ items_faults faults up i (x ∷ xs) = faults (nth up i) x ++ items_faults faults
 abbrev pub items : ℕ → ℕ → List ℕ → (List ℕ → Data → List FoundFault) → Row
 items least most name faults = list_row least most name (λ up ds. items_faults faults up 0 ds)
 
--- ---- lists whose entries have names that differ
+-- ---- lists whose entries have distinct names
 
--- the faults of the entries from the i-th on, behind entries with these names
+-- the faults of the entries from index i on, after entries with these names
 abbrev pub entries_faults : (List (List ℕ) → List ℕ → Data → List FoundFault) → (Data → List ℕ) → List (List ℕ) → List ℕ → ℕ → List Data → List FoundFault
 entries_faults faults name earlier up i [] = []
 entries_faults faults name earlier up i (d ∷ ds) = faults earlier (nth up i) d ++ entries_faults faults name (earlier ++ name d ∷ []) up (i + 1) ds
@@ -69,22 +69,22 @@ entries least most name faults name_in = list_row least most name (λ up ds. ent
 abbrev pub is_among : List (List ℕ) → List ℕ → Bool
 is_among names name = list_any (λ n. bytes_eq n name) names
 
--- the place of a name among others, from 0
+-- the index of a name among others
 abbrev pub place_in : List (List ℕ) → List ℕ → Option ℕ
 place_in names name = position (λ n. bytes_eq n name) names
 
--- the map has each name's place, and no other text
+-- the map has the index of each name, and no other text
 abbrev pub ArePlacesOf : {Y : Type 0} → BTreeMap (String Y) ℕ → List (List ℕ) → Type 0
 ArePlacesOf places names = (q : List ℕ) → get_by_text places q ≡ place_in names q
 
--- a name that differs from earlier ones; these numbers stand for a text that is no name, and for one of those
+-- a name that differs from earlier ones; the numbers are for a text that isn't a name, and for a name that occurs twice
 abbrev pub name_once_by : ℕ → ℕ → List (List ℕ) → List ℕ → Data → List FoundFault
 name_once_by wrong twice earlier up d = text_that wrong is_name up d ++ fault_if (is_among earlier (text_of d)) twice up
 
 abbrev pub name_once : List (List ℕ) → List ℕ → Data → List FoundFault
 name_once = name_once_by bad_value name_twice
 
--- What a look at a list's kind and length comes to.
+-- The result of checking the kind and length of a list.
 abbrev pub IsListBy : ℕ → ℕ → ℕ → ℕ → List ℕ → Data → Result (Bor (List Value)) Fault → Type 0
 IsListBy few many least most up d (Ok values) =
     ((faults : List ℕ → List Data → List FoundFault) → list_faults_by few many least most faults up d ≡ faults up (map view values.now)) × (items_of d ≡ map view values.now)
@@ -93,7 +93,7 @@ IsListBy few many least most up d (Err e) = (faults : List ℕ → List Data →
 abbrev pub IsListOf : ℕ → ℕ → List ℕ → Data → Result (Bor (List Value)) Fault → Type 0
 IsListOf = IsListBy missing_member too_many_entries
 
--- What a look at the kind and length of an object's member comes to, where one that isn't there is an empty list.
+-- The result of checking the kind and length of an object's member, where a missing member counts as an empty list.
 abbrev pub IsMemberList : ℕ → ℕ → List ℕ → List ℕ → Data → Result (Bor (List Value)) Fault → Type 0
 IsMemberList least most up name d (Ok values) =
     ((faults : List ℕ → List Data → List FoundFault) → faults (below up name) [] ≡ [] → faults_of_list least most faults up name (get name d) ≡ faults (below up name) (map view values.now))

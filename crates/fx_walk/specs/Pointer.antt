@@ -14,7 +14,7 @@ escaped_char c = if c == 126 then 126 ∷ 48 ∷ [] else (if c == 47 then 126 �
 abbrev pub escaped_name : List ℕ → List ℕ
 escaped_name name = flat_map escaped_char (chars name)
 
--- the pointer to a member, and to an item
+-- the pointer to a member of a value, and to an item of a list
 abbrev pub below : List ℕ → List ℕ → List ℕ
 below up name = up ++ 47 ∷ escaped_name name
 

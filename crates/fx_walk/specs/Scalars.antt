@@ -1,4 +1,4 @@
--- Values without parts: their faults, and what they mean.
+-- Values without parts: their faults, and their meanings.
 use Rattle.std.specs.Prelude.{ℕ, List, [], ◌∷◌, ◌||◌, nat_lt, Bool, false, not, Option, Some, None, is_some}
 use Rattle.std.specs.Option.{unwrap_or}
 use Rattle.serde_json.specs.Data.{Data, boolean, array, Items, no_items, item, Num}
@@ -7,7 +7,7 @@ use Rattle.fx_base.specs.Name.{is_name}
 use Rattle.fx_base.specs.Refusals.{bad_value, wrong_kind}
 use Rattle.fx_walk.specs.Walk.{FoundFault, of_kind, fault_if}
 
--- ---- texts that pass a test; this number stands for one that doesn't
+-- ---- texts that must pass a test; the number is for a text that doesn't
 
 abbrev pub text_that : ℕ → (List ℕ → Bool) → List ℕ → Data → List FoundFault
 text_that wrong test up d = of_kind (as_str d) (λ text. fault_if (not (test text)) wrong up) up
@@ -16,7 +16,7 @@ text_that wrong test up d = of_kind (as_str d) (λ text. fault_if (not (test tex
 abbrev pub name_faults : List ℕ → Data → List FoundFault
 name_faults = text_that bad_value is_name
 
--- the text of a value that has one
+-- the text of a value, or the empty text if it has none
 abbrev pub text_of : Data → List ℕ
 text_of d = unwrap_or (as_str d) []
 
@@ -25,12 +25,12 @@ text_of d = unwrap_or (as_str d) []
 abbrev pub text_faults : List ℕ → Data → List FoundFault
 text_faults up d = of_kind (as_str d) (λ text. []) up
 
--- ---- texts of which few are allowed
+-- ---- texts from a fixed set
 
 abbrev pub word_faults : {X : Type 0} → (List ℕ → Option X) → List ℕ → Data → List FoundFault
 word_faults named = text_that bad_value (λ text. is_some (named text))
 
--- what a word stands for, and a member that may be there; the second is meant where there is no word
+-- the meaning of a word, and of an optional member; without a valid word the default is meant
 abbrev pub meaning_of_word : {X : Type 0} → (List ℕ → Option X) → X → Data → X
 meaning_of_word named unsaid d = unwrap_or (named (text_of d)) unsaid
 
@@ -54,14 +54,14 @@ number_in (Some n) = unwrap_or (as_u64 n) 0
 abbrev pub number_of : Data → ℕ
 number_of d = number_in (as_number d)
 
--- ---- empty types (RFC 7951, section 6.9): they say by being there that something holds
+-- ---- empty types (RFC 7951, section 6.9): their presence says that something holds
 
 abbrev pub is_one_null : Items → Bool
 is_one_null no_items = false
 is_one_null (item d no_items) = is_some (as_null d)
 is_one_null (item d (item e ds)) = false
 
--- `[null]`, or `true` as many writers have it
+-- `[null]`, or `true`, which many writers use
 abbrev pub is_empty_type : Data → Bool
 is_empty_type (boolean b) = b
 is_empty_type (array ds) = is_one_null ds

@@ -26,8 +26,8 @@ enterprise_number (Some n) = n
 unfoldable pub element_of : FieldSpecifier → Element
 element_of f = element_numbered f.element (enterprise_number f.enterprise)
 
--- whether the values of an element may have this length, where 65535 stands for one that each value tells: none is empty,
--- addresses, prefixes and their lengths are whole, and what else packets carry may be written in fewer octets (section 6.2)
+-- whether the values of an element may have this length; 65535 stands for variable length: no value is empty,
+-- addresses, prefixes and prefix lengths have full length, and other packet fields may be encoded in fewer octets (section 6.2)
 abbrev pub can_have : Element → ℕ → Bool
 can_have (OnAxis axis) n = if is_address axis then n == axis_width axis / 8 else nat_le 1 n && nat_le n (axis_width axis / 8)
 can_have (Prefix axis) n = n == axis_width axis / 8
@@ -41,7 +41,7 @@ abbrev pub checked_field : Option (FieldSpecifier × List ℕ) → Result (Field
 checked_field None = Err malformed.Template
 checked_field (Some p) = if stands p.0 then Ok p else Err malformed.Template
 
--- the field at the front of what follows, if it stands
+-- the field at the front of the octets, if its length is permitted
 abbrev pub field_at : List ℕ → Result (FieldSpecifier × List ℕ) Malformed
 field_at octets = checked_field (specifier_at octets)
 
@@ -49,7 +49,7 @@ abbrev pub before_fields : List FieldSpecifier → Result (List FieldSpecifier �
 before_fields firsts (Ok p) = Ok (firsts ++ p.0, p.1)
 before_fields firsts (Err why) = Err why
 
--- so many fields and the octets after them, or the refusal of the first that doesn't stand
+-- this number of fields and the octets after them, or the refusal of the first one whose length is not permitted
 unfoldable pub fields_in : ℕ → List ℕ → Result (List FieldSpecifier × List ℕ) Malformed
 fields_in zero octets = Ok ([], octets)
 fields_in (suc n) octets = elim (field_at octets) [ Ok f ↦ before_fields (f.0 ∷ []) (fields_in n f.1) | Err why ↦ Err why ]

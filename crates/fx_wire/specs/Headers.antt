@@ -7,14 +7,14 @@ use Rattle.fx_wire.specs.declared.header.Header.{Header}
 use Rattle.fx_wire.specs.declared.malformed.Malformed.{Malformed}
 use Rattle.fx_wire.specs.declared.malformed.Malformed.TheVariants as malformed
 
--- what the header at the front of a stream tells: that more octets are needed, how long the whole message that is there is,
+-- what the header at the front of a stream says: that more octets are needed, how long the complete message is,
 -- or why it is refused
 pub data Frame : Type 0 where
   more : Frame
   whole : ℕ → Frame
   refused : Malformed → Frame
 
--- by how many octets there are, the version and the length that the header gives
+-- the frame, from the number of octets present, the version and the length that the header gives
 abbrev pub frame_of : ℕ → ℕ → ℕ → Frame
 frame_of there version size =
     if nat_lt there 16 then more
@@ -23,7 +23,7 @@ frame_of there version size =
     else if nat_lt there size then more
     else whole size
 
--- Fewer than 16 octets need more, whatever they are; so does a header whose message isn't all there yet.
+-- Fewer than 16 octets need more, whatever they are; so does a header whose message isn't complete yet.
 abbrev pub frame_at : List ℕ → Frame
 frame_at octets = frame_of (length octets) (number_at w16 0 octets) (number_at w16 2 octets)
 

@@ -5,13 +5,13 @@ use Rattle.fx_wire.specs.Sets.{SetParts, sets_of}
 use Rattle.fx_wire.specs.declared.header.Header.{Header}
 use Rattle.fx_wire.specs.declared.malformed.Malformed.{Malformed}
 
--- a message: how many octets it has, its header and its sets
+-- a message: its number of octets, its header and its sets
 pub record Message : Type 0 where
   pub octets : ℕ
   pub header : Header
   pub sets : List SetParts
 
--- what stands at the front of a stream
+-- what is at the front of a stream
 pub data Front : Type 0 where
   needs_more : Front
   complete : Message → Front
@@ -26,6 +26,6 @@ front_by octets more = needs_more
 front_by octets (refused why) = refusal why
 front_by octets (whole n) = with_sets n (header_of octets) (sets_of (drop 16 (take n octets)))
 
--- The faults of the header go before those of the sets, and these come along the octets.
+-- The faults of the header take precedence over those of the sets, and these are found in the order of the octets.
 abbrev pub front : List ℕ → Front
 front octets = front_by octets (frame_at octets)

@@ -2,6 +2,6 @@
 use Rattle.std.specs.Prelude.{ℕ, List, take, drop}
 use Rattle.std.specs.Int.{Width, byte_len, from_be_bytes}
 
--- the number of this width that stands at i
+-- the number of this width at offset i
 abbrev pub number_at : Width → ℕ → List ℕ → ℕ
 number_at w i octets = from_be_bytes w (take (byte_len w) (drop i octets))

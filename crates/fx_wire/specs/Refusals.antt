@@ -1,4 +1,4 @@
--- The numbers of what octets are refused for.
+-- The refusal numbers of malformed octets.
 use Rattle.std.specs.Prelude.{ℕ}
 use Rattle.fx_wire.specs.declared.malformed.Malformed.{Malformed}
 use Rattle.fx_wire.specs.declared.malformed.Malformed.TheVariants as malformed

@@ -1,4 +1,4 @@
--- The sets of a message (RFC 7011, section 3.3): an id, the set's length with these four octets, and the records.
+-- The sets of a message (RFC 7011, section 3.3): an id, the length of the set including this header, and the records.
 use Rattle.std.specs.Prelude.{ℕ, zero, suc, ◌-◌, ◌&&◌, ◌||◌, Bool, not, ◌==◌, nat_lt, if◌then◌else◌, List, [], ◌∷◌, length, take, drop, Result, Ok, Err}
 use Rattle.std.specs.Int.{w16}
 use Rattle.fx_wire.specs.Numbers.{number_at}
@@ -11,15 +11,15 @@ pub record SetParts : Type 0 where
   pub id : ℕ
   pub content : List ℕ
 
--- what a lent set shows
+-- the id and the content of a borrowed set
 abbrev pub set_parts : Set → SetParts
 set_parts s = record { id = s.id; content = s.content.now }
 
--- template sets are 2, options template sets 3, data sets have the id of their template (section 3.3.2); the rest is reserved
+-- template sets have id 2, options template sets 3, data sets the id of their template (section 3.3.2); the others are reserved
 abbrev pub is_reserved : ℕ → Bool
 is_reserved id = nat_lt id 256 && (not (id == 2) && not (id == 3))
 
--- the set at the front and the octets after it, or what is refused
+-- the set at the front and the octets after it, or the refusal
 abbrev pub set_at : List ℕ → Result (SetParts × List ℕ) Malformed
 set_at octets =
     if nat_lt (length octets) 4 then Err malformed.SetLength
@@ -31,7 +31,7 @@ abbrev pub before_sets : SetParts → Result (List SetParts) Malformed → Resul
 before_sets first (Ok others) = Ok (first ∷ others)
 before_sets first (Err why) = Err why
 
--- The sets, one after another, or the first refusal. Each has an octet at least, so as many turns do as there are octets.
+-- The sets in order, or the first refusal. Each set has at least one octet, so the number of octets bounds the turns.
 unfoldable pub sets_in : ℕ → List ℕ → Result (List SetParts) Malformed
 sets_in turns [] = Ok []
 sets_in zero (b ∷ bs) = Err malformed.SetLength
@@ -40,7 +40,7 @@ sets_in (suc turns) (b ∷ bs) = elim (set_at (b ∷ bs)) [ Ok first ↦ before_
 unfoldable pub sets_of : List ℕ → Result (List SetParts) Malformed
 sets_of octets = sets_in (length octets) octets
 
--- the sets, none where one is refused
+-- the sets, none if one is refused
 abbrev pub sets_or_none : Result (List SetParts) Malformed → List SetParts
 sets_or_none (Ok sets) = sets
 sets_or_none (Err why) = []

@@ -1,4 +1,4 @@
--- What the reader of template records answers.
+-- The answers of the reader of template records.
 use Rattle.std.specs.Prelude.{ℕ, List, Result, Ok, Err}
 use Rattle.std.specs.Borrow.{Bor}
 use Rattle.fx_wire.specs.declared.template.TemplateHeading.{TemplateHeading}

@@ -9,16 +9,16 @@ use Rattle.fx_wire.specs.declared.template.TemplateHeading.TheVariants.{Withdraw
 use Rattle.fx_wire.specs.declared.malformed.Malformed.{Malformed}
 use Rattle.fx_wire.specs.declared.malformed.Malformed.TheVariants as malformed
 
--- the id of the sets with templates of a kind
+-- the id of the sets that hold templates of a kind
 abbrev pub set_id : TemplateKind → ℕ
 set_id kinds.Plain = 2
 set_id kinds.Options = 3
 
--- a field count of 0 withdraws the template of an id, or all of the set's kind where the id is the set's own
+-- a field count of 0 withdraws the template of an id, or all templates of the set's kind if the id is that of the set
 abbrev pub withdrawal : TemplateKind → ℕ → Result TemplateHeading Malformed
 withdrawal kind id = if nat_le 256 id then Ok (Withdrawal id) else if id == set_id kind then Ok WithdrawalOfAll else Err malformed.Template
 
--- an options template tells how many of its fields are scope fields: at least one
+-- an options template gives the number of its scope fields: at least one
 abbrev pub declaration : TemplateKind → ℕ → ℕ → List ℕ → Result (TemplateHeading × List ℕ) Malformed
 declaration kinds.Plain id count octets = Ok (Declaration (record { id = id; scope = 0; count = count }), drop 4 octets)
 declaration kinds.Options id count octets =
@@ -30,7 +30,7 @@ abbrev pub followed_by : List ℕ → Result TemplateHeading Malformed → Resul
 followed_by octets (Ok heading) = Ok (heading, octets)
 followed_by octets (Err why) = Err why
 
--- what a template record of at least four octets begins with, and the octets after that
+-- the heading of a template record of at least four octets, and the octets after the heading
 abbrev pub heading_at : TemplateKind → List ℕ → Result (TemplateHeading × List ℕ) Malformed
 heading_at kind octets =
     if number_at w16 2 octets == 0 then followed_by (drop 4 octets) (withdrawal kind (number_at w16 0 octets))

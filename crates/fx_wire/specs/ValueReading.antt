@@ -1,4 +1,4 @@
--- What the readers of values answer.
+-- The answers of the readers of values.
 use Rattle.std.specs.Prelude.{ℕ, List, Option, Some, None}
 use Rattle.std.specs.Borrow.{Bor}
 

@@ -3,12 +3,12 @@ use Rattle.std.specs.Prelude.{ℕ, List, [], ◌∷◌, ◌++◌, codes, decimal
 use Rattle.std.specs.List.{flat_map}
 use Rattle.fx_words.specs.Words.{Words}
 
--- a text of its own line behind a word, or nothing where there is no text
+-- a text on its own line after a label, or nothing if there is no text
 abbrev pub line_behind : List ℕ → List ℕ → List ℕ
 line_behind word [] = []
 line_behind word (c ∷ text) = word ++ ((c ∷ text) ++ codes "\n")
 
--- what is wrong, the usual causes, what to do, and where to read on
+-- what is wrong, the usual causes, what to do, and where to read more
 abbrev pub reason_text : Words → List ℕ
 reason_text row =
     line_behind (codes "wrong: ") row.wrong
@@ -29,10 +29,10 @@ abbrev pub explanation_of : Option Words → List ℕ
 explanation_of None = []
 explanation_of (Some row) = explanation_text row
 
--- a row in a line
+-- a row as a line
 abbrev pub list_line : Words → List ℕ
 list_line row = decimal row.number ++ (codes "  " ++ (row.wrong ++ codes "\n"))
 
--- rows, each in a line
+-- rows, one per line
 abbrev pub list_text : List Words → List ℕ
 list_text rows = flat_map list_line rows

@@ -2,7 +2,7 @@
 use Rattle.std.specs.Prelude.{ℕ, List}
 use Rattle.fx_words.specs.declared.refusal.Refusal.{Refusal}
 
--- its number, what is wrong, what it usually comes of, what to do, and where to read on
+-- its number, what is wrong, its usual cause, what to do, and where to read more
 pub record Words : Type 0 where
   pub number : ℕ
   pub wrong : List ℕ

@@ -1,3 +1,4 @@
+use Rattle.std.proofs.Common.{arith, rules}
 use Rattle.std.proofs.Common.{inl, inr}
 use Rattle.std.proofs.lemmas.Result.{err_from_is_err_and}
 use Rattle.fx_audit.proofs.answer.answer_refusal.Goals as goal
@@ -10,3 +11,6 @@ returns-in_err-put_no g c =
 
 pub returns-clause-quiet : goal.returns-clause-quiet
 returns-clause-quiet g c = (c.in_ok-put_no.ensures.1.0, tt)
+
+pub returns-clause-ok : goal.returns-clause-ok
+returns-clause-ok g c = first_of (grind arith, search rules)

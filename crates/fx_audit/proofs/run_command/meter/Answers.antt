@@ -1,3 +1,4 @@
+use Rattle.std.proofs.Common.{arith, rules}
 use Rattle.fx_audit.specs.Metering.{IsStateOfSource}
 use Rattle.fx_audit.proofs.Documents.{exit_with}
 use Rattle.fx_audit.proofs.Metering.{header_faultless, refused_behind}
@@ -12,3 +13,6 @@ returns-in_err-totals-clause-untouched g c = header_faultless (g.C.Source.left c
 
 pub returns-clause-untouched : goal.returns-clause-untouched
 returns-clause-untouched g c = header_faultless (g.C.Source.left c.args.capture) _ c.in_ok-capture.capture _ c.in_ok-capture.ensures.ok
+
+pub returns-clause-ok : goal.returns-clause-ok
+returns-clause-ok g c = first_of (grind arith, search rules)

@@ -1,3 +1,4 @@
+use Rattle.std.proofs.Common.{arith, rules}
 use Rattle.std.proofs.lemmas.Result.{err_from_is_err_and}
 use Rattle.fx_base.proofs.Writing.{writes_nothing, writes_then, going_then}
 use Rattle.fx_base.proofs.put.put_place.Goals as goal
@@ -34,3 +35,6 @@ returns-in_ok-put_text-in-Octet g c =
       going = going_then c.put_number-in-Octet.result (failed c.args.sink.now) (failed c.put_text-in-Octet.new.sink) (failed c.put_number-in-Octet.new.sink) c.in_ok-put_text-in-Octet.ensures.going c.put_number-in-Octet.ensures.going;
       err = c.put_number-in-Octet.ensures.err;
     })
+
+pub returns-in-Text-clause-ok : goal.returns-in-Text-clause-ok
+returns-in-Text-clause-ok g c = first_of (grind arith, search rules)

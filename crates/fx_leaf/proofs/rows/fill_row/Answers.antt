@@ -1,3 +1,4 @@
+use Rattle.std.proofs.Common.{arith, rules}
 use Rattle.std.proofs.Common.{◌≡◌, ◌∙◌, ◌+◌, ◌≤◌, sym, subst, List, length}
 use Rattle.std.proofs.lemmas.Nat.Bits.{shr_and_one}
 use Rattle.std.specs.Int.{bit_at}
@@ -28,3 +29,6 @@ returns-clause-filled c =
     let k = c.loop-number.number in
     let past : length t.numbering.layouts ≤ k = subst (λ (ls : List Layout). length ls ≤ k) c.layouts-every.ensures c.loop-number-test.false in
     row_done t c.args.region.now c.args.layouts c.args.process c.args.rows.now c.loop-number.rows k past c.loop-number.invariant
+
+pub loop-number-init : goal.loop-number-init
+loop-number-init c = first_of (grind arith, search rules)

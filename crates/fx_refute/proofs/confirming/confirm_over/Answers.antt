@@ -1,3 +1,4 @@
+use Rattle.std.proofs.Common.{arith, rules}
 use Rattle.std.proofs.Common.{◌≡◌, ◌⊎◌, inl, inr, List, [], ◌∷◌, sym, ap, ◌∙◌, subst}
 use Rattle.fx_base.specs.declared.fault.Fault.{Fault}
 use Rattle.fx_base.specs.declared.fault.Place.TheVariants as places
@@ -32,3 +33,6 @@ confirm_run-requires g c =
       opening = c.in_ok-state.ensures.ok.0 ∙ ap (λ (p : Packet). record { net = net; classes = classes; packets = p ∷ []; state = opening net classes (p ∷ []) }) same;
       of_class = subst (λ (p : Packet). IsOf p (entry_numbered classes p.class)) same c.in_ok-state.ensures.ok.1;
     }
+
+pub returns-clause-err : goal.returns-clause-err
+returns-clause-err g c = first_of (grind arith, search rules)

@@ -1,3 +1,4 @@
+use Rattle.std.proofs.Common.{arith}
 use Rattle.std.proofs.Common.{rules, ◌≡◌, ◌&&◌, false, codes, inr}
 use Rattle.std.specs.Str.{bytes_eq}
 use Rattle.std.proofs.lemmas.Result.{err_from_is_err_and}
@@ -24,3 +25,6 @@ returns-else-line-2-clause-err g c =
       | else-line-2-via-else-line-2 w ↦ search rules
     ] in
     inr (rw (c.at_line-else-line-2.ensures, c.line-line.ensures.number) (first_wrong c.args.lines.now new at not_one not_two))
+
+pub returns-then-is_line-2-clause-ok : goal.returns-then-is_line-2-clause-ok
+returns-then-is_line-2-clause-ok g c = first_of (grind arith, search rules)

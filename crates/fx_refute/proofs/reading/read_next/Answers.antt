@@ -1,3 +1,4 @@
+use Rattle.std.proofs.Common.{arith}
 use Rattle.std.proofs.Common.{rules, ◌≡◌, Err, inr}
 use Rattle.std.proofs.lemmas.Result.{err_from_is_err_and}
 use Rattle.fx_run_text.proofs.RunLines.{at_line_of}
@@ -23,3 +24,6 @@ returns-in-None-clause-err g c =
     let at = at_line_of c.args.lines.now new c.in_ok-advance.field-0 c.in_ok-advance.ensures c.if-not-branch.false in
     let wrong : line_said c.args.version (new.line, new.ended) ≡ Err 501 = search rules in
     inr (inr (rw (c.at_line-in-None.ensures, c.line-line.ensures.number) (says_nothing c.args.version c.args.lines.now new 501 at wrong)))
+
+pub returns-then-not-branch-clause-err : goal.returns-then-not-branch-clause-err
+returns-then-not-branch-clause-err g c = first_of (grind arith, search rules)

@@ -1,3 +1,4 @@
+use Rattle.std.proofs.Common.{arith, rules}
 use Rattle.serde_json.specs.View.{view}
 use Rattle.fx_walk.specs.Pointer.{pointer}
 use Rattle.fx_walk.proofs.Faults.{exit, refuses_more}
@@ -14,3 +15,6 @@ returns-then-not-branch-clause-reads c =
 pub returns-clause-reads : goal.returns-clause-reads
 returns-clause-reads c =
     read_once c.args.wrong c.args.twice c.args.earlier.now (pointer c.args.path.now) (view c.args.value.now) c.in_ok-name.name c.in_ok-add.field-0 c.in_ok-name.ensures.0 c.in_ok-name.ensures.1 c.in_ok-add.ensures.answer c.if-not-branch.false
+
+pub returns-then-not-branch-clause-same : goal.returns-then-not-branch-clause-same
+returns-then-not-branch-clause-same c = first_of (grind arith, search rules)

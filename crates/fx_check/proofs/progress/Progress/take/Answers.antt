@@ -1,3 +1,4 @@
+use Rattle.std.proofs.Common.{arith, rules}
 use Rattle.std.proofs.Common.{◌≡◌, ap, sym, subst, ◌∙◌, Err, OnOk}
 use Rattle.fx_check.specs.Judging.{judge_of}
 use Rattle.fx_check.specs.LineFaults.{number_of}
@@ -20,3 +21,6 @@ pub returns-clause-made : goal.returns-clause-made
 returns-clause-made c =
     let is = line_says c.args.line.now.bytes.now c.args.line.now.ended c.in-Ok.item c.if-not-line.false c.requires.short c.in-Ok.ensures.ok in
     subst (λ (r : LineReading). OnOk c.step.result (c.step.new.self.made ≡ made_after c.args.self.now.made r)) (sym is) c.step.ensures.made
+
+pub returns-then-not-line-clause-after : goal.returns-then-not-line-clause-after
+returns-then-not-line-clause-after c = first_of (grind arith, search rules)

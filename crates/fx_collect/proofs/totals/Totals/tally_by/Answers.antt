@@ -1,3 +1,4 @@
+use Rattle.std.proofs.Common.{arith, rules}
 use Rattle.std.proofs.Common.{◌≡◌, ℕ, List, ap, sym, ◌∙◌, subst}
 use Rattle.indexmap.proofs.MapLemmas.{OnOk-map}
 use Rattle.fx_layout.specs.Keys.{Layout, HasBits, IsLayout}
@@ -23,3 +24,6 @@ returns-then-same-clause-ok c =
     let with : List ℕ → Totals = λ vs. record t { entries = add_at t.entries (record { layout = t.layout; values = vs }) r.counts } in
     let new = c.add_counts_at.new.self in
     OnOk-map c.add_counts_at.result (new ≡ with c.own_values.result.now) (new ≡ with_record t r) (λ h. h ∙ ap with c.own_values.ensures.value ∙ own_record t r is bits same) c.add_counts_at.ensures.ok
+
+pub returns-then-not-project_values-clause-ok : goal.returns-then-not-project_values-clause-ok
+returns-then-not-project_values-clause-ok c = first_of (grind arith, search rules)

@@ -1,3 +1,4 @@
+use Rattle.std.proofs.Common.{rules}
 use Rattle.std.proofs.Common.{arith, subst, sym}
 use Rattle.std.proofs.lemmas.List.Sorted.{IsPermutation-trans, length_permutation}
 use Rattle.fx_leaf.specs.PathSelections.{IsApart, IsNarrowed, PathSelection, path_selections}
@@ -20,3 +21,6 @@ returns-clause-begun c = λ t path begun.
       marked = record { along = here.marked.along; closed = here.marked.closed; filled = here.marked.filled };
       selections = IsPermutation-trans (path_selections t.net 1 path) c.self.inside.selections.items c.narrow.new.self.items here.selections c.narrow.ensures.moved;
     }
+
+pub narrow-requires-clause-narrowed : goal.narrow-requires-clause-narrowed
+narrow-requires-clause-narrowed c = first_of (grind arith, search rules)

@@ -1,3 +1,4 @@
+use Rattle.std.proofs.Common.{arith, rules}
 use Rattle.std.proofs.Common.{◌≡◌, ◌≢◌, ℕ, List, take, Some, Result, ap, ◌∙◌, subst}
 use Rattle.std.specs.Prelude.{IfErr}
 use Rattle.fx_base.specs.declared.fault.Fault.{Fault}
@@ -16,3 +17,6 @@ returns-in-Err-clause-err c = λ none.
     λ k. c.feed.ensures.fed k ∙ ap (λ (st : SessionState). after_piece st (take c.args.count c.as_slice.result.now)) receiver ∙ ap (λ (l : List ℕ). after_piece c.args.self.now.receiver (take c.args.count l)) octets in
     let err : IfErr c.feed.result (λ e. e ≡ fault_at 900 places.None) = starves c.args.self.now.receiver c.feed.new.self c.args.count c.args.self.now.queue c.feed.result c.feed.ensures.answer read none in
     subst (λ (r : Result (Unit {0}) Fault). IfErr r (λ e. e ≡ fault_at 900 places.None)) c.in-Err.is err
+
+pub returns-clause-ok : goal.returns-clause-ok
+returns-clause-ok c = first_of (grind arith, search rules)

@@ -1,3 +1,4 @@
+use Rattle.std.proofs.Common.{rules}
 use Rattle.std.proofs.Common.{◌≡◌, ℕ, suc, ◌+◌, ◌-◌, ◌∙◌, ap, arith}
 use Rattle.fx_net.specs.Leaving.{after_leasts}
 use Rattle.fx_net.proofs.contents.Contents.empty.Goals as goal
@@ -10,3 +11,6 @@ loop-done-preserved c =
     let i = c.loop-done._done in
     let left : suc (n - (i + 1)) ≡ n - i = omega (arith, c.loop-done-test.true) in
     ap (after_leasts net place (n - (i + 1))) c.in_ok-expire_least.ensures.ok ∙ ap (λ (m : ℕ). after_leasts net place m c.loop-done.self) left ∙ c.loop-done.invariant
+
+pub loop-done-init : goal.loop-done-init
+loop-done-init c = first_of (grind arith, search rules)

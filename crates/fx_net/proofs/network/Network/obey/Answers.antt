@@ -1,3 +1,4 @@
+use Rattle.std.proofs.Common.{arith, rules}
 use Rattle.std.proofs.Common.{◌≡◌, ◌⊎◌, sym, subst}
 use Rattle.fx_base.specs.declared.fault.Fault.{Fault}
 use Rattle.fx_net.specs.Running.{FailsOutside, RefusesLine}
@@ -10,3 +11,9 @@ returns-in-Err-clause-err g c = λ _.
 pub returns-in-Err-clause-links : goal.returns-in-Err-clause-links
 returns-in-Err-clause-links g c =
     subst (λ (e : Fault). FailsOutside (g.L.Links.failed c.try_line.new.links) e ⊎ (c.try_line.new.links ≡ c.args.links.now)) (sym c.fault-in-Err.ensures) c.in-Err.ensures.links
+
+pub returns-in-Err-clause-stopped : goal.returns-in-Err-clause-stopped
+returns-in-Err-clause-stopped g c = first_of (grind arith, search rules)
+
+pub returns-in-Some-clause-untouched : goal.returns-in-Some-clause-untouched
+returns-in-Some-clause-untouched g c = first_of (grind arith, search rules)

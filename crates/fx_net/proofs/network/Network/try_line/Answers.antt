@@ -1,3 +1,4 @@
+use Rattle.std.proofs.Common.{arith, rules}
 use Rattle.std.proofs.Common.{◌≡◌, ◌⊎◌, inr, refl, sym, subst}
 use Rattle.fx_base.specs.declared.fault.Fault.{Fault}
 use Rattle.fx_net.specs.declared.stop.Stop.{Stop}
@@ -37,3 +38,9 @@ returns-clause-ok g c =
     c.in-Some.ensures
     (subst (λ (r : RunningNetwork). Acts c.in-Some.asked c.args.self.now r c.args.capture.now c.act.new.capture) (sym c.self.view_is) c.in_ok-act.ensures.ok)
     c.in_ok-finish.ensures.put c.in_ok-finish.ensures.ok
+
+pub returns-in_default-clause-err : goal.returns-in_default-clause-err
+returns-in_default-clause-err g c = first_of (grind arith, search rules)
+
+pub returns-in_default-clause-links : goal.returns-in_default-clause-links
+returns-in_default-clause-links g c = first_of (grind arith, search rules)

@@ -1,3 +1,4 @@
+use Rattle.std.proofs.Common.{arith, rules}
 use Rattle.std.proofs.Common.{◌≡◌, ◌∙◌, ap}
 use Rattle.fx_layout.specs.Keys as keys
 use Rattle.fx_session.specs.Parts as parts
@@ -14,3 +15,6 @@ is_layout c = elim c.if-ne.branch [
 
 pub returns : goal.returns
 returns c = c.key_of.ensures ∙ ap (λ l. keys.key_of l c.args.fields.now) (is_layout c)
+
+pub invariant_of-self : goal.invariant_of-self
+invariant_of-self c = first_of (grind arith, search rules)

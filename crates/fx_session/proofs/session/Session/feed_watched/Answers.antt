@@ -1,3 +1,4 @@
+use Rattle.std.proofs.Common.{arith, rules}
 use Rattle.std.proofs.Common.{◌++◌, ◌∙◌, ap, sym, take, List, [], ℕ, Option, Some, option_map}
 use Rattle.fx_session.specs.Messages.{Known, without_domains}
 use Rattle.fx_session.specs.StreamFaults.{number_of}
@@ -37,3 +38,6 @@ returns-in-Some-fault-clause-starves g c = λ _ starved.
           ∙ ap (λ (bs : List ℕ). stopped (without_domains stops.0) later bs (option_map number_of c.take_messages-at.result.1)) c.clear-in-Some-fault.ensures.items
           ∙ ap (λ (f : Option ℕ). stopped (without_domains stops.0) later [] f) starved,
     )
+
+pub returns-in-Some-clause-answer : goal.returns-in-Some-clause-answer
+returns-in-Some-clause-answer g c = first_of (grind arith, search rules)

@@ -1,3 +1,4 @@
+use Rattle.std.proofs.Common.{rules}
 use Rattle.std.proofs.Common.{◌≡◌, ◌∙◌, ◌++◌, [], List, length, sym, subst, ap, arith}
 use Rattle.std.specs.List.{AllByRecursion}
 use Rattle.fx_tables.specs.Network.{Net}
@@ -29,3 +30,6 @@ count_behind-requires-clause-few c =
     let ps = occurrence_pending rows t.net t.numbering os c.args.fate in
     let e : c.take_choices.new.self.pending.items ≡ ps = c.take_choices.ensures.pending ∙ c.in_ok-add_meetings.ensures.pending ∙ ap (λ (ys : List Pending). ys ++ ps) (c.begin.ensures.pending ∙ c.requires.nothing) in
     omega (arith, ap length e, few_pending rows t.net t.numbering ps, (meets_meet rows t.net t.numbering [] os c.args.fate c.requires.cheap).cost, c.requires.cheap)
+
+pub returns-clause-steps : goal.returns-clause-steps
+returns-clause-steps c = first_of (grind arith, search rules)

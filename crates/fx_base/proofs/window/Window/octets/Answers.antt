@@ -1,0 +1,5 @@
+use Rattle.std.proofs.Common.{arith, rules}
+use Rattle.fx_base.proofs.window.Window.octets.Goals as goal
+
+pub returns-clause-value : goal.returns-clause-value
+returns-clause-value g c = first_of (grind arith, search rules)

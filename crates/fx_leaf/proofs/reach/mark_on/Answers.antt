@@ -1,0 +1,5 @@
+use Rattle.std.proofs.Common.{arith, rules}
+use Rattle.fx_leaf.proofs.reach.mark_on.Goals as goal
+
+pub returns : goal.returns
+returns c = first_of (grind arith, search rules)

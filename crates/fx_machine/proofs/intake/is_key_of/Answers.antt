@@ -1,0 +1,5 @@
+use Rattle.std.proofs.Common.{arith, rules}
+use Rattle.fx_machine.proofs.intake.is_key_of.Goals as goal
+
+pub returns-then-same : goal.returns-then-same
+returns-then-same c = first_of (grind arith, search rules)

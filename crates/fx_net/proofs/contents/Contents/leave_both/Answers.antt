@@ -1,0 +1,5 @@
+use Rattle.std.proofs.Common.{arith, rules}
+use Rattle.fx_net.proofs.contents.Contents.leave_both.Goals as goal
+
+pub returns-clause-ok : goal.returns-clause-ok
+returns-clause-ok c = first_of (grind arith, search rules)

@@ -1,0 +1,5 @@
+use Rattle.std.proofs.Common.{arith, rules}
+use Rattle.fx_net.proofs.obeying.has_path.Goals as goal
+
+pub returns-in-Some : goal.returns-in-Some
+returns-in-Some c = first_of (grind arith, search rules)

@@ -1,0 +1,5 @@
+use Rattle.std.proofs.Common.{arith, rules}
+use Rattle.fx_session.proofs.places.value_at.Goals as goal
+
+pub returns-in_default : goal.returns-in_default
+returns-in_default c = first_of (grind arith, search rules)
