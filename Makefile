@@ -3,7 +3,7 @@
 
 SHELL := /bin/bash
 .DEFAULT_GOAL := help
-.PHONY: help kit replay once packages test proofs mutants shown check pending rows examples pictures torture clean \
+.PHONY: help kit replay once checker packages test proofs mutants shown check pending rows examples pictures torture clean \
 	install uninstall deb manual tools run-tools lab
 
 # Prints what the part took when it ends.
@@ -13,6 +13,7 @@ part = TIMEFORMAT='part $(1): %0R s, %0U and %0S s of processor time'; time
 help:
 	@echo 'make replay            a first answer: replays the stored run, with nothing proved yet (a minute and a half)'
 	@echo 'make once              proves and builds the program, ./once'
+	@echo 'make checker           proves and builds the checker of certificates by itself, ./once_check, over fewer crates'
 	@echo 'make install           installs the program, man page, completion, documents, examples; PREFIX=/usr/local DESTDIR='
 	@echo 'make uninstall         removes them'
 	@echo 'make deb               builds a Debian package of the same, once_VERSION_amd64.deb'
@@ -44,6 +45,13 @@ once: kit
 	@crates/once/out/program/once < crates/once/stdin | diff - crates/once/stdout
 	@ln -sf crates/once/out/program/once once
 	@echo 'once: proved and built as ./once'
+
+# The checker by itself: what whoever receives a certificate has to prove and build.
+checker: kit
+	@python3 packaging/prove_program.py once_check
+	@ln -sf crates/once_check/out/program/once_check once_check
+	@python3 tests/checker.py ./once_check
+	@echo 'once_check: proved and built as ./once_check'
 
 # Installs the Debian packages that tests need, where that is possible.
 packages:
@@ -134,7 +142,7 @@ torture: once
 	python3 tests/hostile_streams.py ./once
 
 clean:
-	rm -rf out crates/*/out once
+	rm -rf out crates/*/out once once_check
 
 # Where things go. Documents keep their places beside each other, as they name them. Debian's own packages have zsh's
 # completion elsewhere than programs that are installed by hand.

@@ -18,6 +18,8 @@ TOP = os.path.dirname(os.path.dirname(os.path.abspath(__file__)))
 HEAD = "# a line for each crate, lowest first: its name, and the crates that its own files name\n"
 # What is there without being named.
 GIVEN = {"std", "core", "crate", "self", "super", "denote"}
+# What a crate's line says after its name: the status of a program that is run without arguments.
+MARKS = {"once_check": " status=6"}
 # The groups, lowest first, with their crates; tests are the crates that no group has.
 GROUPS = {
     "values": "fx_base fx_elements fx_boxes fx_layout",
@@ -27,7 +29,7 @@ GROUPS = {
     "deciders": "fx_check fx_parts fx_refute fx_steps fx_search",
     "simulation": "fx_store fx_net fx_conform fx_sums",
     "explaining": "fx_words fx_explanation fx_explain_documents fx_explain_runs fx_explain_streams fx_drawings fx_json_answers",
-    "program": "fx_audit fx_command_line fx_cli once",
+    "program": "fx_checker fx_audit fx_command_line fx_cli once once_check",
     "tests": "fx_callers fx_tests_documents fx_tests_network fx_tests_program fx_tests_values",
 }
 
@@ -75,7 +77,7 @@ def in_order(uses):
 def line_of(crate, uses, order):
     """Returns the line of a crate. The digests of its proofs have it: the order of its words must not change."""
     own = sorted(uses[crate] & set(uses), key=lambda name: -order.index(name))
-    return " ".join([f"{crate}:", *own, *sorted(uses[crate] - set(uses))])
+    return " ".join([f"{crate}{MARKS.get(crate, '')}:", *own, *sorted(uses[crate] - set(uses))])
 
 
 def listed(uses, groups):
@@ -119,7 +121,7 @@ def wrong_rows(uses, groups, page):
     """Yields what is wrong with the table of tests in tests/README.md."""
     rows = rows_of(page)
     tests = groups["tests"].split()
-    for crate in sorted(set(uses) - {"once", *tests} - set(rows)):
+    for crate in sorted(set(uses) - {"once", "once_check", *tests} - set(rows)):
         yield f"tests/README.md: the table has no row of {crate}"
     for crate, files in rows.items():
         texts = [source(*it) for it in files]

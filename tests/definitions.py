@@ -24,7 +24,7 @@ COMMANDS = [
     ("The headline: clause `once` of `fx_check::check`", [("fx_check", "check", ["once"])]),
     ("What the documents mean: `network_of` and `traffic_of`, by which a yes of `once check` speaks of octets",
      [("fx_topology/Networks", "network_of"), ("fx_traffic/Classes", "traffic_of")]),
-    ("`fx_audit::check_bytes`", [("fx_audit", "check_bytes", [])]),
+    ("`fx_checker::check_bytes`", [("fx_checker", "check_bytes", [])]),
     ("`fx_audit::replay_bytes`", [("fx_audit", "replay_bytes", [])]),
     ("`fx_audit::collect_bytes`", [("fx_audit", "collect_bytes", [])]),
     ("`fx_audit::run_bytes`", [("fx_audit", "run_bytes", [])]),
@@ -35,6 +35,7 @@ COMMANDS = [
     ("`fx_audit::bundle_bytes`", [("fx_audit", "bundle_bytes", [])]),
     ("The law of whole runs: `fx_conform::runs_are_complete`", [("fx_conform", "runs_are_complete", [])]),
     ("The law of calls: `fx_conform::calls_are_rows`", [("fx_conform", "calls_are_rows", [])]),
+    ("`fx_checker::answer_arguments`, the program `once_check`", [("fx_checker", "answer_arguments", [])]),
     ("`answer`, a private function of `fx_cli`: from the arguments to the exit status", [("fx_cli", "answer", [])]),
 ]
 

@@ -5,6 +5,8 @@ from dataclasses import dataclass
 from typing import Tuple
 
 PROGRAM = "./once"
+# The checker by itself, as `rt ci` builds it.
+CHECKER = "crates/once_check/out/once_check"
 # What the tests of the tools need: programs that meter, collect and capture, and what once-report runs.
 IMPORTERS = ("mypy", "graphviz", "iproute2", "jq", "openvswitch-common", "openvswitch-switch", "pmacct", "python3-jinja2", "python3-jsonpatch", "python3-jsonschema", "python3-pytest", "python3-pytest-xdist", "softflowd", "tshark")
 
@@ -52,6 +54,7 @@ STEPS = [
     script("yang_module", needs=("libyang-tools",)),
     script("tools", PROGRAM),
     script("rows", PROGRAM),
+    script("checker", CHECKER, keeps=False),
     script("rows_explained", PROGRAM),
     script("json_rows", PROGRAM, needs=("python3-jsonschema",), module="jsonschema"),
     script("terminal", PROGRAM),

@@ -13,11 +13,11 @@ use Rattle.fx_search.specs.Growing.{IsGivenUp}
 use Rattle.fx_search.specs.declared.found.Found.{Found}
 use Rattle.fx_search.specs.declared.found.Found.TheVariants as found
 use Rattle.fx_traffic.specs.Targets.{targets_of}
-use Rattle.fx_audit.specs.declared.answer.Answer.{Answer}
-use Rattle.fx_audit.specs.declared.answer.Answer.TheVariants.{Unknown}
+use Rattle.fx_checker.specs.declared.answer.Answer.{Answer}
+use Rattle.fx_checker.specs.declared.answer.Answer.TheVariants.{Unknown}
 use Rattle.fx_audit.specs.Audits.{IsAuditedIn, IsFoundText, unknown_line}
-use Rattle.fx_audit.specs.Documents.{BothMayHaveLeft, IsRefusedByDocuments}
-use Rattle.fx_audit.specs.Outputs.{Prints}
+use Rattle.fx_checker.specs.Documents.{BothMayHaveLeft, IsRefusedByDocuments}
+use Rattle.fx_checker.specs.Outputs.{Prints}
 
 pub found_answered : (network : NetworkDocument) (classes : List Class) (limit : ℕ) (f : Found) (old new : Option (List ℕ)) (result : Result Answer Fault) → IsRight (net_of network) classes limit f → Settles (net_of network) classes f → IfOk result (λ a. Prints (IsFoundText f a) old new) → IfOk result (λ a. Prints (IsAuditedIn network classes limit a) old new)
 found_answered network classes limit f old new (Err e) right settles h = tt

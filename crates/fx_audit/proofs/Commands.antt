@@ -11,16 +11,16 @@ use Rattle.fx_tables.specs.Classes.{Class}
 use Rattle.fx_machine.specs.States.{State, told_state}
 use Rattle.fx_topology.specs.declared.network.NetworkDocument.{NetworkDocument}
 use Rattle.fx_plan.specs.Tables.{net_of}
-use Rattle.fx_audit.specs.declared.answer.Answer.{Answer}
-use Rattle.fx_audit.specs.declared.answer.Answer.TheVariants.{Yes}
+use Rattle.fx_checker.specs.declared.answer.Answer.{Answer}
+use Rattle.fx_checker.specs.declared.answer.Answer.TheVariants.{Yes}
 use Rattle.fx_audit.specs.declared.bundle.Command.{Command}
 use Rattle.fx_audit.specs.declared.bundle.Command.TheVariants.{Replay}
 use Rattle.fx_audit.specs.Bundle.{IsBundle}
-use Rattle.fx_audit.specs.Documents.{BothMayHaveLeft, IsRefusedByDocuments, ReadFails}
+use Rattle.fx_checker.specs.Documents.{BothMayHaveLeft, IsRefusedByDocuments, ReadFails}
 use Rattle.fx_audit.specs.Commands.{IsDone, IsRefusedBundle, IsRefusedBy, IsRefusedRun, IsRefusedThere, IsReplayed, IsReplayedIn}
-use Rattle.fx_audit.specs.Outputs.{Prints}
+use Rattle.fx_checker.specs.Outputs.{Prints}
 use Rattle.fx_audit.specs.Replay.{CannotReplay, ComesTo, IsTextOf}
-use Rattle.fx_audit.proofs.Documents.{both_mapped, told}
+use Rattle.fx_checker.proofs.Documents.{both_mapped, told}
 
 -- ---- a run in a network and traffic
 

@@ -1,6 +1,6 @@
 -- What is answered to a refutation.
-use Rattle.std.proofs.Common.{◌≡◌, ◌≢◌, ◌==◌, List, ℕ, Option, Bool, true, false, Result, IfOk, IfErr, Ok, Err, inl, inr, refl, sym, ap, subst, arith, if◌then◌else◌}
-use Rattle.std.proofs.lemmas.Bool.{eqb-true, eqb-false}
+use Rattle.std.proofs.Common.{◌≡◌, ◌==◌, List, ℕ, Option, Bool, true, false, Result, IfOk, IfErr, Ok, Err, inl, inr, refl, sym, subst, arith, if◌then◌else◌}
+use Rattle.std.proofs.lemmas.Bool.{eqb-true}
 use Rattle.fx_base.specs.declared.fault.Fault.{Fault}
 use Rattle.fx_base.specs.declared.fault.Place.TheVariants as places
 use Rattle.fx_base.specs.Device.{Writes}
@@ -9,12 +9,12 @@ use Rattle.fx_base.specs.Lines.{Lines}
 use Rattle.fx_tables.specs.Classes.{Class}
 use Rattle.fx_topology.specs.declared.network.NetworkDocument.{NetworkDocument}
 use Rattle.fx_collect.specs.Totals.{Totals}
-use Rattle.fx_audit.specs.declared.answer.Answer.{Answer}
-use Rattle.fx_audit.specs.declared.answer.Answer.TheVariants.{Yes, No}
-use Rattle.fx_audit.specs.Checks.{no_line}
+use Rattle.fx_checker.specs.declared.answer.Answer.{Answer}
+use Rattle.fx_checker.specs.declared.answer.Answer.TheVariants.{Yes, No}
+use Rattle.fx_checker.specs.Checks.{no_line}
 use Rattle.fx_audit.specs.Confirms.{IsConfirmedIn, IsNo, IsRefusedRefutation, IsRefuted, RefutesNothing, printed_refusal, refuted_text}
-use Rattle.fx_audit.specs.Outputs.{Prints}
-use Rattle.fx_audit.proofs.Refusals.{IsPassedOn, IsRefusedWhy, answered_no, refused_by}
+use Rattle.fx_checker.specs.Outputs.{Prints}
+use Rattle.fx_checker.proofs.Refusals.{IsPassedOn, IsRefusedWhy, answered_no, refused_by}
 
 -- ---- a refusal as it is printed
 

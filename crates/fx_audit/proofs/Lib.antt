@@ -1,12 +1,9 @@
 pub mod Commands
-pub mod Documents
 pub mod Marks
-pub mod Refusals
 pub mod Replays
 pub mod Streams
 pub mod Sums
 pub mod Collects
-pub mod Checks
 pub mod Confirms
 pub mod Texts
 pub mod Audits

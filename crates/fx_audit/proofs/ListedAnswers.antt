@@ -2,7 +2,7 @@
 use Rattle.std.proofs.Common.{◌≡◌, ◌≤◌, ◌<◌, ◌⊎◌, ◌+◌, ℕ, zero, suc, true, refl, sym, subst, arith, inl, inr}
 use Rattle.fx_base.specs.Refusals.{is_refusal_number}
 use Rattle.fx_base.specs.declared.fault.Fault.{Fault}
-use Rattle.fx_audit.specs.Checks.{IsNoAnswer, MeansNo, memory, read_failed, too_long, write_failed}
+use Rattle.fx_checker.specs.Checks.{IsNoAnswer, MeansNo, memory, read_failed, too_long, write_failed}
 use Rattle.fx_audit.specs.Confirms.{RefutesNothing}
 
 -- each of so many numbers from one on

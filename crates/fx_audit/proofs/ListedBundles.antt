@@ -13,8 +13,8 @@ use Rattle.fx_check.specs.Outcomes.{IsCheckFault, device, memory, too_long, wron
 use Rattle.fx_check.proofs.Numbers.{line_fault}
 use Rattle.fx_topology.specs.declared.network.NetworkDocument.{NetworkDocument}
 use Rattle.fx_plan.specs.Tables.{net_of}
-use Rattle.fx_audit.specs.Checks.{IsFaultOf, IsRefusedCertificate, IsRefusedText}
-use Rattle.fx_audit.specs.Commands.{IsRefusedBundle, IsRefusedBy, IsRefusedCheck, IsRefusedThere}
+use Rattle.fx_checker.specs.Checks.{IsFaultOf, IsRefusedCertificate, IsRefusedText, IsRefusedCheck}
+use Rattle.fx_audit.specs.Commands.{IsRefusedBundle, IsRefusedBy, IsRefusedThere}
 use Rattle.fx_audit.specs.declared.bundle.Command.{Command}
 use Rattle.fx_audit.specs.declared.bundle.Command.TheVariants.{Audit, Check, Confirm, Replay}
 use Rattle.fx_audit.proofs.ListedAnswers.{no_listed}

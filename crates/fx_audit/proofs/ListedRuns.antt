@@ -26,7 +26,7 @@ use Rattle.fx_machine.specs.Steps.{acts_of_arrival, acts_of_leaving, after, afte
 use Rattle.fx_topology.specs.declared.network.NetworkDocument.{NetworkDocument}
 use Rattle.fx_plan.specs.Tables.{net_of}
 use Rattle.fx_audit.specs.Commands.{IsRefusedReplay, IsRefusedRun}
-use Rattle.fx_audit.specs.Documents.{IsRefusedIn}
+use Rattle.fx_checker.specs.Documents.{IsRefusedIn}
 use Rattle.fx_audit.specs.Replay.{IsRefused}
 use Rattle.fx_audit.proofs.ListedDocuments.{documents_refusal_listed}
 

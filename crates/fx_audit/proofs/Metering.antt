@@ -18,12 +18,12 @@ use Rattle.fx_conform.specs.Conforming.{IsSound}
 use Rattle.fx_conform.specs.Whole.{HavePaths, IsRunOf}
 use Rattle.fx_conform.proofs.Paths.{declarations_have_paths}
 use Rattle.fx_conform.proofs.WholeRuns.{runs_are_complete}
-use Rattle.fx_audit.specs.declared.answer.Answer.{Answer}
-use Rattle.fx_audit.specs.declared.answer.Answer.TheVariants.{Yes}
-use Rattle.fx_audit.specs.Documents.{BothMayHaveLeft, IsNetworkDocument, IsRefusedByDocuments, IsTraffic}
+use Rattle.fx_checker.specs.declared.answer.Answer.{Answer}
+use Rattle.fx_checker.specs.declared.answer.Answer.TheVariants.{Yes}
+use Rattle.fx_checker.specs.Documents.{BothMayHaveLeft, IsNetworkDocument, IsRefusedByDocuments, IsTraffic}
 use Rattle.fx_audit.specs.Metering.{IsMetered, IsMeteredIn, IsRefusedOver, IsRefusedMetering}
-use Rattle.fx_audit.specs.Outputs.{Prints}
-use Rattle.fx_audit.proofs.Documents.{both_mapped, both_told}
+use Rattle.fx_checker.specs.Outputs.{Prints}
+use Rattle.fx_checker.proofs.Documents.{both_mapped, both_told}
 
 -- ---- a capture that was opened
 

@@ -16,7 +16,7 @@ use Rattle.fx_collect.specs.Totals.{Totals, with_record, with_records}
 use Rattle.fx_session.proofs.InFront.{after_piece-behind}
 use Rattle.fx_session.proofs.StreamSteps.{all_none, after_piece-off, pieces}
 use Rattle.fx_session.specs.Streams.{SessionState, answer_of, behind, after_piece, start, without_waiting}
-use Rattle.fx_audit.specs.Outputs.{Prints}
+use Rattle.fx_checker.specs.Outputs.{Prints}
 use Rattle.fx_audit.specs.Streams.{EndsWithMessage, IsRefusedStream, IsTallied, IsTotalsText, stream_read}
 
 -- ---- piece after piece

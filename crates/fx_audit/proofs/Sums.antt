@@ -6,8 +6,8 @@ use Rattle.fx_base.specs.Lines.{Lines}
 use Rattle.fx_layout.specs.Keys.{Layout}
 use Rattle.fx_plan.specs.Tables.{net_of}
 use Rattle.fx_topology.specs.declared.network.NetworkDocument.{NetworkDocument}
-use Rattle.fx_audit.specs.declared.answer.Answer.{Answer}
-use Rattle.fx_audit.specs.Documents.{IsNetworkDocument, IsRefusedNetwork}
+use Rattle.fx_checker.specs.declared.answer.Answer.{Answer}
+use Rattle.fx_checker.specs.Documents.{IsNetworkDocument, IsRefusedNetwork}
 use Rattle.fx_audit.specs.Sums.{IsRefusedSum, IsRefusedTotals}
 
 -- the network's document is

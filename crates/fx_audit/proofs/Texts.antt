@@ -1,28 +1,21 @@
 -- The text of an answer is of the answer's kind.
-use Rattle.std.proofs.Common.{ℕ, List, Option, Result, Ok, Err, IfOk, inl, inr, ◌≡◌, refl, sym, subst}
-use Rattle.fx_base.specs.declared.fault.Fault.{Fault}
+use Rattle.std.proofs.Common.{ℕ, List, inl, inr, refl, sym, subst}
 use Rattle.fx_base.specs.Lines.{Lines}
 use Rattle.fx_check.specs.FirstRefusal.{line_limit}
 use Rattle.fx_tables.specs.Classes.{Class}
 use Rattle.fx_machine.specs.States.{told_state}
 use Rattle.fx_topology.specs.declared.network.NetworkDocument.{NetworkDocument}
 use Rattle.fx_plan.specs.Tables.{net_of}
-use Rattle.fx_audit.specs.declared.answer.Answer.{Answer}
-use Rattle.fx_audit.specs.declared.answer.Answer.TheVariants.{Yes, No, Unknown}
+use Rattle.fx_checker.specs.declared.answer.Answer.{Answer}
+use Rattle.fx_checker.specs.declared.answer.Answer.TheVariants.{Yes, No, Unknown}
 use Rattle.fx_audit.specs.declared.bundle.Command.{Command}
 use Rattle.fx_audit.specs.declared.bundle.Command.TheVariants.{Audit, Replay, Check, Confirm}
 use Rattle.fx_audit.specs.Audits.{IsAuditedIn}
-use Rattle.fx_audit.specs.Checks.{IsAnswered}
 use Rattle.fx_audit.specs.Commands.{IsDone, IsReplayedIn}
 use Rattle.fx_audit.specs.Confirms.{IsConfirmedIn, RefutesNothing, printed_refusal}
-use Rattle.fx_audit.specs.Outputs.{Prints}
-use Rattle.fx_audit.specs.Texts.{IsAuditText, IsBundleText, IsCheckText, IsConfirmText, IsReplayText}
+use Rattle.fx_audit.specs.Texts.{IsAuditText, IsBundleText, IsConfirmText, IsReplayText}
 use Rattle.fx_audit.proofs.Confirms.{same_number}
-
-pub check_text : (network : NetworkDocument) (classes : List Class) (lines : Lines) (answer : Answer) (text : List ℕ) → IsAnswered network classes lines answer text → IsCheckText answer text
-check_text network classes lines Yes text h = h.text_is
-check_text network classes lines No text h = (h.fault, h.means_no, h.text_is)
-check_text network classes lines Unknown text h = absurd h
+use Rattle.fx_checker.proofs.Texts.{check_text}
 
 pub confirm_text : (network : NetworkDocument) (classes : List Class) (lines : Lines) (answer : Answer) (text : List ℕ) → IsConfirmedIn network classes lines answer text → IsConfirmText answer text
 confirm_text network classes lines Yes text h = (h.ran, h.plain, h.text_is)
@@ -44,14 +37,3 @@ bundle_text Confirm n t lines answer text h = inr (inr (inl (confirm_text h.netw
 bundle_text Audit n t lines answer text h = inr (inr (inr (audit_text h.network h.classes line_limit answer text h.holds)))
 
 -- ---- as the commands answer
-
--- an answer with a text of one kind is one with a text of another that it always is of too
-pub told_as : (P Q : Answer → List ℕ → Type 0) (old new : Option (List ℕ)) (result : Result Answer Fault) → ((a : Answer) (text : List ℕ) → P a text → Q a text)
-    → IfOk result (λ a. Prints (P a) old new) → IfOk result (λ a. Prints (Q a) old new)
-told_as P Q old new (Err e) means h = tt
-told_as P Q old new (Ok a) means h = (h.0, means a h.0 h.1, h.2)
-
-pub yes_told_as : (P : List ℕ → Type 0) (Q : Answer → List ℕ → Type 0) (old new : Option (List ℕ)) (result : Result Answer Fault) → ((text : List ℕ) → P text → Q Yes text)
-    → IfOk result (λ a. (a ≡ Yes) × Prints P old new) → IfOk result (λ a. Prints (Q a) old new)
-yes_told_as P Q old new (Err e) means h = tt
-yes_told_as P Q old new (Ok a) means h = (h.1.0, subst (λ (x : Answer). Q x h.1.0) (sym h.0) (means h.1.0 h.1.1), h.1.2)

@@ -15,8 +15,8 @@ use Rattle.fx_search.specs.Fronts.{IsTooLarge, most_lines}
 use Rattle.fx_search.specs.declared.found.Found.{Found}
 use Rattle.fx_search.specs.declared.found.Found.TheVariants as found
 use Rattle.fx_traffic.specs.Targets.{targets_of}
-use Rattle.fx_audit.specs.declared.answer.Answer.{Answer}
-use Rattle.fx_audit.specs.declared.answer.Answer.TheVariants.{Yes, No, Unknown}
+use Rattle.fx_checker.specs.declared.answer.Answer.{Answer}
+use Rattle.fx_checker.specs.declared.answer.Answer.TheVariants.{Yes, No, Unknown}
 
 abbrev pub unknown_line : List ℕ
 unknown_line = codes "unknown 601" ++ 10 ∷ []

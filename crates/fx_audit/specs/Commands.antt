@@ -13,18 +13,18 @@ use Rattle.fx_machine.specs.Steps.{run}
 use Rattle.fx_check.specs.FirstRefusal.{line_limit}
 use Rattle.fx_topology.specs.declared.network.NetworkDocument.{NetworkDocument}
 use Rattle.fx_plan.specs.Tables.{net_of}
-use Rattle.fx_audit.specs.declared.answer.Answer.{Answer}
-use Rattle.fx_audit.specs.declared.answer.Answer.TheVariants.{Yes}
+use Rattle.fx_checker.specs.declared.answer.Answer.{Answer}
+use Rattle.fx_checker.specs.declared.answer.Answer.TheVariants.{Yes}
 use Rattle.fx_audit.specs.Audits.{IsAuditedIn}
 use Rattle.fx_audit.specs.Bundle.{IsBundle}
-use Rattle.fx_audit.specs.Checks.{IsAnswered, IsRefusedCertificate}
 use Rattle.fx_audit.specs.Confirms.{IsConfirmedIn, IsRefusedOtherwise}
 use Rattle.fx_audit.specs.declared.bundle.Command.{Command}
 use Rattle.fx_audit.specs.declared.bundle.Command.TheVariants.{Audit, Replay, Check, Confirm}
-use Rattle.fx_audit.specs.Documents.{InDocuments, IsNetworkDocument, IsRefusedByDocuments, IsRefusedIn, IsRefusedNetwork}
+use Rattle.fx_checker.specs.Documents.{InDocuments, IsNetworkDocument, IsRefusedByDocuments, IsRefusedIn, IsRefusedNetwork}
 use Rattle.fx_audit.specs.Replay.{IsRefused, IsTextOf}
 use Rattle.fx_audit.specs.Texts.{ok_line}
 use Rattle.fx_audit.specs.Streams.{IsRefusedStream, IsStreamText, EndsWithMessage, stream_read}
+use Rattle.fx_checker.specs.Checks.{IsChecked, IsRefusedCheck}
 
 -- ---- a network that is linted
 
@@ -77,14 +77,6 @@ IsRefusedCollect network_octets stream_octets e =
     ⊎ ((network : NetworkDocument) × IsNetworkDocument network_octets network × IsRefusedStream (stream_read stream_octets) e)
 
 -- ---- a certificate that is checked
-
--- the answer for a certificate in the network and traffic that two documents declare
-abbrev pub IsChecked : List ℕ → List ℕ → Lines → Answer → List ℕ → Type 0
-IsChecked network_octets traffic_octets lines answer text = InDocuments (λ network classes. IsAnswered network classes lines answer text) network_octets traffic_octets
-
--- the first refusal of a check that isn't an answer: that of the documents, otherwise that of the certificate
-abbrev pub IsRefusedCheck : List ℕ → List ℕ → Lines → Fault → Type 0
-IsRefusedCheck network_octets traffic_octets lines e = IsRefusedIn (λ network classes. IsRefusedCertificate network classes lines e) network_octets traffic_octets e
 
 -- ---- a refutation that is confirmed
 

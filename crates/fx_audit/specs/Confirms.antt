@@ -12,9 +12,9 @@ use Rattle.fx_collect.specs.Totals.{Totals}
 use Rattle.fx_collect.specs.Report.{KeysAscend, totals_text}
 use Rattle.fx_refute.specs.RefutationReading.{MayReadRefutation}
 use Rattle.fx_refute.specs.Refutations.{AreTotals, IsNoRefutation, Refutation, Refutes}
-use Rattle.fx_audit.specs.declared.answer.Answer.{Answer}
-use Rattle.fx_audit.specs.declared.answer.Answer.TheVariants.{Yes, No, Unknown}
-use Rattle.fx_audit.specs.Checks.{IsWithin, no_line}
+use Rattle.fx_checker.specs.declared.answer.Answer.{Answer}
+use Rattle.fx_checker.specs.declared.answer.Answer.TheVariants.{Yes, No, Unknown}
+use Rattle.fx_checker.specs.Checks.{IsWithin, no_line}
 
 -- ---- what is printed
 

@@ -1,9 +1,6 @@
 pub mod Bundle
-pub mod Checks
 pub mod Confirms
 pub mod Commands
-pub mod Documents
-pub mod Outputs
 pub mod Replay
 pub mod Streams
 pub mod Sums

@@ -12,7 +12,7 @@ use Rattle.fx_pcap.specs.Captures.{IsOpened, IsRefusedCapture, CaptureState}
 use Rattle.fx_topology.specs.declared.network.NetworkDocument.{NetworkDocument}
 use Rattle.fx_net.specs.Running.{RefusesRun, RunsTo, begun}
 use Rattle.fx_conform.specs.Whole.{IsRunOf}
-use Rattle.fx_audit.specs.Documents.{IsNetworkDocument, IsRefusedIn, IsTraffic}
+use Rattle.fx_checker.specs.Documents.{IsNetworkDocument, IsRefusedIn, IsTraffic}
 
 -- ---- the text
 

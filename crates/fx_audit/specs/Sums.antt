@@ -9,7 +9,7 @@ use Rattle.fx_sums.specs.SumReading.{MayGive, sum_of_texts}
 use Rattle.fx_sums.specs.SumText.{noted_text}
 use Rattle.fx_sums.specs.Sums.{IsSumBut, Sum, no_sum}
 use Rattle.fx_topology.specs.declared.network.NetworkDocument.{NetworkDocument}
-use Rattle.fx_audit.specs.Documents.{IsNetworkDocument, IsRefusedNetwork}
+use Rattle.fx_checker.specs.Documents.{IsNetworkDocument, IsRefusedNetwork}
 
 -- the text of a sum, with its keys in ascending order
 pub record IsTextOfSum (sum : Sum) (text : List ℕ) : Type 0 where

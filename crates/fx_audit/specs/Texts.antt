@@ -4,15 +4,15 @@ use Rattle.fx_base.specs.declared.fault.Fault.{Fault}
 use Rattle.fx_layout.specs.Keys.{Layout}
 use Rattle.fx_machine.specs.States.{State}
 use Rattle.fx_collect.specs.Totals.{Totals}
-use Rattle.fx_audit.specs.declared.answer.Answer.{Answer}
-use Rattle.fx_audit.specs.declared.answer.Answer.TheVariants.{Yes, No, Unknown}
+use Rattle.fx_checker.specs.declared.answer.Answer.{Answer}
+use Rattle.fx_checker.specs.declared.answer.Answer.TheVariants.{Yes, No, Unknown}
 use Rattle.fx_cert.specs.declared.item.Item.{Item}
 use Rattle.fx_run_text.specs.declared.text_version.TextVersion.TheVariants.{Two}
 use Rattle.fx_refute.specs.RefutationText.{refutation_text}
 use Rattle.fx_refute.specs.Refutations.{Refutation}
 use Rattle.fx_search.specs.Found.{certificate_text}
 use Rattle.fx_audit.specs.Audits.{unknown_line}
-use Rattle.fx_audit.specs.Checks.{MeansNo, no_line, yes_line}
+use Rattle.fx_checker.specs.Checks.{no_line, IsCheckText}
 use Rattle.fx_audit.specs.Confirms.{RefutesNothing, refuted_text}
 use Rattle.fx_audit.specs.Metering.{IsMeteredText}
 use Rattle.fx_audit.specs.Replay.{IsTextOf}
@@ -42,12 +42,6 @@ IsRunText answer text = (answer ≡ Yes) × ((totals : Totals) × (other : ℕ) 
 -- a sum prints totals, and the notes beside them
 abbrev pub IsSumText : Answer → List ℕ → Type 0
 IsSumText answer text = (answer ≡ Yes) × ((sum : Sum) × IsTextOfSum sum text)
-
--- a check prints `yes` or `no`, according to its answer
-abbrev pub IsCheckText : Answer → List ℕ → Type 0
-IsCheckText Yes text = text ≡ yes_line
-IsCheckText No text = (e : Fault) × MeansNo e.number × (text ≡ no_line e)
-IsCheckText Unknown text = ⊥
 
 -- a confirmation prints two totals or `no`, according to its answer
 abbrev pub IsConfirmText : Answer → List ℕ → Type 0

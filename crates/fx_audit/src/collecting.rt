@@ -5,14 +5,14 @@ ghost use Rattle.fx_base.specs.Fault.{IsMemory};
 ghost use Rattle.fx_collect.specs.Totals.{with_records};
 ghost use Rattle.fx_session.specs.Streams as streams;
 ghost use Rattle.fx_session.specs.Streams.{without_waiting};
-ghost use Rattle.fx_audit.specs.Documents.{CannotRead};
-ghost use Rattle.fx_audit.specs.Outputs.{AnswersWith, FailsQuietly, Prints};
+ghost use Rattle.fx_checker.specs.Documents.{CannotRead};
+ghost use Rattle.fx_checker.specs.Outputs.{AnswersWith, FailsQuietly, Prints};
 ghost use Rattle.fx_audit.specs.Streams.{stream_read, IsRefusedStream, IsStreamText, IsTallied, IsTotalsText, EndsWithMessage};
 ghost use Rattle.fx_audit.specs.Texts.{IsCollectText};
-ghost use Rattle.fx_audit.specs.declared.answer.Answer.TheVariants.{Yes};
+ghost use Rattle.fx_checker.specs.declared.answer.Answer.TheVariants.{Yes};
 
-use crate::answer::Answer;
 use fx_base::{Fault, PieceReader, Sink, Source, refusals};
+use fx_checker::Answer;
 use fx_collect::{Totals, put_number_line};
 use fx_layout::Seed;
 use fx_session::{Session, SessionWatch};

@@ -10,15 +10,14 @@ ghost use Rattle.fx_refute.specs.Refutations.{AreTotals, IsNoRefutation, Refutes
 ghost use Rattle.fx_refute.specs.Refutations as refutations;
 ghost use Rattle.fx_audit.specs.Commands.{IsConfirmed, IsRefusedConfirm};
 ghost use Rattle.fx_audit.specs.Confirms.{IsConfirmedIn, IsInOrder, IsRefusedOtherwise, IsRefusedRefutation, IsRefuted, printed_refusal, refuted_text};
-ghost use Rattle.fx_audit.specs.Documents.{BothMayHaveLeft, CannotRead, IfDocumentsRefused, IfNetworkRefused};
-ghost use Rattle.fx_audit.specs.Outputs.{AnswersWith, FailsBy, FailsQuietly, Prints};
+ghost use Rattle.fx_checker.specs.Documents.{BothMayHaveLeft, CannotRead, IfDocumentsRefused, IfNetworkRefused};
+ghost use Rattle.fx_checker.specs.Outputs.{AnswersWith, FailsBy, FailsQuietly, Prints};
 ghost use Rattle.fx_audit.specs.Texts.{IsConfirmText};
-ghost use Rattle.fx_audit.specs.declared.answer.Answer.TheVariants.{Yes, No};
+ghost use Rattle.fx_checker.specs.declared.answer.Answer.TheVariants.{Yes, No};
 
-use crate::answer::{Answer, answer_refusal};
-use crate::document::{AcceptedDocuments, read_documents};
-use crate::explainer::{Explainer, Unexplained};
+use crate::explainer::Explainer;
 use fx_base::{Fault, LineReader, Sink, Source, put_text, refusals};
+use fx_checker::{AcceptedDocuments, Answer, Unexplained, answer_refusal, read_documents};
 use fx_collect::Totals;
 use fx_machine::{State, StepWatch};
 use fx_refute::{Refutation, confirm_watched, read_refutation};

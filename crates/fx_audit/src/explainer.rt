@@ -1,16 +1,13 @@
 //! What a command passes to the explainer of its answer.
 
 use crate::bundle::Command;
-use crate::document::AcceptedDocuments;
 use fx_base::{Fault, Line};
-use fx_check::Due;
+use fx_checker::{AcceptedDocuments, CheckExplainer, Unexplained};
 use fx_layout::Layout;
 use fx_machine::State;
 use fx_pcap::{Frame, Skipped};
-use fx_plan::Plan;
 use fx_refute::Refutation;
 use fx_run_text::Step;
-use fx_traffic::Traffic;
 
 /// The position of a run over a capture: the last packet that was read.
 #[derive(Clone, Copy, Drop)]
@@ -23,31 +20,9 @@ pub struct PacketAt<'a> {
     pub skipped: Skipped,
 }
 
-/// A receiver of what a command knows when it answers or refuses. Its methods take shared references and return
-/// nothing, and no clause about an answer names the explainer, so an answer is the same whoever explains it.
-pub trait Explainer: Drop {
-    /// Receives the accepted network document.
-    fn on_network(&mut self, octets: &[u8], plan: &Plan);
-
-    /// Receives the refused network document.
-    fn on_refused_network(&mut self, octets: &[u8], fault: &Fault);
-
-    /// Receives the accepted traffic declaration.
-    fn on_traffic(&mut self, octets: &[u8], plan: &Plan, traffic: &Traffic);
-
-    /// Receives the traffic declaration that was refused for this network.
-    fn on_refused_traffic(&mut self, octets: &[u8], plan: &Plan, fault: &Fault);
-
-    /// Receives the refusal of a certificate: what the line had to be, and the line, which is `None` if the text ends
-    /// before it.
-    fn on_refused_certificate(
-        &mut self,
-        documents: &AcceptedDocuments,
-        due: &Due<'_>,
-        line: Option<&Line<'_>>,
-        fault: &Fault,
-    );
-
+/// A receiver of what a command knows when it answers or refuses: besides its documents and the refusal of a certificate,
+/// a refutation, a run, a stream or a bundle.
+pub trait Explainer: CheckExplainer {
     /// Receives the refutation that an audit found or a confirmation confirmed.
     fn on_refutation(&mut self, documents: &AcceptedDocuments, refutation: &Refutation);
 
@@ -114,27 +89,7 @@ pub trait Explainer: Drop {
     fn on_refused_bundle(&mut self, octets: &[u8], fault: &Fault);
 }
 
-/// An explainer that explains nothing.
-#[derive(Debug, Drop)]
-pub struct Unexplained;
-
 impl Explainer for Unexplained {
-    fn on_network(&mut self, _octets: &[u8], _plan: &Plan) {}
-
-    fn on_refused_network(&mut self, _octets: &[u8], _fault: &Fault) {}
-
-    fn on_traffic(&mut self, _octets: &[u8], _plan: &Plan, _traffic: &Traffic) {}
-
-    fn on_refused_traffic(&mut self, _octets: &[u8], _plan: &Plan, _fault: &Fault) {}
-
-    fn on_refused_certificate(
-        &mut self,
-        _documents: &AcceptedDocuments,
-        _due: &Due<'_>,
-        _line: Option<&Line<'_>>,
-        _fault: &Fault,
-    ) {}
-
     fn on_refutation(&mut self, _documents: &AcceptedDocuments, _refutation: &Refutation) {}
 
     fn on_refused_line(

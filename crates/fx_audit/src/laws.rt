@@ -6,10 +6,10 @@ ghost use Rattle.fx_base.specs.declared.fault.Fault as faults;
 ghost use Rattle.fx_link.specs.Links.{Put};
 ghost use Rattle.fx_tables.specs.Classes.{Class};
 ghost use Rattle.fx_topology.specs.declared.network.NetworkDocument as networks;
-ghost use Rattle.fx_audit.specs.Checks.{IsNoAnswer, MeansNo};
-ghost use Rattle.fx_audit.specs.Commands.{IsRefusedBundle, IsRefusedCheck, IsRefusedCollect, IsRefusedConfirm, IsRefusedReplay};
+ghost use Rattle.fx_checker.specs.Checks.{IsNoAnswer, MeansNo, IsRefusedCheck};
+ghost use Rattle.fx_audit.specs.Commands.{IsRefusedBundle, IsRefusedCollect, IsRefusedConfirm, IsRefusedReplay};
 ghost use Rattle.fx_audit.specs.Confirms.{IsRefusedRefutation, RefutesNothing};
-ghost use Rattle.fx_audit.specs.Documents.{IsRefusedByDocuments, IsRefusedNetwork};
+ghost use Rattle.fx_checker.specs.Documents.{IsRefusedByDocuments, IsRefusedNetwork};
 ghost use Rattle.fx_audit.specs.Metering.{IsRefusedMetering};
 ghost use Rattle.fx_audit.specs.Sums.{IsRefusedSum};
 

@@ -3,15 +3,14 @@ ghost use Rattle.std.specs.Prelude.{◌≡◌, ◌⊎◌, IfOk, IfErr};
 ghost use Rattle.fx_base.specs.Device.{IsWriteFault, MayHaveLeft};
 ghost use Rattle.fx_base.specs.Fault.{IsMemory};
 ghost use Rattle.fx_audit.specs.Commands.{AreLinted, IsLinted};
-ghost use Rattle.fx_audit.specs.Documents.{BothMayHaveLeft, CannotRead, IfNetworkRefused, IsRefusedByDocuments, IsRefusedNetwork};
-ghost use Rattle.fx_audit.specs.Outputs.{AnswersWith, Prints};
+ghost use Rattle.fx_checker.specs.Documents.{BothMayHaveLeft, CannotRead, IfNetworkRefused, IsRefusedByDocuments, IsRefusedNetwork};
+ghost use Rattle.fx_checker.specs.Outputs.{AnswersWith, Prints};
 ghost use Rattle.fx_audit.specs.Texts.{IsLintText};
-ghost use Rattle.fx_audit.specs.declared.answer.Answer.TheVariants.{Yes};
+ghost use Rattle.fx_checker.specs.declared.answer.Answer.TheVariants.{Yes};
 
-use crate::answer::Answer;
-use crate::document::{network_from, read_documents};
-use crate::explainer::{Explainer, Unexplained};
+use crate::explainer::Explainer;
 use fx_base::{Fault, Sink, Source, put_text};
+use fx_checker::{Answer, Unexplained, network_from, read_documents};
 use std::alloc::Global;
 
 /// Reads a network document, and writes the line `ok` if it describes a network, so that every other command would

@@ -4,16 +4,15 @@ ghost use Rattle.fx_base.specs.Device.{IsWriteFault};
 ghost use Rattle.fx_base.specs.Fault.{IsMemory};
 ghost use Rattle.fx_base.specs.Lines.{Fails};
 ghost use Rattle.fx_audit.specs.Commands.{IsRefusedReplay, IsRefusedRun, IsReplayed, IsReplayedIn};
-ghost use Rattle.fx_audit.specs.Documents.{BothMayHaveLeft, CannotRead, IfDocumentsRefused, IfNetworkRefused};
-ghost use Rattle.fx_audit.specs.Outputs.{AnswersWith, FailsBy, FailsQuietly, Prints};
+ghost use Rattle.fx_checker.specs.Documents.{BothMayHaveLeft, CannotRead, IfDocumentsRefused, IfNetworkRefused};
+ghost use Rattle.fx_checker.specs.Outputs.{AnswersWith, FailsBy, FailsQuietly, Prints};
 ghost use Rattle.fx_audit.specs.Texts.{IsReplayText};
-ghost use Rattle.fx_audit.specs.declared.answer.Answer.TheVariants.{Yes};
+ghost use Rattle.fx_checker.specs.declared.answer.Answer.TheVariants.{Yes};
 
-use crate::answer::Answer;
-use crate::document::{AcceptedDocuments, read_documents};
-use crate::explainer::{Explainer, Unexplained};
+use crate::explainer::Explainer;
 use crate::replaying::replay;
 use fx_base::{Fault, LineReader, Sink, Source};
+use fx_checker::{AcceptedDocuments, Answer, Unexplained, read_documents};
 use fx_layout::Seed;
 use std::alloc::Global;
 

@@ -9,14 +9,13 @@ ghost use Rattle.fx_machine.specs.Steps as stepping;
 ghost use Rattle.fx_collect.specs.Totals.{Totals, totals_of, totals_in};
 ghost use Rattle.fx_collect.specs.Report.{totals_text};
 ghost use Rattle.fx_audit.specs.Confirms.{IsInOrder};
-ghost use Rattle.fx_audit.specs.Outputs.{FailsQuietly, Prints};
+ghost use Rattle.fx_checker.specs.Outputs.{FailsQuietly, Prints};
 ghost use Rattle.fx_audit.specs.Replay.{complete_line, CannotReplay, ComesTo, IsTextOf};
-ghost use Rattle.fx_audit.specs.declared.answer.Answer.TheVariants.{Yes};
+ghost use Rattle.fx_checker.specs.declared.answer.Answer.TheVariants.{Yes};
 
-use crate::answer::Answer;
-use crate::document::AcceptedDocuments;
 use crate::explainer::Explainer;
 use fx_base::{Fault, LineReader, Sink, Source, put_text, refusals};
+use fx_checker::{AcceptedDocuments, Answer};
 use fx_collect::Totals;
 use fx_layout::Seed;
 use fx_machine::State;

@@ -1,21 +1,20 @@
 //! The command that runs a network over a capture, from octets to octets.
-ghost use Rattle.std.specs.Prelude.{◌≡◌, ◌⊎◌, ℕ, List, Err, OnOk, IfOk, IfErr, IfSome};
-ghost use Rattle.fx_base.specs.Device.{IsWriteFault, KeepsGoing, MayHaveLeft, PutsText, Writes};
+ghost use Rattle.std.specs.Prelude.{◌≡◌, ◌⊎◌, Err, OnOk, IfOk, IfErr, IfSome};
+ghost use Rattle.fx_base.specs.Device.{IsWriteFault, KeepsGoing, MayHaveLeft, PutsText};
 ghost use Rattle.fx_base.specs.Fault.{IsMemory};
 ghost use Rattle.fx_base.specs.declared.fault.Fault.{Fault};
 ghost use Rattle.fx_pcap.specs.Captures.{IsUnreadable};
 ghost use Rattle.fx_pcap.specs.Records.{format_of};
 ghost use Rattle.fx_net.specs.Running.{FailsOutside, RefusesRun, RunsTo, begun};
-ghost use Rattle.fx_audit.specs.Documents.{BothMayHaveLeft, CannotRead, IfDocumentsRefused, IfNetworkRefused};
+ghost use Rattle.fx_checker.specs.Documents.{BothMayHaveLeft, CannotRead, IfDocumentsRefused, IfNetworkRefused};
 ghost use Rattle.fx_audit.specs.Metering.{IsMetered, IsMeteredIn, IsMeteredText, IsRun, skipped_line, IsRefusedOver, IsRefusedMetering, IsStateOfSource};
-ghost use Rattle.fx_audit.specs.Outputs.{AnswersWith, FailsQuietly, Prints};
+ghost use Rattle.fx_checker.specs.Outputs.{AnswersWith, FailsQuietly, Prints};
 ghost use Rattle.fx_audit.specs.Texts.{IsRunText};
-ghost use Rattle.fx_audit.specs.declared.answer.Answer.TheVariants.{Yes};
+ghost use Rattle.fx_checker.specs.declared.answer.Answer.TheVariants.{Yes};
 
-use crate::answer::Answer;
-use crate::document::{AcceptedDocuments, read_documents};
-use crate::explainer::{Explainer, PacketAt, Unexplained};
+use crate::explainer::{Explainer, PacketAt};
 use fx_base::{Fault, LineReader, Sink, Source, put_number, put_text};
+use fx_checker::{AcceptedDocuments, Answer, Unexplained, read_documents};
 use fx_collect::{Totals, put_number_line};
 use fx_conform::plans_are_sound;
 use fx_layout::Seed;

@@ -10,21 +10,23 @@ use Rattle.fx_base.specs.Fault.{fault_at}
 use Rattle.fx_base.specs.declared.fault.Fault.{Fault}
 use Rattle.fx_base.specs.declared.fault.Place.TheVariants as places
 use Rattle.fx_cli.specs.Explaining.{IsExplainText}
-use Rattle.fx_cli.specs.Ending.{EndsWith, refusal_line, refusal_status, status}
-use Rattle.fx_audit.specs.Documents.{BothMayHaveLeft}
-use Rattle.fx_audit.specs.declared.answer.Answer.TheVariants.{Yes}
-use Rattle.fx_base.specs.Lines.{Lines, new_lines}
+use Rattle.fx_checker.specs.Ending.{EndsWith, refusal_line, refusal_status, status}
+use Rattle.fx_checker.specs.Documents.{BothMayHaveLeft}
+use Rattle.fx_checker.specs.declared.answer.Answer.TheVariants.{Yes}
+use Rattle.fx_base.specs.Lines.{Lines}
 use Rattle.fx_link.specs.Links.{Put}
 use Rattle.fx_audit.specs.Metering.{IsMetered}
-use Rattle.fx_audit.specs.Outputs.{AnswersWith, Prints}
-use Rattle.fx_audit.specs.declared.answer.Answer.{Answer}
-use Rattle.fx_cli.specs.Running.{EndsAs, EndsExplained, HasFailedExplained, HasFailedToWrite, IsAtBeginning, IsCallRefusal, IsCallText, IsLintRefusal, IsLintOutput, IsRunOutput, IsRefusal, IsRunRefusal, IsAuditOutput, ForSomeNetwork, ForSomeDocuments, ForSomeTexts}
+use Rattle.fx_checker.specs.Outputs.{AnswersWith, Prints}
+use Rattle.fx_checker.specs.declared.answer.Answer.{Answer}
+use Rattle.fx_cli.specs.Running.{EndsExplained, HasFailedExplained, IsCallRefusal, IsCallText, IsLintRefusal, IsLintOutput, IsRunOutput, IsRunRefusal, IsAuditOutput, ForSomeNetwork, ForSomeDocuments}
 use Rattle.fx_command_line.specs.Words.{Names, NamesAudit, NamesFiles, NamesRun, NamesWith, IsLimit, IsLimitSet, file_given, file_names}
 use Rattle.fx_command_line.specs.declared.words.Call.{Call}
 use Rattle.fx_command_line.specs.declared.words.Call.TheVariants.{Audit, Check, Collect, Confirm, Draw, Explain, Lint, Replay, Run, Sum}
 use Rattle.fx_command_line.proofs.CommandTable.{Kind, audit, check, collect, confirm, draw, explain, limit_name, lint, name_of, nameless, replay, run, sum}
 use Rattle.fx_command_line.proofs.AcceptedWords.{behind, second}
 use Rattle.fx_command_line.proofs.OptionNames.{IsName, option_alone}
+use Rattle.fx_checker.specs.Running.{EndsAs, IsAtBeginning, IsRefusal, ForSomeTexts}
+use Rattle.fx_checker.proofs.Outputs.{ended}
 
 -- the command of a call
 abbrev kind_of : Call → Kind
@@ -197,9 +199,6 @@ pub yes_of_document : {E : Type 0} (P : List ℕ → List ℕ → Type 0) (r : R
 yes_of_document P (Ok answer) network old new (said, (n, left, (text, is, written))) = (text, (said, (n, is)), written)
 yes_of_document P (Err e) network old new told = tt
 
-pub at_beginning : (lines : Lines) (left : Option (List ℕ)) (failed : Bool) (asked : ℕ) → lines ≡ new_lines left failed asked → IsAtBeginning lines
-at_beginning lines left failed asked is = (ap (λ (l : Lines). l.stopped) is, ap (λ (l : Lines). l.number) is)
-
 pub ran_over : {E : Type 0} (r : Result Answer E) (network traffic left old new : Option (List ℕ)) (asked : ℕ) (from last : Lines) (before after : Put) → IsAtBeginning from
     → IfOk r (λ answer. (answer ≡ Yes) × BothMayHaveLeft network traffic (λ n t. Prints (IsMetered n t left asked from last before after) old new))
     → IfOk r (λ answer. Prints (IsRunOutput answer) old new)
@@ -213,34 +212,11 @@ pub yes_of_lines : {E : Type 0} (P : List ℕ → Lines → List ℕ → Type 0)
 yes_of_lines P lines (Ok answer) network old new begins (said, (n, left, (text, is, written))) = (text, (said, (n, (lines, begins, is))), written)
 yes_of_lines P lines (Err e) network old new begins told = tt
 
-pub of_texts : {E : Type 0} (P : Answer → List ℕ → List ℕ → Lines → List ℕ → Type 0) (lines : Lines) (r : Result Answer E) (network traffic old new : Option (List ℕ)) → IsAtBeginning lines
-    → IfOk r (λ answer. BothMayHaveLeft network traffic (λ n t. Prints (P answer n t lines) old new))
-    → IfOk r (λ answer. Prints (λ text. ForSomeTexts (λ n t lines. P answer n t lines text)) old new)
-of_texts P lines (Ok answer) network traffic old new begins (n, left, (t, also, (text, is, written))) = (text, (n, t, lines, begins, is), written)
-of_texts P lines (Err e) network traffic old new begins told = tt
-
 pub yes_of_texts : {E : Type 0} (P : List ℕ → List ℕ → Lines → List ℕ → Type 0) (lines : Lines) (r : Result Answer E) (network traffic old new : Option (List ℕ)) → IsAtBeginning lines
     → IfOk r (λ answer. (answer ≡ Yes) × BothMayHaveLeft network traffic (λ n t. Prints (P n t lines) old new))
     → IfOk r (λ answer. Prints (λ text. (answer ≡ Yes) × ForSomeTexts (λ n t lines. P n t lines text)) old new)
 yes_of_texts P lines (Ok answer) network traffic old new begins (said, (n, left, (t, also, (text, is, written)))) = (text, (said, (n, t, lines, begins, is)), written)
 yes_of_texts P lines (Err e) network traffic old new begins told = tt
-
--- an answer that was told, or a refusal that came with nothing written or with a failed write, and then the last line
-pub ended : {S : Type 0} (taken : S → Option (List ℕ)) (failed : S → Bool) (IsText : Answer → List ℕ → Type 0) (IsRefused : Fault → Type 0) (r : Result Answer Fault) (first then last : S) (code : ℕ)
-    → AnswersWith taken failed IsText first then r
-    → IfErr r (λ e. IsWriteFault (failed then) e ⊎ IsRefused e)
-    → IfOk r (λ _. (code ≡ status r) × (last ≡ then))
-    → IfErr r (λ e. EndsWith taken failed (refusal_line e) (refusal_status e) then last code)
-    → EndsAs IsText IsRefused (taken first) (taken last) (failed first ≡ false → failed last ≡ false) (HasFailedToWrite taken failed last) code
-ended {S} taken failed IsText IsRefused (Ok answer) first then last code ((text, is, told), (going, quiet)) why (code_is, same) refused =
-    inl (λ fine. subst (λ (s : S). failed s ≡ false) (sym same) (going fine), (answer, text, is, subst (λ (s : S). Writes (taken first) (taken s) text) (sym same) told, code_is))
-ended {S} taken failed IsText IsRefused (Err e) first then last code answers (inl (is, fails)) answered (inl (code_is, line, keeps)) =
-    inr (inr (code_is ∙ ap refusal_status is, inr (then, fails, subst (λ (x : Fault). Writes (taken then) (taken last) (refusal_line x)) is line)))
-ended {S} taken failed IsText IsRefused (Err e) first then last code (told, (going, inl (is, fails))) (inr why) answered (inl (code_is, line, keeps)) =
-    inr (inr (code_is ∙ ap refusal_status is, inr (then, fails, subst (λ (x : Fault). Writes (taken then) (taken last) (refusal_line x)) is line)))
-ended {S} taken failed IsText IsRefused (Err e) first then last code (told, (going, inr same)) (inr why) answered (inl (code_is, line, keeps)) =
-    inr (inl (λ fine. keeps (subst (λ (s : S). failed s ≡ false) (sym same) fine), (e, why, subst (λ (s : S). Writes (taken s) (taken last) (refusal_line e)) same line, code_is)))
-ended {S} taken failed IsText IsRefused (Err e) first then last code answers why answered (inr (five, fails)) = inr (inr (five, inl fails))
 
 pub ends_explained_as : (words : List Text) (one other : Call) → Names words one → Names words other → (old new : Option (List ℕ)) (Going Failed : Type 0) (code : ℕ)
     → EndsExplained (IsCallText one) (IsCallRefusal one) old new Going Failed code → EndsExplained (IsCallText other) (IsCallRefusal other) old new Going Failed code

@@ -4,12 +4,12 @@ use Rattle.std.specs.Prelude.{IfErr, IfOk, Result, Ok, Err, unwrap_or}
 use Rattle.clap.specs.Words.{Text}
 use Rattle.fx_base.specs.Device.{IsWriteFault, Writes}
 use Rattle.fx_base.specs.declared.fault.Fault.{Fault}
-use Rattle.fx_audit.specs.Outputs.{AnswersWith}
-use Rattle.fx_audit.specs.declared.answer.Answer.{Answer}
+use Rattle.fx_checker.specs.Outputs.{AnswersWith}
+use Rattle.fx_checker.specs.declared.answer.Answer.{Answer}
 use Rattle.fx_json_answers.specs.declared.buffer.TextBuffer.{TextBuffer}
 use Rattle.fx_command_line.specs.Words.{Names}
 use Rattle.fx_command_line.specs.declared.words.Call.{Call}
-use Rattle.fx_cli.specs.Ending.{EndsWith, refusal_line, refusal_status, status}
+use Rattle.fx_checker.specs.Ending.{EndsWith, refusal_line, refusal_status, status}
 use Rattle.fx_cli.specs.InJson.{EndsAnswered, EndsInJson, EndsRefused, memory_object}
 use Rattle.fx_cli.specs.Running.{IsCallRefusal, IsCallText}
 use Rattle.fx_cli.proofs.CallOutputs.{same_refusal, same_text}

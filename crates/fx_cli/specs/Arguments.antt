@@ -4,11 +4,13 @@ use Rattle.clap.specs.Words.{Text}
 use Rattle.fx_base.specs.Device.{KeepsGoing}
 use Rattle.fx_command_line.specs.Words.{Names, NamesNoCall}
 use Rattle.fx_command_line.specs.declared.words.Call.{Call}
-use Rattle.fx_cli.specs.Ending.{EndsWith}
-use Rattle.fx_cli.specs.Running.{EndsAs, EndsExplained, HasFailedExplained, HasFailedToWrite, IsBundleOutput, IsBundleRefusal, IsCallRefusal, IsCallText, IsRefusal}
+use Rattle.fx_checker.specs.Ending.{EndsWith}
+use Rattle.fx_cli.specs.Running.{EndsExplained, HasFailedExplained, IsBundleOutput, IsBundleRefusal, IsCallRefusal, IsCallText}
 use Rattle.fx_cli.specs.OptionFlag.{AddsHelp, RemovesOptions, wants_help}
 use Rattle.fx_cli.specs.InJson.{EndsInJson}
-use Rattle.fx_cli.specs.ArgumentErrors.{EndsWithoutCall, memory_line}
+use Rattle.fx_cli.specs.ArgumentErrors.{EndsWithoutCall}
+use Rattle.fx_checker.specs.Running.{EndsAs, HasFailedToWrite, IsRefusal}
+use Rattle.fx_checker.specs.Arguments.{memory_line}
 
 -- the arguments after the program's name name a call, which is answered; without such arguments, the bundle on standard input is
 pub record EndsByArguments {A S : Type 0} (text_of : A → Text) (taken : S → Option (List ℕ)) (failed : S → Bool) (arguments : List A) (old new : S) (code : ℕ) : Type 0 where

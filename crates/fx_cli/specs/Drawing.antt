@@ -1,7 +1,7 @@
 -- What a drawing prints.
 use Rattle.std.specs.Prelude.{◌≡◌, ℕ, List}
-use Rattle.fx_audit.specs.declared.answer.Answer.{Answer}
-use Rattle.fx_audit.specs.declared.answer.Answer.TheVariants.{Yes}
+use Rattle.fx_checker.specs.declared.answer.Answer.{Answer}
+use Rattle.fx_checker.specs.declared.answer.Answer.TheVariants.{Yes}
 use Rattle.fx_drawings.specs.Drawings.{IsPlainText}
 
 -- text whose only control characters are line feeds

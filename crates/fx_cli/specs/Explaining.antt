@@ -3,8 +3,8 @@ use Rattle.std.specs.Prelude.{◌≡◌, ◌⊎◌, ℕ, Bool, true, false, nat_
 use Rattle.std.specs.Str.{bytes_eq}
 use Rattle.fx_base.specs.Refusals.{is_refusal_number}
 use Rattle.fx_elements.specs.Spelling.{largest, number_of}
-use Rattle.fx_audit.specs.declared.answer.Answer.{Answer}
-use Rattle.fx_audit.specs.declared.answer.Answer.TheVariants.{Yes, No}
+use Rattle.fx_checker.specs.declared.answer.Answer.{Answer}
+use Rattle.fx_checker.specs.declared.answer.Answer.TheVariants.{Yes, No}
 use Rattle.fx_words.specs.Table.{row_of, table}
 use Rattle.fx_words.specs.Texts.{explanation_of, list_text}
 use Rattle.clap.specs.Words.{Text}

@@ -3,9 +3,9 @@ use Rattle.std.specs.Prelude.{◌≡◌, ◌⊎◌, ℕ, Bool, List, [], ◌∷�
 use Rattle.fx_base.specs.Device.{KeepsGoing}
 use Rattle.fx_base.specs.declared.fault.Fault.{Fault}
 use Rattle.fx_base.specs.declared.fault.Place.{Place}
-use Rattle.fx_audit.specs.declared.answer.Answer.{Answer}
+use Rattle.fx_checker.specs.declared.answer.Answer.{Answer}
 use Rattle.fx_json_answers.specs.Answers.{WritesAnswer}
-use Rattle.fx_cli.specs.Ending.{EndsWith, refusal_line, refusal_status, status}
+use Rattle.fx_checker.specs.Ending.{EndsWith, refusal_line, refusal_status, status}
 
 -- the object that is written when out of memory
 abbrev pub memory_object : List ℕ

@@ -2,7 +2,6 @@ pub use Rattle.fx_command_line.specs.CommandLine
 pub use Rattle.fx_command_line.specs.Matches
 pub use Rattle.fx_command_line.specs.Words
 pub mod Drawing
-pub mod Ending
 pub mod InJson
 pub mod Explaining
 pub mod Arguments

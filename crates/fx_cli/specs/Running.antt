@@ -5,27 +5,24 @@ use Rattle.fx_base.specs.Fault.{fault_at, IsMemory}
 use Rattle.fx_base.specs.declared.fault.Fault.{Fault}
 use Rattle.fx_base.specs.declared.fault.Place.TheVariants as places
 use Rattle.fx_base.specs.Lines.{Lines, lines_in}
-use Rattle.fx_base.specs.Refusals.{failed_read, failed_write}
+use Rattle.fx_base.specs.Refusals.{failed_write}
 use Rattle.fx_link.specs.Links.{Put}
-use Rattle.fx_audit.specs.declared.answer.Answer.{Answer}
-use Rattle.fx_audit.specs.declared.answer.Answer.TheVariants.{Yes}
+use Rattle.fx_checker.specs.declared.answer.Answer.{Answer}
+use Rattle.fx_checker.specs.declared.answer.Answer.TheVariants.{Yes}
 use Rattle.fx_audit.specs.declared.bundle.Command.{Command}
 use Rattle.fx_audit.specs.Bundle.{IsBundle}
-use Rattle.fx_audit.specs.Commands.{AreLinted, IsAudited, IsChecked, IsCollected, IsConfirmed, IsDone, IsLinted, IsRefusedBundle, IsRefusedCheck, IsRefusedCollect, IsRefusedConfirm, IsRefusedReplay, IsReplayed}
-use Rattle.fx_audit.specs.Documents.{IsRefusedByDocuments, IsRefusedNetwork}
+use Rattle.fx_audit.specs.Commands.{AreLinted, IsAudited, IsCollected, IsConfirmed, IsDone, IsLinted, IsRefusedBundle, IsRefusedCollect, IsRefusedConfirm, IsRefusedReplay, IsReplayed}
+use Rattle.fx_checker.specs.Documents.{IsRefusedByDocuments, IsRefusedNetwork}
 use Rattle.fx_audit.specs.Metering.{IsMetered, IsRefusedMetering}
 use Rattle.fx_audit.specs.Sums.{IsRefusedSum, IsSummed}
 use Rattle.fx_cli.specs.Drawing.{IsDrawingText}
 use Rattle.fx_cli.specs.Explaining.{IsExplainText}
-use Rattle.fx_cli.specs.Ending.{refusal_line, refusal_status, status}
+use Rattle.fx_checker.specs.Ending.{refusal_line, refusal_status, status}
 use Rattle.fx_command_line.specs.declared.words.Call.{Call}
 use Rattle.fx_command_line.specs.declared.words.Call.TheVariants.{Audit, Check, Collect, Confirm, Draw, Explain, Lint, Replay, Run, Sum}
+use Rattle.fx_checker.specs.Running.{IsAtBeginning, ForSomeTexts, IsCheckOutput, IsCheckRefusal, IsRefusal}
 
 -- ---- the possible contents of a command's files
-
--- a reader of lines that has read none yet
-abbrev pub IsAtBeginning : Lines → Type 0
-IsAtBeginning lines = (lines.stopped ≡ None) × (lines.number ≡ 0)
 
 -- some octets, possible contents of a network's document, satisfy the predicate
 abbrev pub ForSomeNetwork : (List ℕ → Type 0) → Type 0
@@ -35,10 +32,6 @@ ForSomeNetwork P = (network : List ℕ) × P network
 abbrev pub ForSomeDocuments : (List ℕ → List ℕ → Type 0) → Type 0
 ForSomeDocuments P = (network : List ℕ) × (traffic : List ℕ) × P network traffic
 
--- possible contents of two documents, and a third text that is read line by line from its beginning, satisfy the predicate
-abbrev pub ForSomeTexts : (List ℕ → List ℕ → Lines → Type 0) → Type 0
-ForSomeTexts P = (network : List ℕ) × (traffic : List ℕ) × (lines : Lines) × IsAtBeginning lines × P network traffic lines
-
 -- ---- what a command prints: the true answer for possible contents of its files
 
 abbrev pub IsReplayOutput : Answer → List ℕ → Type 0
@@ -46,9 +39,6 @@ IsReplayOutput answer text = (answer ≡ Yes) × ForSomeTexts (λ network traffi
 
 abbrev pub IsCollectOutput : Answer → List ℕ → Type 0
 IsCollectOutput answer text = (answer ≡ Yes) × ForSomeDocuments (λ network stream. IsCollected network stream text)
-
-abbrev pub IsCheckOutput : Answer → List ℕ → Type 0
-IsCheckOutput answer text = ForSomeTexts (λ network traffic lines. IsChecked network traffic lines answer text)
 
 abbrev pub IsConfirmOutput : Answer → List ℕ → Type 0
 IsConfirmOutput answer text = ForSomeTexts (λ network traffic lines. IsConfirmed network traffic lines answer text)
@@ -104,9 +94,6 @@ IsReplayRefusal e = ForSomeTexts (λ network traffic lines. IsRefusedReplay netw
 abbrev pub IsCollectRefusal : Fault → Type 0
 IsCollectRefusal e = ForSomeDocuments (λ network stream. IsRefusedCollect network stream e)
 
-abbrev pub IsCheckRefusal : Fault → Type 0
-IsCheckRefusal e = ForSomeTexts (λ network traffic lines. IsRefusedCheck network traffic lines e)
-
 abbrev pub IsConfirmRefusal : Fault → Type 0
 IsConfirmRefusal e = ForSomeTexts (λ network traffic lines. IsRefusedConfirm network traffic lines e)
 
@@ -138,10 +125,6 @@ IsSumRefusal e = ForSomeNetwork (λ network. ((lines : Lines) × IsAtBeginning l
 abbrev pub IsBundleRefusal : Fault → Type 0
 IsBundleRefusal e = (octets : List ℕ) × IsRefusedBundle octets e
 
--- out of memory, a device that can't be read, or one of the command's own refusals
-abbrev pub IsRefusal : (Fault → Type 0) → Fault → Type 0
-IsRefusal IsOwn e = IsMemory e ⊎ ((e ≡ fault_at failed_read places.None) ⊎ IsOwn e)
-
 -- the refusal of a call; a drawing may have any, and an explanation, which reads no input, has only out of memory
 abbrev pub IsCallRefusal : Call → Fault → Type 0
 IsCallRefusal (Replay network traffic run) e = IsRefusal IsReplayRefusal e
@@ -157,23 +140,10 @@ IsCallRefusal (Explain number) e = IsMemory e
 
 -- ---- how the program ends
 
--- The final state of the output: its last call failed, or a call failed and then the line that reports this was written.
-abbrev pub HasFailedToWrite : {S : Type 0} → (S → Option (List ℕ)) → (S → Bool) → S → Type 0
-HasFailedToWrite {S} taken failed new = (failed new ≡ true) ⊎ ((then : S) × (failed then ≡ true) × Writes (taken then) (taken new) (refusal_line (fault_at failed_write places.None)))
-
 -- the same, with an explanation after that line
 abbrev pub HasFailedExplained : {S : Type 0} → (S → Option (List ℕ)) → (S → Bool) → S → Type 0
 HasFailedExplained {S} taken failed new =
     (failed new ≡ true) ⊎ ((then : S) × (words : List ℕ) × (failed then ≡ true) × Writes (taken then) (taken new) (refusal_line (fault_at failed_write places.None) ++ words))
-
--- How the program ends: with the text of an answer and that answer's status; with the line of a refusal that is possible
--- here, and nothing else, and that refusal's status; or with 5 if a write failed. In the first two cases `Going` says that
--- no write failed.
-abbrev pub EndsAs : (Answer → List ℕ → Type 0) → (Fault → Type 0) → Option (List ℕ) → Option (List ℕ) → Type 0 → Type 0 → ℕ → Type 0
-EndsAs IsText IsRefused old new Going Failed code =
-    (Going × ((answer : Answer) × (text : List ℕ) × IsText answer text × Writes old new text × (code ≡ status (Ok answer))))
-    ⊎ ((Going × ((e : Fault) × IsRefused e × Writes old new (refusal_line e) × (code ≡ refusal_status e)))
-    ⊎ ((code ≡ 5) × Failed))
 
 -- The same, with an explanation after the answer's text or the line of the refusal.
 abbrev pub EndsExplained : (Answer → List ℕ → Type 0) → (Fault → Type 0) → Option (List ℕ) → Option (List ℕ) → Type 0 → Type 0 → ℕ → Type 0

@@ -3,12 +3,13 @@ ghost use Rattle.std.specs.Prelude.{◌≡◌, ◌⊎◌, IfErr, IfOk, is_some, 
 ghost use Rattle.fx_base.specs.Fault.{fault_at, IsMemory};
 ghost use Rattle.fx_base.specs.Refusals.{failed_read};
 ghost use Rattle.fx_base.specs.declared.fault.Place.TheVariants as places;
-ghost use Rattle.fx_audit.specs.Outputs.{AnswersWith, FailsQuietly, Prints};
+ghost use Rattle.fx_checker.specs.Outputs.{AnswersWith, FailsQuietly, Prints};
 ghost use Rattle.fx_base.specs.Device.{IsWriteFault};
-ghost use Rattle.fx_audit.specs.Documents.{BothMayHaveLeft};
+ghost use Rattle.fx_checker.specs.Documents.{BothMayHaveLeft};
 ghost use Rattle.fx_audit.specs.Metering.{IsMetered, IsRefusedMetering, IsStateOfSource};
-ghost use Rattle.fx_audit.specs.declared.answer.Answer.TheVariants.{Yes};
-ghost use Rattle.fx_cli.specs.Running.{IsDocumentsRefusal, IsAtBeginning, IsCallRefusal, IsCallText, IsCheckRefusal, IsCheckOutput, IsCollectRefusal, IsCollectOutput, IsConfirmRefusal, IsConfirmOutput, IsLintRefusal, IsLintOutput, IsRunOutput, IsRefusal, IsReplayRefusal, IsReplayOutput, IsRunRefusal, IsSumRefusal, IsSumOutput, IsAuditOutput};
+ghost use Rattle.fx_checker.specs.declared.answer.Answer.TheVariants.{Yes};
+ghost use Rattle.fx_cli.specs.Running.{IsDocumentsRefusal, IsCallRefusal, IsCallText, IsCollectRefusal, IsCollectOutput, IsConfirmRefusal, IsConfirmOutput, IsLintRefusal, IsLintOutput, IsRunOutput, IsReplayRefusal, IsReplayOutput, IsRunRefusal, IsSumRefusal, IsSumOutput, IsAuditOutput};
+ghost use Rattle.fx_checker.specs.Running.{IsAtBeginning, IsCheckRefusal, IsCheckOutput, IsRefusal};
 
 use crate::drawing::draw;
 use crate::explaining::explain_bytes;

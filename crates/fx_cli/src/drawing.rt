@@ -1,5 +1,5 @@
 //! The command that draws documents.
-ghost use Rattle.fx_audit.specs.Outputs.{AnswersWith};
+ghost use Rattle.fx_checker.specs.Outputs.{AnswersWith};
 ghost use Rattle.fx_cli.specs.Drawing.{IsDrawingText};
 
 use crate::files::open;

@@ -1,7 +1,7 @@
 //! The command that explains the numbers of refusals.
 ghost use Rattle.std.specs.Prelude.{◌≡◌, IfErr, Some};
 ghost use Rattle.fx_base.specs.Device.{IsWriteFault};
-ghost use Rattle.fx_audit.specs.Outputs.{AnswersWith};
+ghost use Rattle.fx_checker.specs.Outputs.{AnswersWith};
 ghost use Rattle.fx_elements.specs.Spelling.{largest, number_of};
 ghost use Rattle.fx_cli.specs.Explaining.{IsExplained, IsExplainText, small};
 

@@ -1,17 +1,17 @@
 //! Answers as JSON objects.
 ghost use Rattle.std.specs.Prelude.{◌≡◌, ◌⊎◌, ◌≤◌, ◌<◌, ◌++◌, Some, IfErr, IfOk, length, map, string_bytes, true};
-ghost use Rattle.fx_base.specs.Device.{KeepsGoing};
-ghost use Rattle.fx_cli.specs.ArgumentErrors.{EndsWithoutCall, memory_line};
-ghost use Rattle.fx_cli.specs.Ending.{EndsWith, IsExitStatus, refusal_line, refusal_status, status};
+ghost use Rattle.fx_cli.specs.ArgumentErrors.{EndsWithoutCall};
+ghost use Rattle.fx_checker.specs.Ending.{EndsWith, IsExitStatus, refusal_line, refusal_status, status};
 ghost use Rattle.fx_cli.specs.InJson.{EndsAnswered, EndsInJson, EndsRefused, memory_object};
-ghost use Rattle.fx_cli.specs.Running.{IsBundleOutput, IsBundleRefusal, IsCallRefusal, IsCallText, IsRefusal};
+ghost use Rattle.fx_cli.specs.Running.{IsBundleOutput, IsBundleRefusal, IsCallRefusal, IsCallText};
 ghost use Rattle.fx_command_line.specs.Words.{Names, NamesNoCall};
 ghost use Rattle.fx_command_line.specs.declared.words.Call.{Call};
+ghost use Rattle.fx_checker.specs.Arguments.{memory_line};
+ghost use Rattle.fx_checker.specs.Running.{IsRefusal};
 
 use crate::answer_words::{answer_word, command_word, has_totals, roles_of};
 use crate::argument_errors::finish_arguments;
 use crate::commands::answer_call;
-use crate::ending::{WRITE_FAILED, finish};
 use crate::explained_answer::{asked_of, explanation_of};
 use crate::file_names::{BUNDLE, names_of};
 use crate::notes::Notes;
@@ -19,6 +19,7 @@ use crate::running::answer_input;
 use crate::sentences::{Wanted, wanted_of};
 use fx_audit::Answer;
 use fx_base::{Fault, Place, Sink, put_text, refusals};
+use fx_checker::{WRITE_FAILED, finish};
 use fx_command_line::{Call, read_words};
 use fx_json_answers::{Answered, Context, TextBuffer, put_answer};
 use std::random::RandomSource;

@@ -7,7 +7,6 @@ mod argument_errors;
 mod bundles;
 mod commands;
 mod drawing;
-mod ending;
 mod explained_answer;
 mod explaining;
 mod file_names;
@@ -25,7 +24,7 @@ mod running;
 mod seeds;
 mod sentences;
 
-pub use argument_errors::{finish_arguments, finish_unread};
-pub use ending::finish;
+pub use argument_errors::finish_arguments;
+pub use fx_checker::{finish, finish_unread};
 pub use fx_command_line::{Call, read_words};
 pub use running::run;

@@ -1,19 +1,20 @@
 //! A command, from its arguments to its exit status.
 ghost use Rattle.std.specs.Prelude.{◌≡◌, ◌⊎◌, ◌≤◌, ◌<◌, IfErr, IfOk, length, map, string_bytes, true, false};
-ghost use Rattle.fx_audit.specs.Outputs.{AnswersWith};
-ghost use Rattle.fx_cli.specs.Ending.{EndsWith, IsExitStatus};
+ghost use Rattle.fx_checker.specs.Outputs.{AnswersWith};
+ghost use Rattle.fx_checker.specs.Ending.{EndsWith, IsExitStatus};
 ghost use Rattle.fx_cli.specs.Arguments.{EndsByOptions, EndsByGivenArguments, EndsAfterFlush};
 ghost use Rattle.fx_cli.specs.OptionFlag.{AddsHelp, wants_help};
-ghost use Rattle.fx_cli.specs.Running.{EndsAs, EndsExplained, HasFailedExplained, HasFailedToWrite, IsBundleRefusal, IsBundleOutput, IsCallRefusal, IsCallText, IsRefusal};
+ghost use Rattle.fx_cli.specs.Running.{EndsExplained, HasFailedExplained, IsBundleRefusal, IsBundleOutput, IsCallRefusal, IsCallText};
 ghost use Rattle.fx_command_line.specs.Words.{Names, NamesNoCall};
 ghost use Rattle.fx_command_line.specs.declared.words.Call.{Call};
-ghost use Rattle.fx_cli.specs.ArgumentErrors.{EndsWithoutCall, unread_status, unread_text};
+ghost use Rattle.fx_cli.specs.ArgumentErrors.{EndsWithoutCall};
 ghost use Rattle.std.specs.IoError.{error_kind};
 ghost use Rattle.fx_base.specs.Device.{IsWriteFault, KeepsGoing};
+ghost use Rattle.fx_checker.specs.Running.{EndsAs, HasFailedToWrite, IsRefusal};
+ghost use Rattle.fx_checker.specs.Arguments.{unread_status, unread_text};
 
-use crate::argument_errors::{finish_arguments, finish_unread};
+use crate::argument_errors::finish_arguments;
 use crate::commands::answer_call;
-use crate::ending::{WRITE_FAILED, finish, finish_with};
 use crate::explained_answer::explanation_of;
 use crate::file_names::{BUNDLE, names_of};
 use crate::in_json::answer_in_json;
@@ -23,12 +24,13 @@ use crate::seeds::seed_at_random;
 use crate::sentences::{Wanted, wanted_of};
 use fx_audit::{Answer, bundle_explained};
 use fx_base::{Fault, Outside, Sink, refusals};
+use fx_checker::{WRITE_FAILED, all_arguments, finish, finish_unread, finish_with};
 use fx_command_line::{Call, read_words};
 use std::alloc::{AllocError, Global};
 use std::io::{self, BufWriter};
+use std::mem;
 use std::random::RandomSource;
 use std::rt::{Clock, Env, Files};
-use std::{env, mem};
 
 /// Answers the bundle on standard input.
 pub(crate) fn answer_input<R: AllocGlobal + Input + RandomSource, S: Sink>(
@@ -171,15 +173,6 @@ fn answer_explained<R: AllocGlobal + Clock + Eprint + Files + Input + RandomSour
         Ok(call) => explain_call(rt, &call, progress, sink),
         Err(error) => finish_arguments(rt.alloc(), &error, sink),
     }
-}
-
-/// Returns the arguments of the command line, of which the first is the program's own name.
-fn all_arguments<R: AllocGlobal + Env>(rt: &R) -> io::Result<Vec<String>> {
-    let mut arguments: Vec<String> = Vec::new(rt.alloc());
-    for argument in env::args(rt)? {
-        arguments.push(argument)?;
-    }
-    Ok(arguments)
 }
 
 /// Adds `--help` to the arguments of somebody at a terminal who gave none but the name of the program.

@@ -6,6 +6,7 @@ use crate::gathering::Gathered;
 use fx_audit::{AcceptedDocuments, Answer, Command, Explainer, PacketAt};
 use fx_base::{Fault, Line, Place, refusals};
 use fx_check::Due;
+use fx_checker::CheckExplainer;
 use fx_command_line::Call;
 use fx_explain_documents::{
     put_network_notes, put_refused_network, put_refused_traffic, put_traffic_notes,
@@ -333,7 +334,7 @@ fn is_explained(fault: &Fault) -> bool {
     fault.number < refusals::WANT_OF_MEMORY
 }
 
-impl Explainer for Sentences<'_> {
+impl CheckExplainer for Sentences<'_> {
     fn on_network(&mut self, octets: &[u8], plan: &Plan) {
         self.progressed = Progressed::Network;
         if self.gathers_facts {
@@ -391,7 +392,9 @@ impl Explainer for Sentences<'_> {
             self.words.note(written);
         }
     }
+}
 
+impl Explainer for Sentences<'_> {
     fn on_refutation(&mut self, documents: &AcceptedDocuments, refutation: &Refutation) {
         let documents = lent(documents);
         if self.gathers_facts {

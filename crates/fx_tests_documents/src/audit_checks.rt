@@ -1,7 +1,8 @@
-//! Certificates that are checked over documents, and a reader of one that fails.
+//! Certificates that are checked over documents, a reader of one that fails, and what a check is made of.
 use crate::audit_texts::{CERTIFICATE, NETWORK, TRAFFIC, ending};
 use fx_audit::{Answer, check_bytes};
-use fx_base::{Fuse, LineReader, Octets, Room};
+use fx_base::{Fault, Fuse, LineReader, Octets, Room};
+use fx_checker::{Unexplained, answer_refusal, network_from, read_documents};
 use std::alloc::Global;
 use std::process::Abort;
 
@@ -41,4 +42,44 @@ fn checks_a_certificate(rt: HostRuntime) {
     for (certificate, call, wanted, text) in &CHECKED {
         assert!(rt; ends(&rt, rt.alloc(), *certificate, *call, *wanted, *text));
     }
+}
+
+/// Returns the number of the fault with which reading these octets as a network document fails, or 0.
+fn network_fault(alloc: Global, octets: &[u8]) -> u16 {
+    match network_from(alloc, &mut Octets::new(octets), &mut Unexplained) {
+        Ok(_) => 0,
+        Err(fault) => fault.number,
+    }
+}
+
+/// Returns the number of the fault with which reading these documents fails, or 0.
+fn documents_fault(alloc: Global, network: &[u8], traffic: &[u8]) -> u16 {
+    let mut network = Octets::new(network);
+    let mut traffic = Octets::new(traffic);
+    match read_documents(alloc, &mut network, &mut traffic, &mut Unexplained) {
+        Ok(_) => 0,
+        Err(fault) => fault.number,
+    }
+}
+
+#[test]
+fn reads_documents(rt: HostRuntime) {
+    assert!(rt; network_fault(rt.alloc(), NETWORK.as_bytes()) == 0);
+    assert!(rt; network_fault(rt.alloc(), b"{") == 101);
+    assert!(rt; documents_fault(rt.alloc(), NETWORK.as_bytes(), TRAFFIC.as_bytes()) == 0);
+    assert!(rt; documents_fault(rt.alloc(), NETWORK.as_bytes(), b"{}") == 103);
+}
+
+/// Returns whether a refusal, answered no if its number is in 401 to 415, has this outcome and writes this text.
+fn is_answered(fault: Fault, wanted: Result<Answer, u16>, text: &[u8]) -> bool {
+    let mut octets = [0u8; 64];
+    let mut room = Room::new(&mut octets);
+    let outcome = answer_refusal(&mut room, fault, 401, 415);
+    (ending(outcome) == wanted) & (room.octets() == text)
+}
+
+#[test]
+fn answers_refusals(rt: HostRuntime) {
+    assert!(rt; is_answered(Fault::at_line(415, 3), Ok(Answer::No), b"no 415 line 3\n"));
+    assert!(rt; is_answered(Fault::bare(900), Err(900), b""));
 }

@@ -1,8 +1,9 @@
 use Rattle.fx_audit.specs.Audits.{IsAuditedIn}
 use Rattle.fx_audit.proofs.Audits.{audit_unread}
-use Rattle.fx_audit.proofs.Documents.{documents_done, exit_with}
-use Rattle.fx_audit.proofs.Texts.{audit_text, told_as}
+use Rattle.fx_checker.proofs.Documents.{documents_done, exit_with}
+use Rattle.fx_audit.proofs.Texts.{audit_text}
 use Rattle.fx_audit.proofs.audit_command.audit_explained.Goals as goal
+use Rattle.fx_checker.proofs.Texts.{told_as}
 
 pub returns-clause-ok : goal.returns-clause-ok
 returns-clause-ok g c =

@@ -1,7 +1,8 @@
 use Rattle.std.proofs.Common.{inr}
 use Rattle.fx_audit.proofs.Commands.{bundle_done, bundle_refused, no_bundle}
-use Rattle.fx_audit.proofs.Texts.{bundle_text, told_as}
+use Rattle.fx_audit.proofs.Texts.{bundle_text}
 use Rattle.fx_audit.proofs.bundle_command.bundle_explained.Goals as goal
+use Rattle.fx_checker.proofs.Texts.{told_as}
 
 pub returns-in_default-clause-err : goal.returns-in_default-clause-err
 returns-in_default-clause-err g c =

@@ -1,6 +1,7 @@
-use Rattle.fx_audit.proofs.Collects.{collect_done, collect_refused, collect_unread, network_faultless}
-use Rattle.fx_audit.proofs.Documents.{exit_with}
+use Rattle.fx_audit.proofs.Collects.{collect_done, collect_refused, collect_unread}
+use Rattle.fx_checker.proofs.Documents.{exit_with}
 use Rattle.fx_audit.proofs.collect_command.collect_explained.Goals as goal
+use Rattle.fx_checker.proofs.Faultless.{network_faultless}
 
 pub returns-clause-ok : goal.returns-clause-ok
 returns-clause-ok g c =

@@ -4,7 +4,7 @@ use Rattle.std.specs.Io.KnownBytes.{prepend_known}
 use Rattle.fx_base.proofs.Asked.{asked_then, asked_so_often}
 use Rattle.fx_base.specs.Pieces.{Pieces}
 use Rattle.fx_audit.proofs.Streams.{begun, piece_refused, read_further}
-use Rattle.fx_audit.proofs.Documents.{exit_with}
+use Rattle.fx_checker.proofs.Documents.{exit_with}
 use Rattle.fx_audit.proofs.collecting.tally_stream.Goals as goal
 
 pub pieces-init : goal.pieces-init

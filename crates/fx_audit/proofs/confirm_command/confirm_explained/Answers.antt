@@ -1,8 +1,9 @@
 use Rattle.fx_audit.specs.Confirms.{IsConfirmedIn, IsRefusedOtherwise}
-use Rattle.fx_audit.proofs.Collects.{documents_faultless, network_faultless}
-use Rattle.fx_audit.proofs.Documents.{documents_done, documents_refused, documents_unread, exit_with}
-use Rattle.fx_audit.proofs.Texts.{confirm_text, told_as}
+use Rattle.fx_checker.proofs.Documents.{documents_done, documents_refused, documents_unread, exit_with}
+use Rattle.fx_audit.proofs.Texts.{confirm_text}
 use Rattle.fx_audit.proofs.confirm_command.confirm_explained.Goals as goal
+use Rattle.fx_checker.proofs.Faultless.{documents_faultless, network_faultless}
+use Rattle.fx_checker.proofs.Texts.{told_as}
 
 pub returns-clause-ok : goal.returns-clause-ok
 returns-clause-ok g c =

@@ -1,6 +1,6 @@
 use Rattle.fx_audit.specs.Confirms.{IsRefusedRefutation}
 use Rattle.fx_audit.proofs.Confirms.{passed_as_it_is, refutation_answered, refuted_answered}
-use Rattle.fx_audit.proofs.Refusals.{refused_otherwise}
+use Rattle.fx_checker.proofs.Refusals.{refused_otherwise}
 use Rattle.fx_audit.proofs.confirm_command.confirm_lines.Goals as goal
 
 pub returns-in-Ok-clause-answers : goal.returns-in-Ok-clause-answers

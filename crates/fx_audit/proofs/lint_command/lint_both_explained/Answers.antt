@@ -1,5 +1,5 @@
 use Rattle.std.proofs.Common.{inl, inr}
-use Rattle.fx_audit.proofs.Documents.{exit_with}
+use Rattle.fx_checker.proofs.Documents.{exit_with}
 use Rattle.fx_audit.proofs.lint_command.lint_both_explained.Goals as goal
 
 pub returns-in_err-read_documents-clause-err : goal.returns-in_err-read_documents-clause-err

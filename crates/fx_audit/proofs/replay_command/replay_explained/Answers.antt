@@ -1,8 +1,9 @@
 use Rattle.fx_audit.specs.Commands.{IsRefusedRun, IsReplayedIn}
-use Rattle.fx_audit.proofs.Collects.{documents_faultless, network_faultless}
-use Rattle.fx_audit.proofs.Documents.{documents_done_yes, documents_refused, documents_unread, exit_with}
-use Rattle.fx_audit.proofs.Texts.{replay_text, yes_told_as}
+use Rattle.fx_checker.proofs.Documents.{documents_done_yes, documents_refused, documents_unread, exit_with}
+use Rattle.fx_audit.proofs.Texts.{replay_text}
 use Rattle.fx_audit.proofs.replay_command.replay_explained.Goals as goal
+use Rattle.fx_checker.proofs.Faultless.{documents_faultless, network_faultless}
+use Rattle.fx_checker.proofs.Texts.{yes_told_as}
 
 pub returns-clause-ok : goal.returns-clause-ok
 returns-clause-ok g c =

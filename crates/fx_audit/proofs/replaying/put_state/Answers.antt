@@ -7,7 +7,7 @@ use Rattle.fx_machine.specs.States.{State, Complete}
 use Rattle.fx_collect.specs.Totals.{Totals, totals_in}
 use Rattle.fx_collect.specs.Report.{totals_text}
 use Rattle.fx_audit.specs.Confirms.{IsInOrder}
-use Rattle.fx_audit.specs.Outputs.{Prints}
+use Rattle.fx_checker.specs.Outputs.{Prints}
 use Rattle.fx_audit.specs.Replay.{complete_line, IsTextOf}
 use Rattle.fx_audit.proofs.replaying.put_state.Goals as goal
 

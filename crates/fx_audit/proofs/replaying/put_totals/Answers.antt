@@ -5,7 +5,7 @@ use Rattle.fx_base.proofs.Writing.{writes_both}
 use Rattle.fx_collect.specs.Totals.{Totals}
 use Rattle.fx_collect.specs.Report.{totals_text}
 use Rattle.fx_audit.specs.Confirms.{IsInOrder}
-use Rattle.fx_audit.specs.Outputs.{Prints}
+use Rattle.fx_checker.specs.Outputs.{Prints}
 use Rattle.fx_audit.specs.Replay.{complete_line}
 use Rattle.fx_audit.proofs.replaying.put_totals.Goals as goal
 

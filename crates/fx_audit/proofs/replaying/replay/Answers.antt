@@ -1,7 +1,7 @@
 use Rattle.std.proofs.Common.{refl, subst}
 use Rattle.fx_tables.specs.Network.{Net}
 use Rattle.fx_machine.specs.States.{State}
-use Rattle.fx_audit.specs.Outputs.{Prints}
+use Rattle.fx_checker.specs.Outputs.{Prints}
 use Rattle.fx_audit.specs.Replay.{IsTextOf}
 use Rattle.fx_audit.proofs.Replays.{tells_its_own}
 use Rattle.fx_audit.proofs.replaying.replay.Goals as goal

@@ -1,6 +1,6 @@
 use Rattle.std.proofs.Common.{arith, rules}
 use Rattle.fx_audit.specs.Metering.{IsStateOfSource}
-use Rattle.fx_audit.proofs.Documents.{exit_with}
+use Rattle.fx_checker.proofs.Documents.{exit_with}
 use Rattle.fx_audit.proofs.Metering.{header_faultless, refused_behind}
 use Rattle.fx_audit.proofs.run_command.meter.Goals as goal
 

@@ -1,5 +1,5 @@
 use Rattle.std.proofs.Common.{arith, rules}
-use Rattle.fx_audit.proofs.Documents.{exit_with}
+use Rattle.fx_checker.proofs.Documents.{exit_with}
 use Rattle.fx_audit.proofs.Metering.{unmetered}
 use Rattle.fx_audit.proofs.run_command.run_capture.Goals as goal
 

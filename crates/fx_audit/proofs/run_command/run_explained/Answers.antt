@@ -1,9 +1,9 @@
 use Rattle.std.proofs.Common.{refl}
-use Rattle.fx_audit.proofs.Collects.{documents_faultless}
-use Rattle.fx_audit.proofs.Documents.{exit_with}
+use Rattle.fx_checker.proofs.Documents.{exit_with}
 use Rattle.fx_audit.proofs.Metering.{run_done, run_refused, run_unread}
-use Rattle.fx_audit.proofs.Texts.{yes_told_as}
 use Rattle.fx_audit.proofs.run_command.run_explained.Goals as goal
+use Rattle.fx_checker.proofs.Faultless.{documents_faultless}
+use Rattle.fx_checker.proofs.Texts.{yes_told_as}
 
 pub returns-clause-ok : goal.returns-clause-ok
 returns-clause-ok g c =

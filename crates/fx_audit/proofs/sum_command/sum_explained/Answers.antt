@@ -1,9 +1,9 @@
 use Rattle.std.proofs.Common.{◌∙◌, ap}
 use Rattle.fx_tables.specs.Network.{Net}
-use Rattle.fx_audit.proofs.Collects.{network_faultless}
-use Rattle.fx_audit.proofs.Documents.{exit_with}
+use Rattle.fx_checker.proofs.Documents.{exit_with}
 use Rattle.fx_audit.proofs.Sums.{sum_refused, sum_unread}
 use Rattle.fx_audit.proofs.sum_command.sum_explained.Goals as goal
+use Rattle.fx_checker.proofs.Faultless.{network_faultless}
 
 pub returns-in_err-plan-clause-err : goal.returns-in_err-plan-clause-err
 returns-in_err-plan-clause-err g c =

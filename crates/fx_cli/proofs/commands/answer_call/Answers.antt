@@ -1,5 +1,5 @@
 use Rattle.std.proofs.Common.{sym, subst}
-use Rattle.fx_audit.specs.Outputs.{AnswersWith}
+use Rattle.fx_checker.specs.Outputs.{AnswersWith}
 use Rattle.fx_command_line.specs.declared.words.Call.{Call}
 use Rattle.fx_cli.specs.Running.{IsCallText}
 use Rattle.fx_cli.proofs.commands.answer_call.Goals as goal

@@ -1,7 +1,7 @@
 use Rattle.std.proofs.Common.{None}
 use Rattle.fx_audit.specs.Commands.{IsAudited}
 use Rattle.fx_cli.proofs.CallOutputs.{of_documents}
-use Rattle.fx_audit.specs.Documents.{IsRefusedByDocuments}
+use Rattle.fx_checker.specs.Documents.{IsRefusedByDocuments}
 use Rattle.fx_cli.proofs.CallRefusals.{documents_refused}
 use Rattle.fx_cli.proofs.commands.audit.Goals as goal
 

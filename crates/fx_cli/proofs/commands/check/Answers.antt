@@ -1,8 +1,8 @@
 use Rattle.std.proofs.Common.{None}
-use Rattle.fx_audit.specs.Commands.{IsChecked, IsRefusedCheck}
-use Rattle.fx_cli.proofs.CallOutputs.{of_texts}
-use Rattle.fx_cli.proofs.CallRefusals.{texts_refused}
 use Rattle.fx_cli.proofs.commands.check.Goals as goal
+use Rattle.fx_checker.specs.Checks.{IsChecked, IsRefusedCheck}
+use Rattle.fx_checker.proofs.Outputs.{of_texts}
+use Rattle.fx_checker.proofs.RefusedTexts.{texts_refused}
 
 pub returns-clause-answers : goal.returns-clause-answers
 returns-clause-answers g c = (of_texts (λ answer n t lines text. IsChecked n t lines answer text) _ c.check_explained.result None None _ _ c.in_ok-network.ensures.ok c.check_explained.ensures.ok, c.check_explained.ensures.answers.1)

@@ -1,11 +1,12 @@
 use Rattle.std.proofs.Common.{Option, Bool, ap, sym, subst, ◌⊎◌}
 use Rattle.std.specs.Prelude.{IfErr, is_some}
 use Rattle.fx_base.specs.Device.{IsWriteFault}
-use Rattle.fx_cli.specs.Running.{IsRunOutput, IsRefusal, IsRunRefusal}
+use Rattle.fx_cli.specs.Running.{IsRunOutput, IsRunRefusal}
 use Rattle.fx_cli.proofs.CallOutputs.{answers_as}
 use Rattle.fx_cli.proofs.CallRefusals.{refused_as}
 use Rattle.fx_cli.proofs.commands.run_capture.Goals as goal
 use Rattle.fx_cli.proofs.commands.run_capture.Goals.{in-Some, in-None}
+use Rattle.fx_checker.specs.Running.{IsRefusal}
 
 pub returns-clause-answers : goal.returns-clause-answers
 returns-clause-answers g c = elim c.match-links.branch [

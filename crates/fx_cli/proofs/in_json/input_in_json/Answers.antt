@@ -1,6 +1,7 @@
-use Rattle.fx_cli.specs.Running.{IsBundleRefusal, IsBundleOutput, IsRefusal}
+use Rattle.fx_cli.specs.Running.{IsBundleRefusal, IsBundleOutput}
 use Rattle.fx_cli.proofs.EndsInJson.{ended_in_json}
 use Rattle.fx_cli.proofs.in_json.input_in_json.Goals as goal
+use Rattle.fx_checker.specs.Running.{IsRefusal}
 
 pub returns-clause-ended : goal.returns-clause-ended
 returns-clause-ended g c =

@@ -1,10 +1,10 @@
-use Rattle.fx_cli.specs.Ending.{EndsWith}
+use Rattle.fx_checker.specs.Ending.{EndsWith}
 use Rattle.std.proofs.Common.{string_bytes}
 use Rattle.std.specs.IoError.{error_kind}
 use Rattle.fx_cli.specs.Arguments.{EndsByGivenArguments}
-use Rattle.fx_cli.specs.ArgumentErrors.{unread_status, unread_text}
 use Rattle.fx_cli.proofs.AnswersGiven.{if_err_handed, if_ok_handed}
 use Rattle.fx_cli.proofs.running.answer.Goals as goal
+use Rattle.fx_checker.specs.Arguments.{unread_status, unread_text}
 
 pub returns-clause-given : goal.returns-clause-given
 returns-clause-given g c =

@@ -1,6 +1,7 @@
-use Rattle.fx_cli.specs.Running.{IsBundleRefusal, IsBundleOutput, IsRefusal}
+use Rattle.fx_cli.specs.Running.{IsBundleRefusal, IsBundleOutput}
 use Rattle.fx_cli.proofs.CallOutputs.{ended_explained}
 use Rattle.fx_cli.proofs.running.explain_input.Goals as goal
+use Rattle.fx_checker.specs.Running.{IsRefusal}
 
 pub returns-clause-ended : goal.returns-clause-ended
 returns-clause-ended g c =

@@ -1,6 +1,6 @@
 use Rattle.fx_cli.specs.Running.{IsCallRefusal, IsCallText}
-use Rattle.fx_cli.proofs.CallOutputs.{ended}
 use Rattle.fx_cli.proofs.running.finish_call.Goals as goal
+use Rattle.fx_checker.proofs.Outputs.{ended}
 
 pub returns-clause-ended : goal.returns-clause-ended
 returns-clause-ended g c =

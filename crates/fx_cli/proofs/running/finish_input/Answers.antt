@@ -1,6 +1,7 @@
-use Rattle.fx_cli.specs.Running.{IsBundleRefusal, IsBundleOutput, IsRefusal}
-use Rattle.fx_cli.proofs.CallOutputs.{ended}
+use Rattle.fx_cli.specs.Running.{IsBundleRefusal, IsBundleOutput}
 use Rattle.fx_cli.proofs.running.finish_input.Goals as goal
+use Rattle.fx_checker.specs.Running.{IsRefusal}
+use Rattle.fx_checker.proofs.Outputs.{ended}
 
 pub returns-clause-ended : goal.returns-clause-ended
 returns-clause-ended g c =
