@@ -4,7 +4,7 @@ _once()
     local current=${COMP_WORDS[COMP_CWORD]} before=${COMP_WORDS[COMP_CWORD-1]} command= place=0 i options files file
     for ((i = 1; i < COMP_CWORD; i++)); do
         case ${COMP_WORDS[i]} in
-            --format|--limit|--links) [[ ${COMP_WORDS[i+1]} == = ]] && ((i++)); ((i++)) ;;
+            --format|--class|--limit|--links) [[ ${COMP_WORDS[i+1]} == = ]] && ((i++)); ((i++)) ;;
             -*) ;;
             *) if [[ $command ]]; then ((place++)); else command=${COMP_WORDS[i]}; fi ;;
         esac
@@ -19,7 +19,7 @@ _once()
         audit) options="--limit -h --help --explain --format --progress" files=(json json) ;;
         run) options="--links -h --help --explain --format --progress" files=(json json pcap txt) ;;
         lint) options="-h --help --explain --format" files=(json json) ;;
-        draw) options="-h --help --explain --format" files=(json json txt) ;;
+        draw) options="--class -h --help --explain --format" files=(json json txt) ;;
         sum) options="-h --help --explain --format" files=(json txt) ;;
         explain) options="-h --help --explain --format" files=(-) ;;
         help) [[ $place -eq 0 ]] && COMPREPLY=($(compgen -W "replay collect check confirm audit run lint draw sum explain help" -- "$current")); return ;;
@@ -28,6 +28,7 @@ _once()
     file=${files[place]--}
     case $before in
         --format) COMPREPLY=($(compgen -W "json" -- "$current")); return ;;
+        --class) file=- ;;
         --limit) file=- ;;
         --links) file='' ;;
         *) [[ $current == -* ]] && COMPREPLY=($(compgen -W "$options" -- "$current")) && return ;;

@@ -2,8 +2,9 @@
 """drawings.py PROGRAM [GRAPHVIZ]: reads what `once draw` prints, and compares the graph with the documents.
 
 For the networks of the rows and the examples that `once lint` accepts, alone and with their traffic, and for some with names that DOT
-would take for its own signs: the boxes and their contents, and the edges, must be those of the JSON, which is read here independently.
-With certificates and refutations, the marked edges must be those that their lines name. If Graphviz's `dot` is installed (or
+would take for its own signs: the boxes and their contents, and the edges, must be those of the JSON, which is read here independently;
+with traffic, three or more alike devices must be one box. With certificates and refutations, the marked edges must be those that their
+lines name, and the ways from counting caches to the report; with --class, the paths those of that class. If Graphviz's `dot` is installed (or
 GRAPHVIZ), it must accept the drawings of the examples. Prints a line for each fault; the last line is `N passed, N failed`.
 """
 import glob
@@ -149,23 +150,169 @@ def unlike(graph, network):
                 yield f"{node}: the report or not"
 
 
+def ranges(numbers):
+    """Numbers in ascending order as a drawing lists them: 1, 3 to 5."""
+    found = []
+    for number in numbers:
+        if found and found[-1][1] == number - 1:
+            found[-1][1] = number
+        else:
+            found.append([number, number])
+    return ", ".join(str(low) if low == high else f"{low} to {high}" for low, high in found)
+
+
 def unseen_of(network, traffic):
-    """The crossings that no observation point sees, by the nodes' names of their paths: the lines of each."""
+    """The line of each path with the crossings that no observation point sees, by the nodes' names of their paths."""
     points = {}
     for device in network["devices"]:
         points[device["name"]] = device["config"]["ietf-ipfix-psamp:ipfix"].get("observationPoint", [])
     found = {}
     for c, one in enumerate(traffic["classes"], 1):
         for p, path in enumerate(one["paths"], 1):
-            lines = []
+            numbers = []
             for x, crossing in enumerate(path, 1):
                 interface, direction = crossing["interface"], crossing["direction"]
                 sees = (it for it in points[crossing["device"]] if interface in it.get("ifName", []))
                 if not any(it.get("direction", "both") in ("both", direction) for it in sees):
-                    lines.append(f"crossing {x}: {shown(crossing['device'])} {shown(interface)} {direction}")
-            if lines:
-                found[f"unseen{c}_{p}_0"] = ["no observation point", *lines]
+                    numbers.append(x)
+            if numbers:
+                found[f"packets{c}_{p}_0"] = f"unobserved crossings: {ranges(numbers)}"
     return found
+
+
+def unseen_in(graph):
+    """The same lines of a drawing."""
+    lines = ((name, line) for name, (_, lines) in graph.nodes.items() if name.startswith("packets") for line in lines)
+    return {name: line for name, line in lines if line.startswith("unobserved crossings")}
+
+
+# ---- devices that are drawn as one
+
+# How many devices must be alike, and the directions that the label of an observation point ends with.
+LEAST_ALIKE = 3
+DIRECTION = re.compile(r"(?:.* )?(ingress|egress|both directions)$")
+
+
+def parts_of(node):
+    """The kind and the numbers of a node's name."""
+    kind, numbers = re.fullmatch(r"([a-z]+)([0-9_]+)", node).groups()
+    return kind, [int(it) for it in numbers.split("_")]
+
+
+def moved(node, firsts):
+    """The name of the node as which a node is drawn."""
+    kind, (device, *rest) = parts_of(node)
+    if kind in ("packets", "outcome"):
+        return node
+    return f"{kind}{firsts.get(device, device)}_" + "_".join(map(str, rest))
+
+
+def without_interfaces(node, lines):
+    if node.startswith("point"):
+        return [lines[0], DIRECTION.fullmatch(lines[1])[1]]
+    return lines
+
+
+def look(graph, device, firsts):
+    """What is drawn of a device, with 0 for its number and without its interfaces."""
+    own = {**firsts, device: 0}
+    nodes = sorted((moved(n, own), without_interfaces(n, lines)) for n, (inside, lines) in graph.nodes.items() if inside == str(device))
+    edges = [e for e in [*graph.edges, *(it[1:] for it in graph.marked)] if parts_of(e[0])[1][0] == device]
+    return nodes, sorted((moved(f, own), moved(t, own), label) for f, t, label in edges)
+
+
+def folding(graph, apart):
+    """For each device of the drawing of a network alone, the device as which it is drawn with traffic."""
+    devices = sorted(map(int, graph.boxes))
+    firsts = {it: it for it in devices}
+    while True:
+        looks = {it: look(graph, it, firsts) for it in devices}
+        groups = {it: [o for o in devices if looks[o] == looks[it] and o not in apart] for it in devices if it not in apart}
+        after = {it: groups[it][0] if len(groups.get(it, [])) >= LEAST_ALIKE else it for it in devices}
+        if after == firsts:
+            return firsts
+        firsts = after
+
+
+def devices_of_run(network, traffic, text):
+    """The numbers of the devices at which the steps of a refutation are made."""
+    numbers = {device["name"]: at for at, device in enumerate(network["devices"], 1)}
+    found, path = set(), None
+    for line in text.splitlines():
+        words = line.split()
+        if words[0] == "packet":
+            path = traffic["classes"][int(words[1]) - 1]["paths"][int(words[2]) - 1]
+        elif words[0] == "cross":
+            found.add(numbers[path[int(words[2]) - 1]["device"]])
+        elif words[0] == "expire":
+            found.add(int(words[2]))
+        elif words[0] == "arrive":
+            found.add(numbers[network["links"][int(words[1]) - 1]["toDevice"]])
+    return found
+
+
+def label_of(names):
+    """The label of a box of several devices."""
+    more = f" and {len(names) - 3} more" if len(names) > 3 else ""
+    return ", ".join(names[:3]) + more
+
+
+def folded(graph, firsts):
+    """The boxes, nodes and edges of the drawing of a network alone if devices are drawn as one."""
+    drawn = {it for it in firsts.values()}
+    boxes = {str(d): label_of([graph.boxes[str(o)] for o in sorted(firsts) if firsts[o] == d]) for d in drawn}
+    shared = {d for d in drawn if sum(first == d for first in firsts.values()) > 1}
+    nodes = {}
+    for node, (inside, lines) in graph.nodes.items():
+        if parts_of(node)[1][0] in drawn:
+            nodes[node] = (inside, without_interfaces(node, lines) if inside and int(inside) in shared else lines)
+    edges = [(moved(f, firsts), moved(t, firsts), label) for f, t, label in graph.edges if parts_of(f)[1][0] in drawn]
+    return boxes, nodes, sorted(edges)
+
+
+def unfolded(graph, alone, firsts):
+    """Yields what of a drawing isn't what that of the network alone says, with devices drawn as one."""
+    boxes, nodes, edges = folded(alone, firsts)
+    if graph.boxes != boxes:
+        yield f"boxes {graph.boxes}, not {boxes}"
+    drawn = {n: it for n, it in graph.nodes.items() if not n.startswith(("packets", "outcome"))}
+    if drawn != nodes:
+        yield f"nodes {sorted(set(map(str, drawn.items())) ^ set(map(str, nodes.items())))[:4]}"
+    if sorted(graph.edges) != edges:
+        yield f"edges {sorted(set(graph.edges) ^ set(edges))[:4]}"
+
+
+# ---- what an answer marks
+
+def ways_of(graph, report):
+    """The edges on which records of the caches that count packets may reach the report."""
+    after, before = {}, {}
+    for start, end, _ in graph.edges:
+        after.setdefault(start, set()).add(end)
+        before.setdefault(end, set()).add(start)
+
+    def reached(starts, edges):
+        found, left = set(), list(starts)
+        while left:
+            node = left.pop()
+            if node not in found:
+                found.add(node)
+                left += edges.get(node, ())
+        return found
+
+    counted = {b for colour, a, b, label in graph.marked if colour == "darkgreen" and label and b.startswith("cache")}
+    from_caches, to_report = reached(counted, after), reached([report], before)
+    return {(a, b) for a, ends in after.items() for b in ends if a in from_caches and b in to_report}
+
+
+def report_in(network):
+    """The node of the collecting process of the report."""
+    report = network["report"]
+    for number, device in enumerate(network["devices"], 1):
+        for at, process in enumerate(device["config"]["ietf-ipfix-psamp:ipfix"].get("collectingProcess", []), 1):
+            if (device["name"], process["name"]) == (report["device"], report["collectingProcess"]):
+                return f"collector{number}_{at}_0"
+    return None
 
 
 def leaves(certificate):
@@ -180,11 +327,15 @@ def leaves(certificate):
     return found
 
 
-def unmarked(graph, text):
-    """Yields what of the marks isn't what a certificate or a refutation says."""
+def unmarked(graph, network, text, firsts, number):
+    """Yields what of the marks isn't what a certificate or a refutation says; of one class alone if its number is given."""
     if text.startswith("once-certificate"):
+        ways = {(a, b) for colour, a, b, label in graph.marked if colour == "darkgreen" and not label}
+        due = ways_of(graph, moved(report_in(network), firsts))
+        if ways != due:
+            yield f"ways {sorted(ways ^ due)[:4]}"
         marks = {(a, b, label) for colour, a, b, label in graph.marked if colour == "darkgreen" and a.startswith("packets")}
-        told = {(f"packets{c}_{p}_0", int(point), f"counted at crossing {x}") for c, p, x, point in leaves(text)}
+        told = {(f"packets{c}_{p}_0", int(point), f"counted at crossing {x}") for c, p, x, point in leaves(text) if number in (None, int(c))}
         drawn = {(a, int(b.split("_")[1]), label) for a, b, label in marks}
         if drawn != told:
             yield f"counted {sorted(drawn ^ told)[:4]}"
@@ -214,32 +365,65 @@ class Drawer:
     def run(self, *words):
         return program.run([self.program, *words])
 
-    def draw(self, what, network, *texts):
+    def graph(self, *words):
+        done = self.run("draw", *words)
+        assert done.returncode == 0, f"status {done.returncode}: {done.stdout[:80]!r}"
+        return done.stdout, Graph(done.stdout.decode())
+
+    def faults(self, network, texts, number, words):
+        """Yields the faults of a drawing, of the paths of one class alone if its number is given."""
+        document = loaded(network)
+        alone = self.graph(network)[1]
+        if not texts:
+            yield from unlike(alone, document)
+            return
+        traffic, text = loaded(texts[0]), read(texts[1]) if len(texts) == 2 else ""
+        apart = set() if text.startswith("once-certificate") else devices_of_run(document, traffic, text)
+        firsts = folding(alone, apart)
+        graph = self.graph(network, *texts, *words)[1]
+        yield from unfolded(graph, alone, firsts)
+        due = unseen_of(document, traffic)
+        classes = {number} if number else {at for at, _ in enumerate(traffic["classes"], 1)}
+        run = re.search(r"(?m)^packet (\d+) ", text)
+        classes |= {int(run[1])} if run else set()
+        due = {name: line for name, line in due.items() if parts_of(name)[1][0] in classes}
+        if unseen_in(graph) != due:
+            yield f"unseen {unseen_in(graph)}, not {due}"
+        paths = {f"packets{c}_{p}_0" for c in classes for p, _ in enumerate(traffic["classes"][c - 1]["paths"], 1)}
+        if {n for n in graph.nodes if n.startswith("packets")} != paths:
+            yield "other paths are drawn"
+        if text:
+            yield from unmarked(graph, document, text, firsts, number)
+
+    def draw(self, what, network, *texts, number=None, words=()):
         """Draws, and compares with the network's document: gives what was drawn, and its faults."""
-        with open(network, encoding="utf-8") as file:
-            document = json.load(file)
-        done = self.run("draw", network, *texts)
         try:
-            assert done.returncode == 0, f"status {done.returncode}: {done.stdout[:80]!r}"
-            text = done.stdout.decode()
-            graph = Graph(text)
-            faults = list(unlike(graph, document))
-            if texts:
-                with open(texts[0], encoding="utf-8") as file:
-                    unseen = unseen_of(document, json.load(file))
-                drawn = {name: lines for name, (_, lines) in graph.nodes.items() if name.startswith("unseen")}
-                if drawn != unseen:
-                    faults.append(f"unseen {drawn}, not {unseen}")
-            if len(texts) == 2:
-                with open(texts[1], encoding="utf-8") as file:
-                    faults += unmarked(graph, file.read())
+            faults = list(self.faults(network, texts, number, words))
             if self.dot and what.startswith("examples"):
-                taken = program.run([self.dot, "-Tcanon"], given=done.stdout, stdout=program.NOWHERE)
+                taken = program.run([self.dot, "-Tcanon"], given=self.graph(network, *texts)[0], stdout=program.NOWHERE)
                 if taken.returncode or taken.stderr:
                     faults.append(f"dot: {taken.stderr.decode()[:100]}")
         except AssertionError as fault:
             faults = [str(fault)]
         return what, faults
+
+    def draw_classes(self, what, network, traffic, answer):
+        """Draws each class alone, and one that isn't there."""
+        for number, one in enumerate(loaded(traffic)["classes"], 1):
+            words = (f"--class={one['name']}",)
+            yield self.draw(f"{what}, class {number}", network, traffic, answer, number=number, words=words)
+        done = self.run("draw", network, traffic, answer, "--class=no such class")
+        found = done.returncode, done.stdout
+        yield f"{what}, no class", [] if found == (2, b"refused 107 /classes\n") else [f"no class has the name: {found}"]
+
+
+def read(path):
+    with open(path, encoding="utf-8") as file:
+        return file.read()
+
+
+def loaded(path):
+    return json.loads(read(path))
 
 
 def drawings(drawer):
@@ -265,6 +449,7 @@ def drawings(drawer):
                 with open(answer, "wb") as file:
                     file.write(done.stdout)
                 yield drawer.draw(f"{what} with its answer", network, traffic, answer)
+                yield from drawer.draw_classes(what, network, traffic, answer)
 
 
 def main(words):

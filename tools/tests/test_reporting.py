@@ -83,7 +83,7 @@ def test_a_packet_that_nothing_meters(once: str, tmp_path: Path, demo: Path) -> 
     assert ["edge-router eth8 ingress, then edge-router eth9 egress" in row[-1] for row in html.rows].count(True) == 1
     assert "wrong" in [row[-1] for row in html.rows if row[1:5] == ["0", "1", "0", "1"]]
     drawn = " ".join(data for tag, data in html.texts if tag == "text")
-    assert "edge-router eth8 ingress" in drawn and "no observation point" in drawn
+    assert "unobserved crossings: 1 to 2" in drawn
 
 
 @pytest.mark.parametrize("name", NAMES)

@@ -82,7 +82,7 @@ IsCallText (Confirm network traffic refutation) answer text = IsConfirmOutput an
 IsCallText (Audit network traffic limit) answer text = IsAuditOutput limit answer text
 IsCallText (Run network traffic capture schedule links) answer text = IsRunOutput answer text
 IsCallText (Lint network traffic) answer text = IsLintOutput (is_some traffic) answer text
-IsCallText (Draw network traffic said) answer text = IsDrawingText answer text
+IsCallText (Draw network traffic said class) answer text = IsDrawingText answer text
 IsCallText (Sum network totals) answer text = IsSumOutput answer text
 IsCallText (Explain number) answer text = IsExplainText (string_bytes number) answer text
 
@@ -134,7 +134,7 @@ IsCallRefusal (Confirm network traffic refutation) e = IsRefusal IsConfirmRefusa
 IsCallRefusal (Audit network traffic limit) e = IsRefusal IsDocumentsRefusal e
 IsCallRefusal (Run network traffic capture schedule links) e = IsRefusal (IsRunRefusal (is_some links)) e
 IsCallRefusal (Lint network traffic) e = IsRefusal (IsLintRefusal (is_some traffic)) e
-IsCallRefusal (Draw network traffic said) e = Unit {0}
+IsCallRefusal (Draw network traffic said class) e = Unit {0}
 IsCallRefusal (Sum network totals) e = IsRefusal IsSumRefusal e
 IsCallRefusal (Explain number) e = IsMemory e
 

@@ -501,11 +501,13 @@ pub(crate) fn answer_call<R: AllocGlobal + Clock + Eprint + Files + RandomSource
             network,
             traffic,
             answer,
+            class,
         } => draw(
             rt,
             network.as_str(),
             traffic.as_deref(),
             answer.as_deref(),
+            class.as_deref(),
             notes,
             sink,
         ),

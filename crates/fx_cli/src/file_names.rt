@@ -92,6 +92,7 @@ pub(crate) fn names_of(call: &Call) -> FileNames<'_> {
             network,
             traffic,
             answer,
+            ..
         } => with_documents(
             network.as_str(),
             given(traffic.as_deref()),

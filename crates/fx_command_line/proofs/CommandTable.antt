@@ -48,7 +48,15 @@ taking_of run = record {
   default = [];
 }
 taking_of lint = some_files (codes "lint") 1 (codes "NETWORK" ∷ codes "TRAFFIC" ∷ [])
-taking_of draw = some_files (codes "draw") 1 (documents_and (codes "ANSWER"))
+taking_of draw = record {
+  command = codes "draw";
+  ids = documents_and (codes "ANSWER");
+  fewest = 1;
+  has_option = true;
+  option = codes "class";
+  parser = parsers.String;
+  default = [];
+}
 taking_of sum = files_alone (codes "sum") (codes "NETWORK" ∷ codes "TOTALS" ∷ [])
 taking_of explain = files_alone (codes "explain") (codes "NUMBER" ∷ [])
 
@@ -57,6 +65,9 @@ limit_name = record { alone = refl; with_value = λ value. refl; single = refl; 
 
 links_name : IsName (codes "links")
 links_name = record { alone = refl; with_value = λ value. refl; single = refl; single_with_value = λ value. refl }
+
+class_name : IsName (codes "class")
+class_name = record { alone = refl; with_value = λ value. refl; single = refl; single_with_value = λ value. refl }
 
 pub is_taking : (k : Kind) → IsTaking (taking_of k)
 is_taking replay = takes_files_alone (codes "replay") (documents_and (codes "RUN")) (omega arith) ((refl, (refl, (refl, tt))), ((refl, (refl, tt)), ((refl, tt), (tt, tt))))
@@ -82,7 +93,15 @@ is_taking run = record {
   no_default = λ none. absurd (true≢false none);
 }
 is_taking lint = takes_some_files (codes "lint") 1 (codes "NETWORK" ∷ codes "TRAFFIC" ∷ []) (omega arith) (omega arith) ((refl, (refl, tt)), ((refl, tt), (tt, tt)))
-is_taking draw = takes_some_files (codes "draw") 1 (documents_and (codes "ANSWER")) (omega arith) (omega arith) ((refl, (refl, (refl, tt))), ((refl, (refl, tt)), ((refl, tt), (tt, tt))))
+is_taking draw = record {
+  few = omega arith;
+  fits = omega arith;
+  apart = ((refl, (refl, (refl, tt))), ((refl, (refl, tt)), ((refl, tt), (tt, tt))));
+  name = λ _. class_name;
+  reading = refl;
+  default_fine = refl;
+  no_default = λ none. absurd (true≢false none);
+}
 is_taking sum = takes_files_alone (codes "sum") (codes "NETWORK" ∷ codes "TOTALS" ∷ []) (omega arith) ((refl, (refl, tt)), ((refl, tt), (tt, tt)))
 is_taking explain = takes_files_alone (codes "explain") (codes "NUMBER" ∷ []) (omega arith) ((refl, tt), (tt, tt))
 

@@ -21,8 +21,8 @@ use Rattle.std.specs.Box.{box_value}
 use Rattle.fx_command_line.specs.declared.words.Call.{Call}
 use Rattle.fx_command_line.specs.declared.words.Call.TheVariants.{Audit, Check, Collect, Confirm, Draw, Explain, Lint, Replay, Run, Sum}
 use Rattle.clap.proofs.WalkLemmas.{first_value-rows, one_text-rows}
-use Rattle.fx_command_line.specs.Words.{IsLimitSet, Names, NamesDrawing, NamesFiles, file_given, NamesNoCall, NamesWith}
-use Rattle.fx_command_line.specs.CommandLine.{AreMatchesOf, file_rule, limit_rule, links_rule, number_alone, once_app, over_capture, over_documents, over_network, wants_command}
+use Rattle.fx_command_line.specs.Words.{IsLimitSet, Names, NamesDraw, NamesDrawing, NamesFiles, file_given, NamesNoCall, NamesWith}
+use Rattle.fx_command_line.specs.CommandLine.{AreMatchesOf, class_rule, file_rule, limit_rule, links_rule, number_alone, once_app, over_answer, over_capture, over_documents, over_network, wants_command}
 use Rattle.fx_command_line.specs.Matches.{HoldsFile, HoldsLimit, HasFile, IsAuditOf, IsCheckOf, IsCollectOf, IsConfirmOf, IsDrawOf, IsExplainOf, IsLintOf, IsReplayOf, IsRunCall, IsSumOf}
 use Rattle.fx_command_line.proofs.SingleWords.{Fails}
 use Rattle.fx_command_line.proofs.AcceptedWords.{NamesBy, Refuses, Takes, decide_words}
@@ -71,6 +71,14 @@ any_fine : (links : Option Text) → IsFine (taking_of run) links
 any_fine None = tt
 any_fine (Some text) = (refl, refl)
 
+-- and any name of a class
+class_fine : (class : Option Text) → IsFine (taking_of draw) class
+class_fine None = tt
+class_fine (Some text) = (refl, refl)
+
+drawn_by : {words files : List Text} {class : Option Text} → NamesDraw words files class → NamesBy (taking_of draw) words files class
+drawn_by n = record { program = n.program; rest = n.rest; words_are = n.words_are; named = n.named }
+
 no_call : (words : List Text) → Refuses words → NamesNoCall words
 no_call words r (Replay a b c) n = r.unnamed replay (string_bytes a ∷ string_bytes b ∷ string_bytes c ∷ []) None (omega arith, omega arith) tt (named_alone n)
 no_call words r (Collect a b) n = r.unnamed collect (string_bytes a ∷ string_bytes b ∷ []) None (omega arith, omega arith) tt (named_alone n)
@@ -78,10 +86,12 @@ no_call words r (Check a b c) n = r.unnamed check (string_bytes a ∷ string_byt
 no_call words r (Confirm a b c) n = r.unnamed confirm (string_bytes a ∷ string_bytes b ∷ string_bytes c ∷ []) None (omega arith, omega arith) tt (named_alone n)
 no_call words r (Lint a None) n = r.unnamed lint (string_bytes a ∷ []) None (omega arith, omega arith) tt (named_alone n)
 no_call words r (Lint a (Some b)) n = r.unnamed lint (string_bytes a ∷ string_bytes b ∷ []) None (omega arith, omega arith) tt (named_alone n)
-no_call words r (Draw a None None) n = r.unnamed draw (string_bytes a ∷ []) None (omega arith, omega arith) tt (named_alone n)
-no_call words r (Draw a (Some b) None) n = r.unnamed draw (string_bytes a ∷ string_bytes b ∷ []) None (omega arith, omega arith) tt (named_alone n)
-no_call words r (Draw a (Some b) (Some c)) n = r.unnamed draw (string_bytes a ∷ string_bytes b ∷ string_bytes c ∷ []) None (omega arith, omega arith) tt (named_alone n)
-no_call words r (Draw a None (Some c)) n = absurd n
+no_call words r (Draw a None None d) n = r.unnamed draw (string_bytes a ∷ []) (option_map string_bytes d) (omega arith, omega arith) (class_fine (option_map string_bytes d)) (drawn_by n)
+no_call words r (Draw a (Some b) None d) n =
+    r.unnamed draw (string_bytes a ∷ string_bytes b ∷ []) (option_map string_bytes d) (omega arith, omega arith) (class_fine (option_map string_bytes d)) (drawn_by n)
+no_call words r (Draw a (Some b) (Some c) d) n =
+    r.unnamed draw (string_bytes a ∷ string_bytes b ∷ string_bytes c ∷ []) (option_map string_bytes d) (omega arith, omega arith) (class_fine (option_map string_bytes d)) (drawn_by n)
+no_call words r (Draw a None (Some c) d) n = absurd n
 no_call words r (Sum a b) n = r.unnamed sum (string_bytes a ∷ string_bytes b ∷ []) None (omega arith, omega arith) tt (named_alone n)
 no_call words r (Explain a) n = r.unnamed explain (string_bytes a ∷ []) None (omega arith, omega arith) tt (named_alone n)
 no_call words r (Audit a b limit) n =
@@ -277,26 +287,26 @@ linted_files found (a ∷ b ∷ []) network traffic many first holds given =
 linted_files found (a ∷ b ∷ c ∷ files) network traffic many first holds given = absurd first.1.1
 
 -- a network, a declaration of traffic where one is given, and an answer where one is given too
-drawn_files : (words : List Text) (found : Found) (files : List Text) (network : Text) (traffic answer : Option Text) → 1 ≤ length files
+drawn_files : (words : List Text) (found : Found) (files : List Text) (network : Text) (traffic answer class : Option Text) → 1 ≤ length files
     → HoldsFirst (rows_of found) (codes "NETWORK" ∷ codes "TRAFFIC" ∷ codes "ANSWER" ∷ []) files → HoldsFile found (codes "NETWORK") network → first_value found (codes "TRAFFIC") ≡ traffic
-    → first_value found (codes "ANSWER") ≡ answer → NamesFiles words (codes "draw") files → NamesDrawing words network traffic answer
-drawn_files words found [] network traffic answer many first holds given said named = absurd (omega (arith, many))
-drawn_files words found (a ∷ []) network traffic answer many first holds given said named =
+    → first_value found (codes "ANSWER") ≡ answer → NamesDraw words files class → NamesDrawing words network traffic answer class
+drawn_files words found [] network traffic answer class many first holds given said named = absurd (omega (arith, many))
+drawn_files words found (a ∷ []) network traffic answer class many first holds given said named =
     let no_traffic : None ≡ traffic = sym (none_held found (codes "TRAFFIC") first.1.0) ∙ given in
     let no_answer : None ≡ answer = sym (none_held found (codes "ANSWER") first.1.1.0) ∙ said in
     let same : a ≡ network = file_held found (codes "NETWORK") a network holds (first.0, tt) in
-    subst (λ (o : Option Text). NamesDrawing words network o answer) no_traffic (subst (λ (o : Option Text). NamesDrawing words network None o) no_answer (subst (λ (x : Text). NamesDrawing words x None None) same named))
-drawn_files words found (a ∷ b ∷ []) network traffic answer many first holds given said named =
+    subst (λ (o : Option Text). NamesDrawing words network o answer class) no_traffic (subst (λ (o : Option Text). NamesDrawing words network None o class) no_answer (subst (λ (x : Text). NamesDrawing words x None None class) same named))
+drawn_files words found (a ∷ b ∷ []) network traffic answer class many first holds given said named =
     let is_traffic : Some b ≡ traffic = given_held found (codes "TRAFFIC") b traffic given (first.1.0, tt) in
     let no_answer : None ≡ answer = sym (none_held found (codes "ANSWER") first.1.1.0) ∙ said in
     let same : a ≡ network = file_held found (codes "NETWORK") a network holds (first.0, tt) in
-    subst (λ (o : Option Text). NamesDrawing words network o answer) is_traffic (subst (λ (o : Option Text). NamesDrawing words network (Some b) o) no_answer (subst (λ (x : Text). NamesDrawing words x (Some b) None) same named))
-drawn_files words found (a ∷ b ∷ c ∷ []) network traffic answer many first holds given said named =
+    subst (λ (o : Option Text). NamesDrawing words network o answer class) is_traffic (subst (λ (o : Option Text). NamesDrawing words network (Some b) o class) no_answer (subst (λ (x : Text). NamesDrawing words x (Some b) None class) same named))
+drawn_files words found (a ∷ b ∷ c ∷ []) network traffic answer class many first holds given said named =
     let is_traffic : Some b ≡ traffic = given_held found (codes "TRAFFIC") b traffic given (first.1.0, tt) in
     let is_answer : Some c ≡ answer = given_held found (codes "ANSWER") c answer said (first.1.1.0, tt) in
     let same : a ≡ network = file_held found (codes "NETWORK") a network holds (first.0, tt) in
-    subst (λ (o : Option Text). NamesDrawing words network o answer) is_traffic (subst (λ (o : Option Text). NamesDrawing words network (Some b) o) is_answer (subst (λ (x : Text). NamesDrawing words x (Some b) (Some c)) same named))
-drawn_files words found (a ∷ b ∷ c ∷ d ∷ files) network traffic answer many first holds given said named = absurd first.1.1.1
+    subst (λ (o : Option Text). NamesDrawing words network o answer class) is_traffic (subst (λ (o : Option Text). NamesDrawing words network (Some b) o class) is_answer (subst (λ (x : Text). NamesDrawing words x (Some b) (Some c) class) same named))
+drawn_files words found (a ∷ b ∷ c ∷ d ∷ files) network traffic answer class many first holds given said named = absurd first.1.1.1
 
 -- ---- the option
 
@@ -320,6 +330,11 @@ one_limit found n other (text, there, is) (text', there', is') =
 prefix_there : (found : Found) (links : Option Text) → HoldsAtEnd (taking_of run) links (rows_of found) → first_value found (codes "links") ≡ links
 prefix_there found None set = first_value-rows found (codes "links") ∙ ap (λ (o : Option Row). option_and_then (λ r. slice_get r.values 0) o) set
 prefix_there found (Some text) set = first_value-rows found (codes "links") ∙ first_held (rows_of found) (codes "links") text set
+
+-- what is read of the name of a class
+class_there : (found : Found) (class : Option Text) → HoldsAtEnd (taking_of draw) class (rows_of found) → first_value found (codes "class") ≡ class
+class_there found None set = first_value-rows found (codes "class") ∙ ap (λ (o : Option Row). option_and_then (λ r. slice_get r.values 0) o) set
+class_there found (Some text) set = first_value-rows found (codes "class") ∙ first_held (rows_of found) (codes "class") text set
 
 -- ---- the call that the words name
 
@@ -348,8 +363,14 @@ names_call confirm words found f (Confirm a b c) h = files_there (codes "confirm
 names_call lint words found f (Lint a o) h =
     alone_named f.option f.accepted
     (subst (λ (files : List Text). NamesBy (taking_of lint) words files f.option) (linted_files found f.files (string_bytes a) (option_map string_bytes o) f.count_is.0 f.files_are h.0 h.1) f.named)
-names_call draw words found f (Draw a o p) h =
-    drawn_files words found f.files (string_bytes a) (option_map string_bytes o) (option_map string_bytes p) f.count_is.0 f.files_are h.0 h.1 h.2 (alone_named f.option f.accepted f.named)
+names_call draw words found f (Draw a o p q) h =
+    let same : f.option ≡ option_map string_bytes q = sym (class_there found f.option f.option_is) ∙ h.3 in
+    let class : NamesDraw words f.files (option_map string_bytes q) = record {
+      program = f.named.program;
+      rest = f.named.rest;
+      words_are = f.named.words_are;
+      named = subst (NamesWith (codes "class") f.named.rest f.files) same f.named.named;
+    } in drawn_files words found f.files (string_bytes a) (option_map string_bytes o) (option_map string_bytes p) (option_map string_bytes q) f.count_is.0 f.files_are h.0 h.1 h.2 class
 names_call sum words found f (Sum a b) h = files_there (codes "sum") (taking_of sum).ids words (string_bytes a ∷ string_bytes b ∷ []) found f (h.0, (h.1, tt))
 names_call explain words found f (Explain a) h = files_there (codes "explain") (taking_of explain).ids words (string_bytes a ∷ []) found f (h, tt)
 names_call audit words found f (Audit a b limit) h =
@@ -392,7 +413,7 @@ AreBuilt replaying collecting checking confirming auditing running linting drawi
     × IsBuilt auditing (with_rule (over_network (codes "audit") (file_rule (codes "TRAFFIC"))) limit_rule)
     × IsBuilt running (with_rule (over_capture (codes "run")) links_rule)
     × IsBuilt linting (over_network (codes "lint") (new_rule (codes "TRAFFIC")))
-    × IsBuilt drawing (with_rule (over_network (codes "draw") (new_rule (codes "TRAFFIC"))) (new_rule (codes "ANSWER")))
+    × IsBuilt drawing (with_rule (over_answer (codes "draw")) class_rule)
     × IsBuilt summing (over_network (codes "sum") (file_rule (codes "TOTALS")))
     × IsBuilt explaining (number_alone (codes "explain"))
 

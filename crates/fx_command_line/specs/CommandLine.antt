@@ -41,6 +41,14 @@ over_capture command = with_rule (over_documents command (file_rule (codes "CAPT
 abbrev pub links_rule : Rule
 links_rule = record (new_rule (codes "links")) { long = Some (codes "links"); value_names = 1 }
 
+-- a command with a network, and with traffic and an answer if they are given
+abbrev pub over_answer : Text → App
+over_answer command = with_rule (over_network command (new_rule (codes "TRAFFIC"))) (new_rule (codes "ANSWER"))
+
+-- the option for the name of the class whose paths are drawn
+abbrev pub class_rule : Rule
+class_rule = record (new_rule (codes "class")) { long = Some (codes "class"); value_names = 1 }
+
 -- the program requires one of its commands, and reports its version
 abbrev pub wants_command : Shape → Shape
 wants_command s = record s { subcommand_required = true; has_version = true }
@@ -55,7 +63,7 @@ once_app =
     let three = with_subcommand (with_subcommand (with_subcommand (on_top wants_command (new_app (codes "once"))) replay.top) collect.top) check.top in
     let run = with_rule (over_capture (codes "run")) links_rule in
     let lint = over_network (codes "lint") (new_rule (codes "TRAFFIC")) in
-    let draw = with_rule (over_network (codes "draw") (new_rule (codes "TRAFFIC"))) (new_rule (codes "ANSWER")) in
+    let draw = with_rule (over_answer (codes "draw")) class_rule in
     let sum = over_network (codes "sum") (file_rule (codes "TOTALS")) in
     let explain = number_alone (codes "explain") in
     let seven = with_subcommand (with_subcommand (with_subcommand (with_subcommand three confirm.top) audit.top) run.top) lint.top in

@@ -55,8 +55,9 @@ IsLintOf found (Lint network traffic) = HoldsFile found (codes "NETWORK") (strin
 IsLintOf found _ = ⊥
 
 abbrev pub IsDrawOf : Found → Call → Type 0
-IsDrawOf found (Draw network traffic answer) =
+IsDrawOf found (Draw network traffic answer class) =
     HoldsFile found (codes "NETWORK") (string_bytes network) × HoldsOption found (codes "TRAFFIC") (option_map string_bytes traffic) × HoldsOption found (codes "ANSWER") (option_map string_bytes answer)
+    × HoldsOption found (codes "class") (option_map string_bytes class)
 IsDrawOf found _ = ⊥
 
 abbrev pub IsSumOf : Found → Call → Type 0

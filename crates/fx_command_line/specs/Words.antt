@@ -34,14 +34,6 @@ abbrev pub file_given : Option Text → List Text
 file_given None = []
 file_given (Some file) = file ∷ []
 
--- the arguments are the program's own name, `draw`, and arguments that name a network, a declaration of traffic if one is given,
--- and the text of an answer about both if that is given too
-abbrev pub NamesDrawing : List Text → Text → Option Text → Option Text → Type 0
-NamesDrawing words network None None = NamesFiles words (codes "draw") (network ∷ [])
-NamesDrawing words network (Some traffic) None = NamesFiles words (codes "draw") (network ∷ traffic ∷ [])
-NamesDrawing words network (Some traffic) (Some answer) = NamesFiles words (codes "draw") (network ∷ traffic ∷ answer ∷ [])
-NamesDrawing words network None (Some answer) = ⊥
-
 -- The text is this limit, a whole number from 1 to 1,000,000, in decimal digits. Leading zeros are allowed, and a plus
 -- before them, since Rust reads such texts as numbers.
 abbrev pub IsLimit : Text → ℕ → Type 0
@@ -92,10 +84,24 @@ pub record NamesRun (words : List Text) (files : List Text) (links : Option Text
   pub words_are : words ≡ program ∷ codes "run" ∷ rest
   pub named : NamesWith (codes "links") rest files links
 
+-- the arguments are the program's own name, `draw`, and arguments that name these files and this class, if any
+pub record NamesDraw (words : List Text) (files : List Text) (class : Option Text) : Type 0 where
+  pub program : Text
+  pub rest : List Text
+  pub words_are : words ≡ program ∷ codes "draw" ∷ rest
+  pub named : NamesWith (codes "class") rest files class
+
+-- the same of a network, a declaration of traffic if one is given, and the text of an answer about both if that is given too
+abbrev pub NamesDrawing : List Text → Text → Option Text → Option Text → Option Text → Type 0
+NamesDrawing words network None None class = NamesDraw words (network ∷ []) class
+NamesDrawing words network (Some traffic) None class = NamesDraw words (network ∷ traffic ∷ []) class
+NamesDrawing words network (Some traffic) (Some answer) class = NamesDraw words (network ∷ traffic ∷ answer ∷ []) class
+NamesDrawing words network None (Some answer) class = ⊥
+
 -- `once replay NETWORK TRAFFIC RUN`, `once collect NETWORK STREAM`, `once check NETWORK TRAFFIC CERTIFICATE`,
 -- `once confirm NETWORK TRAFFIC REFUTATION`, `once audit NETWORK TRAFFIC [--limit N]`,
 -- `once run NETWORK TRAFFIC CAPTURE SCHEDULE [--links PREFIX]`, `once sum NETWORK TOTALS`, `once lint NETWORK [TRAFFIC]`,
--- `once draw NETWORK [TRAFFIC [ANSWER]]` and `once explain NUMBER`
+-- `once draw NETWORK [TRAFFIC [ANSWER]] [--class NAME]` and `once explain NUMBER`
 abbrev pub Names : List Text → Call → Type 0
 Names words (Replay network traffic run) =
     NamesFiles words (codes "replay") (string_bytes network ∷ string_bytes traffic ∷ string_bytes run ∷ [])
@@ -108,7 +114,8 @@ Names words (Audit network traffic limit) = NamesAudit words (string_bytes netwo
 Names words (Run network traffic capture schedule links) =
     NamesRun words (string_bytes network ∷ string_bytes traffic ∷ string_bytes capture ∷ string_bytes schedule ∷ []) (option_map string_bytes links)
 Names words (Lint network traffic) = NamesFiles words (codes "lint") (string_bytes network ∷ file_given (option_map string_bytes traffic))
-Names words (Draw network traffic answer) = NamesDrawing words (string_bytes network) (option_map string_bytes traffic) (option_map string_bytes answer)
+Names words (Draw network traffic answer class) =
+    NamesDrawing words (string_bytes network) (option_map string_bytes traffic) (option_map string_bytes answer) (option_map string_bytes class)
 Names words (Sum network totals) = NamesFiles words (codes "sum") (string_bytes network ∷ string_bytes totals ∷ [])
 Names words (Explain number) = NamesFiles words (codes "explain") (string_bytes number ∷ [])
 

@@ -436,6 +436,7 @@ pub const DRAW: &str = "\
 Examples:
   once draw network.json | dot -Tsvg > network.svg
   once draw network.json traffic.json certificate.txt | dot -Tsvg > counted.svg
+  once draw network.json traffic.json refutation.txt --class web | dot -Tsvg > web.svg
 
 Files:
   NETWORK  JSON: \"devices\", \"links\", \"report\"; an example of both documents: `once help lint`
@@ -445,10 +446,12 @@ Files:
 Prints a graph in the DOT language (status 0), of which Graphviz's `dot` makes a picture: a box for
 each device, with its observation points, selection processes, caches, collecting and exporting
 processes; in red what is lost, with two lines around the report. With TRAFFIC in blue the packets
-of each path, and what sees them; with a certificate in green where they are counted; with a
-refutation in orange the steps of its run, and in red what it comes to. A text that is refused:
-`refused NUMBER PLACE` (status 2), also a certificate that `once check` and a refutation that
-`once confirm` refuses. Where dot says `syntax error near 'refused'` or `near 'device'`, run
+of each path (of those of one class with --class), and what observes them; three or more devices
+are one box if they differ in names and interfaces alone. With a certificate in green where packets
+are counted and how their records reach the report; with a refutation in orange the steps of its
+run, and in red its totals. A text that is refused: `refused NUMBER PLACE` (status 2), also a
+certificate that `once check` and a refutation that `once confirm` refuses; if no class has the
+name, `refused 107 /classes`. Where dot says `syntax error near 'refused'` or `near 'device'`, run
 `once draw .. --explain` without dot.
 
 --explain explains what is refused in sentences.";

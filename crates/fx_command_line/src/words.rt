@@ -4,7 +4,7 @@ ghost use Rattle.clap.specs.Simple.{on_top};
 ghost use Rattle.clap.specs.Words.{app_of, fault_of, found_of, HasKind, kind_of, new_app, new_rule, rule_of, Text, with_rule};
 ghost use Rattle.clap.specs.declared.builder.command.Command.{Command};
 ghost use Rattle.clap.specs.declared.builder.command.Command.TheViews.{out-Command};
-ghost use Rattle.fx_command_line.specs.CommandLine.{AreMatchesOf, file_rule, limit_rule, links_rule, once_app, network_alone, number_alone, over_capture, over_documents, over_network, wants_command};
+ghost use Rattle.fx_command_line.specs.CommandLine.{AreMatchesOf, class_rule, file_rule, limit_rule, links_rule, network_alone, number_alone, once_app, over_answer, over_capture, over_documents, over_network, wants_command};
 ghost use Rattle.fx_command_line.specs.Matches.{HoldsFile, HoldsLimit, HoldsOption, IsAuditOf, IsCheckOf, IsCollectOf, IsConfirmOf, IsDrawOf, HasFile, IsExplainOf, IsLintOf, IsReplayOf, IsRunCall, IsSumOf};
 ghost use Rattle.fx_command_line.specs.Words.{Names, NamesNoCall};
 
@@ -87,6 +87,8 @@ pub enum Call {
         traffic: Option<String>,
         /// The text of a certificate or a refutation, if one is given.
         answer: Option<String>,
+        /// The name of the class whose paths are drawn; if none is given, those of all classes are.
+        class: Option<String>,
     },
     /// Adds totals up.
     Sum {
@@ -145,6 +147,7 @@ impl Drop for Call {
                 network: _,
                 traffic: _,
                 answer: _,
+                class: _,
             } => {}
             Call::Sum {
                 network: _,
@@ -396,11 +399,21 @@ fn lint_command<'a>(alloc: Global) -> Result<Command<'a>, AllocError>
     )
 }
 
+/// Returns the option `--class`, the name of the class whose paths are drawn.
+fn class<'a>(alloc: Global) -> Arg<'a>
+    ensures rule { rule_of result ≡ class_rule }
+    ensures local { result.global ≡ false }
+{
+    Arg::new(alloc, "class")
+        .long("class")
+        .value_name("NAME")
+        .help("Draws the paths of this class of the traffic alone")
+}
+
 /// Returns the command `draw`.
 fn draw_command<'a>(alloc: Global) -> Result<Command<'a>, AllocError>
     ensures app { IfOk result (λ c. app_of c
-        ≡ with_rule (over_network (codes "draw") (new_rule (codes "TRAFFIC")))
-        (new_rule (codes "ANSWER"))) }
+        ≡ with_rule (over_answer (codes "draw")) class_rule) }
     ensures local { IfOk result (λ c. (out-Command c).has_globals ≡ false) }
 {
     let command = over_traffic_if_given(
@@ -409,12 +422,13 @@ fn draw_command<'a>(alloc: Global) -> Result<Command<'a>, AllocError>
         "Draws a network, its traffic, and what a certificate or a refutation says of them",
         help_text::DRAW,
     )?;
-    with_choice(
+    let command = with_choice(
         alloc,
         command,
         "ANSWER",
         "The text of a certificate or a refutation",
-    )
+    )?;
+    command.arg(class(alloc))
 }
 
 /// Returns the command `sum`.
@@ -622,6 +636,7 @@ fn draw_call(alloc: Global, matches: &ArgMatches<'_>) -> Result<Call, AllocError
         network: file_name(alloc, matches, "NETWORK")?,
         traffic: text_of(alloc, matches, "TRAFFIC")?,
         answer: text_of(alloc, matches, "ANSWER")?,
+        class: text_of(alloc, matches, "class")?,
     })
 }
 

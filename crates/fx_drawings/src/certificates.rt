@@ -5,8 +5,10 @@ ghost use Rattle.fx_base.specs.Fault.{IsMemory};
 use crate::documents::Documents;
 use crate::dot::Dot;
 use crate::lines::next_line;
-use crate::marks::{Mark, draw_metering};
+use crate::marks::{Mark, draw_metering, metering_cache};
 use crate::nodes;
+use crate::traffic::Classes;
+use crate::ways::Ways;
 use fx_base::{Fault, LineReader, Octets, entry_numbered};
 use fx_cert::{Item, read_item};
 use fx_traffic::Target;
@@ -96,16 +98,46 @@ fn places_of(alloc: Global, certificate: &[u8]) -> Result<Places, Fault>
     Ok(places)
 }
 
-/// Draws where the packets of a path are counted.
-fn draw_place(dot: &mut Dot, documents: &Documents, targets: &[Target<'_>], place: &Place) {
+/// Draws where the packets of a path are counted, and the ways of their records.
+fn draw_place(
+    dot: &mut Dot,
+    documents: &Documents,
+    targets: &[Target<'_>],
+    place: &Place,
+    ways: &mut Ways,
+) -> Result<(), AllocError> {
     for target in targets {
         if target.class == place.class && target.path == place.path {
             if let Some(crossing) = entry_numbered(target.crossings, place.crossing) {
                 draw_counted(dot, documents, place, crossing.device);
-                return;
+                return draw_ways(dot, documents, place, crossing.device, ways);
             }
         }
     }
+    Ok(())
+}
+
+/// Draws the ways of records from the cache at a place.
+fn draw_ways(
+    dot: &mut Dot,
+    documents: &Documents,
+    place: &Place,
+    number: u64,
+    ways: &mut Ways,
+) -> Result<(), AllocError> {
+    let devices = documents.plan.network().devices.as_slice();
+    let Some(device) = entry_numbered(devices, number) else {
+        return Ok(());
+    };
+    let Some(cache) = metering_cache(&device.config, place.point, place.process) else {
+        return Ok(());
+    };
+    let Some(entry) = entry_numbered(device.config.caches.as_slice(), cache) else {
+        return Ok(());
+    };
+    let names = entry.exporting_processes.as_slice();
+    let from = nodes::cache(number, cache);
+    ways.draw_exports(dot, &documents.plan, number, device, from, names)
 }
 
 /// Draws where the packets of a path are counted within a device.
@@ -130,19 +162,25 @@ fn draw_counted(dot: &mut Dot, documents: &Documents, place: &Place, device: u64
     )
 }
 
-/// Draws where a certificate says that the packets of each path are counted.
+/// Draws where a certificate says that the packets of each path of these classes are counted, and the ways of their
+/// records up to the report.
 pub(crate) fn draw_certificate(
     alloc: Global,
     dot: &mut Dot,
     documents: &Documents,
     targets: &[Target<'_>],
+    classes: Classes,
     certificate: &[u8],
 ) -> Result<(), Fault>
     ensures { IfErr result IsMemory }
 {
     let places = places_of(alloc, certificate)?;
+    let mut ways = Ways::new(alloc, &documents.plan)?;
     for place in places.places.as_slice() {
-        draw_place(dot, documents, targets, place);
+        if classes.has(place.class) {
+            draw_place(dot, documents, targets, place, &mut ways)?;
+        }
     }
+    ways.draw_rest(dot, &documents.plan)?;
     Ok(())
 }

@@ -12,6 +12,9 @@ use fx_layout::Part;
 use fx_plan::Plan;
 use fx_topology::{NetworkDevice, Report};
 
+/// The number of devices that the label of a box names.
+const NAMED: u64 = 3;
+
 /// Begins a node, with its name as the first line of its label.
 fn begin<'x>(dot: &mut Dot, node: nodes::Node, look: &'static str, name: &'x Name) {
     dot.code_node("    ", node);
@@ -25,12 +28,14 @@ fn end(dot: &mut Dot) {
     dot.line("\"];")
 }
 
-/// Draws an observation point: its interfaces, and the directions in which it observes packets.
-fn draw_point(dot: &mut Dot, node: nodes::Node, point: &ObservationPoint) {
+/// Draws an observation point: its interfaces, if they are to be named, and the directions in which it observes packets.
+fn draw_point(dot: &mut Dot, node: nodes::Node, point: &ObservationPoint, names_interfaces: bool) {
     begin(dot, node, "shape=cds", &point.name);
     dot.code("\\n");
-    add_names(dot, point.interfaces.as_slice());
-    dot.code(" ");
+    if names_interfaces {
+        add_names(dot, point.interfaces.as_slice());
+        dot.code(" ");
+    }
     dot.code(direction_name(point.direction));
     end(dot)
 }
@@ -126,10 +131,11 @@ fn draw_collectors(dot: &mut Dot, plan: &Plan, number: u64, device: &NetworkDevi
 }
 
 /// Draws the observation points of a device.
-fn draw_points(dot: &mut Dot, number: u64, device: &NetworkDevice) {
+fn draw_points(dot: &mut Dot, number: u64, device: &NetworkDevice, names_interfaces: bool) {
     let points = device.config.observation_points.as_slice();
     for place in 0..points.len() {
-        draw_point(dot, nodes::point(number, place as u64 + 1), &points[place]);
+        let node = nodes::point(number, place as u64 + 1);
+        draw_point(dot, node, &points[place], names_interfaces);
     }
 }
 
@@ -159,16 +165,52 @@ fn draw_exporters(dot: &mut Dot, number: u64, device: &NetworkDevice) {
     }
 }
 
-/// Draws the device with this 1-based number as a box around its parts.
-pub(crate) fn draw_device(dot: &mut Dot, plan: &Plan, number: u64, device: &NetworkDevice) {
-    dot.code_number("  subgraph cluster_", number);
-    dot.line(" {");
-    dot.code_quoted("    label=\"", device.name.as_str());
-    dot.line("\"; style=rounded; color=gray40;");
-    draw_points(dot, number, device);
+/// Draws the parts of a device, with the names of the interfaces of its observation points if these are to be named.
+pub(crate) fn draw_parts(
+    dot: &mut Dot,
+    plan: &Plan,
+    number: u64,
+    device: &NetworkDevice,
+    names_interfaces: bool,
+) {
+    draw_points(dot, number, device, names_interfaces);
     draw_selections(dot, number, device);
     draw_caches(dot, number, device);
     draw_collectors(dot, plan, number, device);
     draw_exporters(dot, number, device);
+}
+
+/// Adds the names of the devices that are drawn as this one to a label: the first three, and the number of others.
+fn add_devices(dot: &mut Dot, plan: &Plan, number: u64) {
+    let devices = plan.network().devices.as_slice();
+    let mut named: u64 = 0;
+    for place in 0..devices.len() {
+        if dot.folding().of(place as u64 + 1) == number {
+            if named < NAMED {
+                dot.code(if named == 0 { "" } else { ", " });
+                dot.quoted(devices[place].name.as_str());
+            }
+            named = named.saturating_add(1);
+        }
+    }
+    if named > NAMED {
+        dot.code_number(" and ", named - NAMED);
+        dot.code(" more");
+    }
+}
+
+/// Draws the device with this 1-based number as a box around its parts, unless it is drawn as another. Interfaces aren't
+/// named if other devices are drawn as this one.
+pub(crate) fn draw_device(dot: &mut Dot, plan: &Plan, number: u64, device: &NetworkDevice) {
+    if dot.folding().of(number) != number {
+        return;
+    }
+    let is_alone = dot.folding().count(number) < 2;
+    dot.code_number("  subgraph cluster_", number);
+    dot.line(" {");
+    dot.code("    label=\"");
+    add_devices(dot, plan, number);
+    dot.line("\"; style=rounded; color=gray40;");
+    draw_parts(dot, plan, number, device, is_alone);
     dot.line("  }")
 }

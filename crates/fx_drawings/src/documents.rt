@@ -52,6 +52,20 @@ fn name_of_class(traffic: &Value, number: u64) -> Option<&str> {
         .as_str()
 }
 
+/// Returns the 1-based number of the class with this name.
+///
+/// Fails with 107 at `/classes` if there is none, and with 900 if out of memory.
+pub(crate) fn class_number(alloc: Global, documents: &Documents, name: &str) -> Result<u64, Fault> {
+    for place in 0..documents.traffic.classes().as_slice().len() {
+        let number = place as u64 + 1;
+        if class_name(documents, number) == name {
+            return Ok(number);
+        }
+    }
+    let place = String::from_str(alloc, "/classes")?;
+    Err(Fault::at_text(refusals::UNKNOWN_NAME, place))
+}
+
 /// Returns the name of the class with this 1-based number, or an empty text.
 pub(crate) fn class_name(documents: &Documents, number: u64) -> &str {
     name_of_class(&documents.classes, number).unwrap_or("")

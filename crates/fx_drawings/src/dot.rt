@@ -3,6 +3,7 @@ ghost use Rattle.std.specs.Prelude.{◌≡◌, true, IfOk};
 ghost use Rattle.fx_base.specs.Fault.{shown};
 ghost use Rattle.fx_drawings.specs.Drawings.{IsPlainText, is_plain};
 
+use crate::folding::Folding;
 use crate::nodes::Node;
 use fx_base::Room;
 use fx_elements::{Axis, put_value, top, width};
@@ -16,6 +17,7 @@ use std::marker::Model;
 pub(crate) struct Dot {
     octets: Vec<u8>,
     is_short: bool,
+    folding: Folding,
 }
 
 impl Model for Dot {
@@ -41,11 +43,33 @@ fn shown_octet(octet: u8) -> u8
 }
 
 impl Dot {
-    /// Returns a drawing without statements.
-    pub(crate) fn new(alloc: Global) -> Dot {
+    /// Returns a drawing without statements, in which these devices are drawn as one.
+    pub(crate) fn new(alloc: Global, folding: Folding) -> Dot {
         Dot {
             octets: Vec::new(alloc),
             is_short: false,
+            folding,
+        }
+    }
+
+    /// Returns which devices are drawn as one.
+    pub(crate) fn folding(&self) -> &Folding {
+        &self.folding
+    }
+
+    /// Returns whether two drawings have the same statements.
+    pub(crate) fn is_like(&self, other: &Dot) -> bool {
+        self.octets.as_slice() == other.octets.as_slice()
+    }
+
+    /// Returns the node as which a node is drawn: that of the device as which its device is drawn.
+    pub(crate) fn drawn(&self, node: Node) -> Node {
+        if !node.is_of_device() {
+            return node;
+        }
+        Node {
+            first: self.folding.of(node.first),
+            ..node
         }
     }
 
@@ -106,8 +130,9 @@ impl Dot {
         self.octets_of(buffer.format(number).as_bytes());
     }
 
-    /// Adds a node's name: its kind and its numbers.
+    /// Adds the name of the node as which a node is drawn: its kind and its numbers.
     pub(crate) fn node(&mut self, node: Node) {
+        let node = self.drawn(node);
         self.code(node.kind);
         self.number(node.first);
         self.code_number("_", node.second);

@@ -207,13 +207,16 @@ fn draw_from_exporters(
     Ok(())
 }
 
-/// Draws the edges that begin in the device with this 1-based number.
+/// Draws the edges that begin in the device with this 1-based number, unless it is drawn as another.
 pub(crate) fn draw_edges(
     dot: &mut Dot,
     plan: &Plan,
     number: u64,
     device: &NetworkDevice,
 ) -> Result<(), AllocError> {
+    if dot.folding().of(number) != number {
+        return Ok(());
+    }
     draw_from_points(dot, number, &device.config);
     draw_from_selections(dot, number, &device.config);
     draw_from_caches(dot, number, &device.config);

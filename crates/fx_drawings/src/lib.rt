@@ -8,11 +8,13 @@ mod documents;
 mod dot;
 mod drawing;
 mod edges;
+mod folding;
 mod labels;
 mod lines;
 mod marks;
 mod nodes;
 mod refutations;
 mod traffic;
+mod ways;
 
 pub use drawing::put_drawing;

@@ -30,6 +30,18 @@ pub(crate) fn draw_mark(dot: &mut Dot, mark: Mark, from: Node, to: Node) {
     dot.line("\"];")
 }
 
+/// Returns the 0-based index of the selection process that this one of an observation point is, by 1-based numbers.
+fn selection_place(device: &Device, point: u64, process: u64) -> Option<usize> {
+    let entry = entry_numbered(device.observation_points.as_slice(), point)?;
+    let name = entry_numbered(entry.selection_processes.as_slice(), process)?;
+    place_of(device.selection_processes.as_slice(), name)
+}
+
+/// Returns the 1-based number of the cache to which a selection process of an observation point passes packets.
+pub(crate) fn metering_cache(device: &Device, point: u64, process: u64) -> Option<u64> {
+    cache_of(device, selection_place(device, point, process)?)
+}
+
 /// Draws marked edges from packets through an observation point and a selection process to its cache.
 pub(crate) fn draw_metering(
     dot: &mut Dot,
@@ -42,13 +54,7 @@ pub(crate) fn draw_metering(
 ) {
     let observation = nodes::point(number, point);
     draw_mark(dot, mark, packets, observation);
-    let Some(entry) = entry_numbered(device.observation_points.as_slice(), point) else {
-        return;
-    };
-    let Some(name) = entry_numbered(entry.selection_processes.as_slice(), process) else {
-        return;
-    };
-    let Some(place) = place_of(device.selection_processes.as_slice(), name) else {
+    let Some(place) = selection_place(device, point, process) else {
         return;
     };
     let selection = nodes::selection(number, (place as u64).saturating_add(1));

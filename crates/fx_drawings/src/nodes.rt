@@ -1,12 +1,19 @@
 //! The nodes of a drawing.
 
 /// A node: its kind, and up to three numbers that distinguish it from others of its kind. Unused numbers are 0.
-#[derive(Clone, Copy, Drop)]
+#[derive(Clone, Copy, PartialEq, Eq, Drop)]
 pub(crate) struct Node {
     pub(crate) kind: &'static str,
     pub(crate) first: u64,
     pub(crate) second: u64,
     pub(crate) third: u64,
+}
+
+impl Node {
+    /// Returns whether the node is a part of a device, whose number is then its first.
+    pub(crate) fn is_of_device(&self) -> bool {
+        self.kind != "packets" && self.kind != "outcome"
+    }
 }
 
 /// Returns the node of a kind with three numbers.
@@ -57,11 +64,6 @@ pub(crate) fn aggregation(device: u64, collector: u64, number: u64) -> Node {
 /// Returns the node of the packets of a class that take one of its paths.
 pub(crate) fn packets(class: u64, path: u64) -> Node {
     named("packets", class, path, 0)
-}
-
-/// Returns the node of the crossings of a path that no observation point observes.
-pub(crate) fn unseen(class: u64, path: u64) -> Node {
-    named("unseen", class, path, 0)
 }
 
 /// Returns the node of the result of a refutation's run.

@@ -18,6 +18,42 @@ use fx_tables::{HolderName, Packet};
 use fx_topology::NetworkDevice;
 use std::alloc::{AllocError, Global};
 
+/// Returns the number of the device at which a step is made, if there is one.
+fn device_of_step(documents: &Documents, packet: &Packet, step: &Step) -> Option<u64> {
+    match step {
+        Step::Cross { crossing, .. } => {
+            let crossings = documents.traffic.classes().path_of(packet);
+            Some(entry_numbered(crossings, *crossing)?.device)
+        }
+        Step::Expire { holder, .. } => match holder {
+            HolderName::Cache { device, .. } => Some(*device),
+            HolderName::Aggregation { device, .. } => Some(*device),
+        },
+        Step::Arrive { link, .. } => {
+            let network = documents.plan.network();
+            let link = entry_numbered(network.links.as_slice(), *link)?;
+            number_of(network.devices.as_slice(), &link.to_device)
+        }
+    }
+}
+
+/// Returns the numbers of the devices at which the steps of a run are made.
+///
+/// Fails if out of memory.
+pub(crate) fn devices_of_run(
+    alloc: Global,
+    documents: &Documents,
+    refutation: &Refutation,
+) -> Result<Vec<u64>, AllocError> {
+    let mut devices = Vec::new(alloc);
+    for step in refutation.steps() {
+        if let Some(device) = device_of_step(documents, refutation.packet(), step) {
+            devices.push(device)?;
+        }
+    }
+    Ok(devices)
+}
+
 /// Returns the mark of the step with this 1-based number.
 fn step_mark(number: u64) -> Mark {
     Mark {

@@ -19,6 +19,7 @@ fn draw_packets(dot: &mut Dot, documents: &Documents, target: &Target<'_>) {
         class_name(documents, target.class),
     );
     dot.code_number("\\npath ", target.path);
+    add_unseen(dot, &documents.plan, target.crossings);
     dot.code(exempt);
     dot.line("\"];")
 }
@@ -34,28 +35,6 @@ fn draw_sight(dot: &mut Dot, from: Node, to: Node, crossing: u64) {
     dot.line("\"];");
 }
 
-/// Returns the 0-based index for a 1-based number.
-fn place_before(number: u64) -> usize {
-    number.saturating_sub(1) as usize
-}
-
-/// Adds a line to a label with a crossing and its number.
-fn add_crossing<'x>(dot: &mut Dot, plan: &'x Plan, number: u64, crossing: &'x Crossing) {
-    let devices = plan.network().devices.as_slice();
-    let name = match devices.get(place_before(crossing.device)) {
-        Some(device) => device.name.as_str(),
-        None => "",
-    };
-    dot.code_number("\\ncrossing ", number);
-    dot.code_quoted(": ", name);
-    dot.code_quoted(" ", crossing.interface.as_str());
-    dot.code(if crossing.inwards {
-        " ingress"
-    } else {
-        " egress"
-    });
-}
-
 /// Returns whether an observation point observes a crossing.
 fn is_seen(plan: &Plan, crossing: &Crossing) -> bool {
     for point in plan.net().points_of(crossing.device) {
@@ -66,31 +45,31 @@ fn is_seen(plan: &Plan, crossing: &Crossing) -> bool {
     false
 }
 
-/// Returns whether observation points observe all crossings of a path.
-fn are_all_seen(plan: &Plan, crossings: &[Crossing]) -> bool {
-    for crossing in crossings {
-        if !is_seen(plan, crossing) {
-            return false;
-        }
+/// Returns whether a path has a crossing at this 0-based index that no observation point observes.
+fn is_unseen(plan: &Plan, crossings: &[Crossing], place: usize) -> bool {
+    match crossings.get(place) {
+        Some(crossing) => !is_seen(plan, crossing),
+        None => false,
     }
-    true
 }
 
-/// Draws the crossings of a path that no observation point observes, in one node.
-fn draw_unseen(dot: &mut Dot, plan: &Plan, target: &Target<'_>) {
-    let node = nodes::unseen(target.class, target.path);
-    dot.code_node("  ", node);
-    dot.code(" [shape=plaintext, fontcolor=gray40, label=\"no observation point");
-    for place in 0..target.crossings.len() {
-        let crossing = &target.crossings[place];
-        if !is_seen(plan, crossing) {
-            add_crossing(dot, plan, place as u64 + 1, crossing);
+/// Adds a line to a label with the crossings of a path that no observation point observes, if there are any: numbers and
+/// ranges of numbers.
+fn add_unseen(dot: &mut Dot, plan: &Plan, crossings: &[Crossing]) {
+    let mut separator = "\\nunobserved crossings: ";
+    let mut was_unseen = false;
+    for place in 0..crossings.len() {
+        let number = place as u64 + 1;
+        let is_here = is_unseen(plan, crossings, place);
+        if is_here && !was_unseen {
+            dot.code_number(separator, number);
+            separator = ", ";
         }
+        if is_here && was_unseen && !is_unseen(plan, crossings, place + 1) {
+            dot.code_number(" to ", number);
+        }
+        was_unseen = is_here;
     }
-    dot.line("\"];");
-    dot.code_node("  ", nodes::packets(target.class, target.path));
-    dot.code_node(" -> ", node);
-    dot.line(" [color=gray40, style=dashed];");
 }
 
 /// Draws what observes a crossing.
@@ -104,7 +83,8 @@ fn draw_seeing(dot: &mut Dot, plan: &Plan, from: Node, number: u64, crossing: &C
     }
 }
 
-/// Draws a path of a class: its packets, each crossing with what observes it, and the crossings that nothing observes.
+/// Draws a path of a class: its packets, with the crossings that nothing observes, and each crossing with what observes
+/// it.
 fn draw_path(dot: &mut Dot, documents: &Documents, target: &Target<'_>) {
     draw_packets(dot, documents, target);
     let from = nodes::packets(target.class, target.path);
@@ -112,14 +92,48 @@ fn draw_path(dot: &mut Dot, documents: &Documents, target: &Target<'_>) {
         let crossing = &target.crossings[place];
         draw_seeing(dot, &documents.plan, from, place as u64 + 1, crossing);
     }
-    if !are_all_seen(&documents.plan, target.crossings) {
-        draw_unseen(dot, &documents.plan, target);
+}
+
+/// The classes whose paths are drawn.
+#[derive(Clone, Copy, Drop)]
+pub(crate) enum Classes {
+    /// All.
+    All,
+    /// The class of this number. Numbers count from 1.
+    One(u64),
+    /// The class of the first number, and that of the second, whose packet a run has.
+    OneAndRun(u64, u64),
+}
+
+impl Classes {
+    /// Returns whether the paths of the class with this number are drawn.
+    pub(crate) fn has(&self, class: u64) -> bool {
+        match self {
+            Classes::All => true,
+            Classes::One(number) => *number == class,
+            Classes::OneAndRun(number, run) => *number == class || *run == class,
+        }
+    }
+
+    /// Returns the same classes and that of a run's packet.
+    pub(crate) fn with_run(&self, run: u64) -> Classes {
+        match self {
+            Classes::One(number) => Classes::OneAndRun(*number, run),
+            Classes::All | Classes::OneAndRun(_, _) => *self,
+        }
     }
 }
 
-/// Draws all paths of all classes.
-pub(crate) fn draw_traffic(dot: &mut Dot, documents: &Documents, targets: &[Target<'_>]) {
+/// Draws all paths of these classes.
+pub(crate) fn draw_traffic(
+    dot: &mut Dot,
+    documents: &Documents,
+    targets: &[Target<'_>],
+    classes: Classes,
+) {
     for target in targets {
-        draw_path(dot, documents, target);
+        if classes.has(target.class) {
+            draw_path(dot, documents, target);
+        }
     }
 }

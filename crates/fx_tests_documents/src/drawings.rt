@@ -31,7 +31,7 @@ fn draws(
 ) -> Result<bool, u16> {
     let mut octets = [0u8; 4096];
     let mut room = Room::new(&mut octets);
-    match put_drawing(alloc, NETWORK.as_bytes(), traffic, said, &mut room) {
+    match put_drawing(alloc, NETWORK.as_bytes(), traffic, said, None, &mut room) {
         Ok(()) => Ok(has_lines(str::from_utf8(room.octets()).unwrap_or(""), wanted)),
         Err(fault) => Err(fault.number),
     }

@@ -65,10 +65,12 @@ fn parts(alloc: Global, call: &Call) -> Result<String, AllocError> {
             network,
             traffic,
             answer,
+            class,
         } => {
             let traffic = traffic.as_deref().unwrap_or("");
             let answer = answer.as_deref().unwrap_or("");
-            format!(in alloc; "draw|{network}|{traffic}|{answer}")
+            let class = class.as_deref().unwrap_or("");
+            format!(in alloc; "draw|{network}|{traffic}|{answer}|{class}")
         }
         Call::Sum { network, totals } => format!(in alloc; "sum|{network}|{totals}"),
         Call::Explain { number } => format!(in alloc; "explain|{number}"),
@@ -87,11 +89,17 @@ fn reads_words(rt: HostRuntime) -> Result<(), Fail> {
             "once collect net.json stream.ipfix",
             "collect|net.json|stream.ipfix",
         ),
-        ("once draw net.json", "draw|net.json||"),
+        ("once draw net.json", "draw|net.json|||"),
         (
             "once draw net.json t.json c.txt",
-            "draw|net.json|t.json|c.txt",
+            "draw|net.json|t.json|c.txt|",
         ),
+        ("once draw net.json --class web", "draw|net.json|||web"),
+        (
+            "once draw net.json t.json --class=-w c.txt",
+            "draw|net.json|t.json|c.txt|-w",
+        ),
+        ("once draw net.json --class", ""),
         ("once draw net.json t.json c.txt d", ""),
         ("once sum net.json totals.txt", "sum|net.json|totals.txt"),
         ("once sum net.json", ""),
