@@ -35,7 +35,7 @@ COMMANDS = [
     ("`fx_audit::bundle_bytes`", [("fx_audit", "bundle_bytes", [])]),
     ("The law of whole runs: `fx_conform::runs_are_complete`", [("fx_conform", "runs_are_complete", [])]),
     ("The law of calls: `fx_conform::calls_are_rows`", [("fx_conform", "calls_are_rows", [])]),
-    ("`fx_checker::answer_arguments`, the program `once_check`", [("fx_checker", "answer_arguments", [])]),
+    ("`fx_checker::answer_arguments`: `once_check`", [("fx_checker", "answer_arguments", [])]),
     ("`answer`, a private function of `fx_cli`: from the arguments to the exit status", [("fx_cli", "answer", [])]),
 ]
 
