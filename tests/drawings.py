@@ -234,6 +234,26 @@ def folding(graph, apart):
         firsts = after
 
 
+# What devices that are drawn as one may differ in, besides their names.
+OWN = ("ifName", "ifIndex", "observationDomainId")
+
+
+def without_own(value):
+    if isinstance(value, dict):
+        return {name: without_own(it) for name, it in value.items() if name not in OWN}
+    return [without_own(it) for it in value] if isinstance(value, list) else value
+
+
+def alike_in(network, apart):
+    """Yields the numbers of three or more devices whose documents differ in nothing else, and which have the same links."""
+    groups = {}
+    for number, device in enumerate(network["devices"], 1):
+        links = sorted((l["exportingProcess"], l["destination"], l["toDevice"], l["toProcess"]) for l in network["links"] if l["device"] == device["name"])
+        if number not in apart and device["name"] != network["report"]["device"]:
+            groups.setdefault(json.dumps([without_own(device["config"]), links], sort_keys=True), []).append(number)
+    yield from (it for it in groups.values() if len(it) >= LEAST_ALIKE)
+
+
 def devices_of_run(network, traffic, text):
     """The numbers of the devices at which the steps of a refutation are made."""
     numbers = {device["name"]: at for at, device in enumerate(network["devices"], 1)}
@@ -360,7 +380,7 @@ def hostile(network):
 
 class Drawer:
     def __init__(self, program, dot):
-        self.program, self.dot = program, dot
+        self.program, self.dot, self.folded = program, dot, 0
 
     def run(self, *words):
         return program.run([self.program, *words])
@@ -382,6 +402,10 @@ class Drawer:
         firsts = folding(alone, apart)
         graph = self.graph(network, *texts, *words)[1]
         yield from unfolded(graph, alone, firsts)
+        for devices in alike_in(document, apart):
+            self.folded += 1
+            if len({firsts[it] for it in devices}) > 1:
+                yield f"devices {devices} are alike, and not one box"
         due = unseen_of(document, traffic)
         classes = {number} if number else {at for at, _ in enumerate(traffic["classes"], 1)}
         run = re.search(r"(?m)^packet (\d+) ", text)
@@ -450,6 +474,7 @@ def drawings(drawer):
                     file.write(done.stdout)
                 yield drawer.draw(f"{what} with its answer", network, traffic, answer)
                 yield from drawer.draw_classes(what, network, traffic, answer)
+    yield "alike devices", [] if drawer.folded else ["no network has three of them, so nothing was drawn as one"]
 
 
 def main(words):
