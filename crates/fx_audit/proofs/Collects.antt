@@ -13,7 +13,7 @@ use Rattle.fx_audit.specs.Commands.{IsCollected, IsRefusedCollect}
 use Rattle.fx_checker.specs.Documents.{BothMayHaveLeft, IsNetworkDocument, IsRefusedNetwork}
 use Rattle.fx_checker.specs.Outputs.{Prints}
 use Rattle.fx_audit.specs.Streams.{IsRefusedStream, IsStreamText, EndsWithMessage, stream_read}
-use Rattle.fx_checker.proofs.Documents.{both_told, first_told}
+use Rattle.fx_checker.proofs.Documents.{both_reported, first_reported}
 
 -- ---- a stream at the report of a network
 
@@ -24,9 +24,9 @@ pub collect_done : (left_n left_s : Option (List ℕ)) (network : NetworkDocumen
     → IfOk result (λ a. (a ≡ Yes) × MayHaveLeft left_s (λ octets. Collects net old new octets)) → IfOk result (λ a. (a ≡ Yes) × BothMayHaveLeft left_n left_s (λ n octets. Prints (IsCollected n octets) old new))
 collect_done left_n left_s network net old new (Err e) is n h = cc
 collect_done left_n left_s network net old new (Ok a) is n h =
-    (h.0, both_told left_n left_s (λ o. IsNetworkDocument o network) (Collects net old new) (λ o octets. Prints (IsCollected o octets) old new) n h.1 (λ o octets p c. told o octets p c)) where
-      told : (o octets : List ℕ) → IsNetworkDocument o network → Collects net old new octets → Prints (IsCollected o octets) old new
-      told o octets p c =
+    (h.0, both_reported left_n left_s (λ o. IsNetworkDocument o network) (Collects net old new) (λ o octets. Prints (IsCollected o octets) old new) n h.1 (λ o octets p c. reported o octets p c)) where
+      reported : (o octets : List ℕ) → IsNetworkDocument o network → Collects net old new octets → Prints (IsCollected o octets) old new
+      reported o octets p c =
           let text = c.1.0 in
           let is_text : IsStreamText net.report_layout (stream_read octets).known text = c.1.1 in
           let here : IsStreamText (net_of network).report_layout (stream_read octets).known text = subst (λ (x : Net). IsStreamText x.report_layout (stream_read octets).known text) is is_text in
@@ -43,7 +43,7 @@ collect_refused left_n left_s network N F W M (Err e) n h =
       | inr (inl f) ↦ inr (inr (inl f))
       | inr (inr (inl w)) ↦ inr (inr (inr (inl w)))
       | inr (inr (inr r)) ↦
-          inr (inr (inr (inr (both_told left_n left_s (λ o. IsNetworkDocument o network) (λ octets. IsRefusedStream (stream_read octets) e) (λ o octets. IsRefusedCollect o octets e) n r (λ o octets p q. inr (network, p, q))))))
+          inr (inr (inr (inr (both_reported left_n left_s (λ o. IsNetworkDocument o network) (λ octets. IsRefusedStream (stream_read octets) e) (λ o octets. IsRefusedCollect o octets e) n r (λ o octets p q. inr (network, p, q))))))
     ]
 
 -- ---- a document that is read has no fault
@@ -54,5 +54,5 @@ collect_unread left_n left_s e M N T W h =
     elim h [
       | inl m ↦ inl m
       | inr (inl n) ↦ inr (inl n)
-      | inr (inr f) ↦ inr (inr (inr (inr (first_told left_n left_s (λ n. IsRefusedNetwork n e) (λ n o. IsRefusedCollect n o e) (λ n o p. inl p) f))))
+      | inr (inr f) ↦ inr (inr (inr (inr (first_reported left_n left_s (λ n. IsRefusedNetwork n e) (λ n o. IsRefusedCollect n o e) (λ n o p. inl p) f))))
     ]

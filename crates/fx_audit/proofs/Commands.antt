@@ -8,7 +8,7 @@ use Rattle.fx_base.specs.Device.{MayBeLeft, MayHaveLeft}
 use Rattle.fx_base.specs.Lines.{Lines, lines_in, new_lines, Fails}
 use Rattle.fx_tables.specs.Network.{Net}
 use Rattle.fx_tables.specs.Classes.{Class}
-use Rattle.fx_machine.specs.States.{State, told_state}
+use Rattle.fx_machine.specs.States.{State, wrapped_state}
 use Rattle.fx_topology.specs.declared.network.NetworkDocument.{NetworkDocument}
 use Rattle.fx_plan.specs.Tables.{net_of}
 use Rattle.fx_checker.specs.declared.answer.Answer.{Answer}
@@ -20,13 +20,13 @@ use Rattle.fx_checker.specs.Documents.{BothMayHaveLeft, IsRefusedByDocuments, Re
 use Rattle.fx_audit.specs.Commands.{IsDone, IsRefusedBundle, IsRefusedBy, IsRefusedRun, IsRefusedThere, IsReplayed, IsReplayedIn}
 use Rattle.fx_checker.specs.Outputs.{Prints}
 use Rattle.fx_audit.specs.Replay.{CannotReplay, ComesTo, IsTextOf}
-use Rattle.fx_checker.proofs.Documents.{both_mapped, told}
+use Rattle.fx_checker.proofs.Documents.{both_mapped, reported}
 
 -- ---- a run in a network and traffic
 
 abbrev pub IsReplayOf : Net → List Class → Lines → Option (List ℕ) → Option (List ℕ) → Answer → Type 0
 IsReplayOf net classes lines old new answer =
-    (answer ≡ Yes) × ((last : State) × ComesTo net classes lines last × Prints (IsTextOf net.report_layout (told_state last)) old new)
+    (answer ≡ Yes) × ((last : State) × ComesTo net classes lines last × Prints (IsTextOf net.report_layout (wrapped_state last)) old new)
 
 pub lines_replayed : (network : NetworkDocument) (classes known : List Class) (lines : Lines) (net : Net) (old new : Option (List ℕ)) (result : Result Answer Fault) → net ≡ net_of network → known ≡ classes → IfOk result (IsReplayOf net known lines old new) → IfOk result (λ answer. (answer ≡ Yes) × Prints (IsReplayedIn network classes lines) old new)
 lines_replayed network classes known lines net old new (Err e) same of h = cc
@@ -41,8 +41,8 @@ lines_refused network classes known lines net F W result same of h = rw (same, o
 
 -- ---- a bundle
 
-of_told : (left_n left_t : Option (List ℕ)) (n t : List ℕ) (R : List ℕ → List ℕ → Type 0) → left_n ≡ Some n → left_t ≡ Some t → BothMayHaveLeft left_n left_t R → R n t
-of_told left_n left_t n t R en et h =
+of_reported : (left_n left_t : Option (List ℕ)) (n t : List ℕ) (R : List ℕ → List ℕ → Type 0) → left_n ≡ Some n → left_t ≡ Some t → BothMayHaveLeft left_n left_t R → R n t
+of_reported left_n left_t n t R en et h =
     let inner = h.2 in
     let first : h.0 ≡ n = rw en at h.1 in
     let second : inner.0 ≡ t = rw et at inner.1 in
@@ -74,15 +74,15 @@ there_refused command left_n left_t n t third before_n after_n before_t after_t 
       | inr (inr (inl f)) ↦ let k = too_long left_t t before_t after_t failed_t e et ft f in inr (inr (inr (k.0, inr (inl k.1))))
       | inr (inr (inr (inl f))) ↦ let k = lines_too_long third new e fl (subst (λ (l : Lines). Fails l new e) is f) in inr (inr (inr (k.0, inr (inr k.1))))
       | inr (inr (inr (inr (inl w)))) ↦ inr (inl w)
-      | inr (inr (inr (inr (inr r)))) ↦ inr (inr (inl (subst (λ (l : Lines). IsRefusedBy command n t l e) is (of_told left_n left_t n t (λ x y. IsRefusedBy command x y old e) en et r))))
+      | inr (inr (inr (inr (inr r)))) ↦ inr (inr (inl (subst (λ (l : Lines). IsRefusedBy command n t l e) is (of_reported left_n left_t n t (λ x y. IsRefusedBy command x y old e) en et r))))
     ]
 
--- what a command has done with texts that are told, a bundle of that command has done
+-- what a command has done with texts that are reported, a bundle of that command has done
 pub there_done : (command : Command) (left_n left_t : Option (List ℕ)) (n t : List ℕ) (lines third : Lines) (old new : Option (List ℕ)) (result : Result Answer Fault) → left_n ≡ Some n → left_t ≡ Some t → lines ≡ third
     → IfOk result (λ a. BothMayHaveLeft left_n left_t (λ x y. Prints (IsDone command x y lines a) old new)) → IfOk result (λ a. Prints (IsDone command n t third a) old new)
 there_done command left_n left_t n t lines third old new (Err e) en et is h = tt
 there_done command left_n left_t n t lines third old new (Ok a) en et is h =
-    subst (λ (l : Lines). Prints (IsDone command n t l a) old new) is (of_told left_n left_t n t (λ x y. Prints (IsDone command x y lines a) old new) en et h)
+    subst (λ (l : Lines). Prints (IsDone command n t l a) old new) is (of_reported left_n left_t n t (λ x y. Prints (IsDone command x y lines a) old new) en et h)
 
 -- ---- one command of them
 
@@ -114,11 +114,11 @@ pub bundle_done : (left : Option (List ℕ)) (octets text : List ℕ) (command :
 bundle_done left octets text command n t third old new (Err e) same is b h = tt
 bundle_done left octets text command n t third old new (Ok a) same is b h =
     let there : IsBundle octets command n t third = subst (λ (o : List ℕ). IsBundle o command n t third) is b in
-    told left octets (λ o. (command' : Command) × (network : List ℕ) × (traffic : List ℕ) × (last : List ℕ) × IsBundle o command' network traffic last × Prints (IsDone command' network traffic (lines_in last) a) old new) same (command, n, t, third, there, h)
+    reported left octets (λ o. (command' : Command) × (network : List ℕ) × (traffic : List ℕ) × (last : List ℕ) × IsBundle o command' network traffic last × Prints (IsDone command' network traffic (lines_in last) a) old new) same (command, n, t, third, there, h)
 
 there_in : (left : Option (List ℕ)) (octets text : List ℕ) (command : Command) (n t third : List ℕ) (e : Fault) → MayBeLeft left octets → text ≡ octets → IsBundle text command n t third → IsRefusedThere command n t third e → MayHaveLeft left (λ o. IsRefusedBundle o e)
 there_in left octets text command n t third e same is b h =
-    told left octets (λ o. IsRefusedBundle o e) same (inr (command, n, t, third, subst (λ (o : List ℕ). IsBundle o command n t third) is b, h))
+    reported left octets (λ o. IsRefusedBundle o e) same (inr (command, n, t, third, subst (λ (o : List ℕ). IsBundle o command n t third) is b, h))
 
 pub bundle_refused : (left : Option (List ℕ)) (octets text : List ℕ) (command : Command) (n t third : List ℕ) (R W : Fault → Type 0) (result : Result Answer Fault) → MayBeLeft left octets → text ≡ octets → IsBundle text command n t third → IfErr result (λ e. (e ≡ fault_at 900 places.None) ⊎ (W e ⊎ IsRefusedThere command n t third e)) → IfErr result (λ e. (e ≡ fault_at 900 places.None) ⊎ (R e ⊎ (W e ⊎ MayHaveLeft left (λ o. IsRefusedBundle o e))))
 bundle_refused left octets text command n t third R W (Ok a) same is b h = cc
@@ -131,4 +131,4 @@ bundle_refused left octets text command n t third R W (Err e) same is b h =
 
 pub no_bundle : (left : Option (List ℕ)) (octets text : List ℕ) (e : Fault) → MayBeLeft left octets → text ≡ octets → e ≡ fault_at 801 places.None → ((command : Command) (network : List ℕ) (traffic : List ℕ) (third : List ℕ) → IsBundle text command network traffic third → ⊥) → MayHaveLeft left (λ o. IsRefusedBundle o e)
 no_bundle left octets text e same is number none =
-    told left octets (λ o. IsRefusedBundle o e) same (inl (number, λ command network traffic third b. none command network traffic third (subst (λ (o : List ℕ). IsBundle o command network traffic third) (sym is) b)))
+    reported left octets (λ o. IsRefusedBundle o e) same (inl (number, λ command network traffic third b. none command network traffic third (subst (λ (o : List ℕ). IsBundle o command network traffic third) (sym is) b)))

@@ -21,7 +21,8 @@ use Rattle.fx_plan.specs.Plans.{RefusesNetwork}
 use Rattle.fx_traffic.specs.Classes.{class_faults, class_name, class_rows, exempt_faults, list_of_classes_faults, paths_faults, traffic_faults, traffic_rows}
 use Rattle.fx_traffic.specs.Crossings.{crossing_faults, crossing_rows, path_faults}
 use Rattle.fx_traffic.specs.Crossings as crossings
-use Rattle.fx_traffic.specs.Regions.{axis_name, region_faults, region_rows, values_faults, values_on}
+use Rattle.fx_elements.specs.Elements.{axis_name}
+use Rattle.fx_traffic.specs.Regions.{region_faults, region_rows, values_faults, values_on}
 use Rattle.fx_checker.specs.Documents.{IsFirstFault, IsRefusedByDocuments, IsRefusedNetwork, by_plan, by_walk, is_found}
 use Rattle.fx_base.specs.Name.{is_name}
 use Rattle.fx_walk.specs.Lists.{entries_faults, items_faults, list_faults}

@@ -23,7 +23,7 @@ use Rattle.fx_checker.specs.declared.answer.Answer.TheVariants.{Yes}
 use Rattle.fx_checker.specs.Documents.{BothMayHaveLeft, IsNetworkDocument, IsRefusedByDocuments, IsTraffic}
 use Rattle.fx_audit.specs.Metering.{IsMetered, IsMeteredIn, IsRefusedOver, IsRefusedMetering}
 use Rattle.fx_checker.specs.Outputs.{Prints}
-use Rattle.fx_checker.proofs.Documents.{both_mapped, both_told}
+use Rattle.fx_checker.proofs.Documents.{both_mapped, both_reported}
 
 -- ---- a capture that was opened
 
@@ -76,7 +76,7 @@ run_done left_n left_t left asked network classes from last before after old new
     let text = h.1.0 in
     let metered : IsMeteredIn network classes left asked from last before after text = h.1.1 in
     let written : Writes old new text = h.1.2 in
-    (h.0, both_told left_n left_t (λ o. IsNetworkDocument o network) (λ o. IsTraffic network o classes) (λ x y. Prints (IsMetered x y left asked from last before after) old new) n t (λ x y p q. (text, record { network = network; classes = classes; network_is = p; traffic_is = q; metered = metered; complete = run_complete network classes left asked from last before after text y sound q metered }, written)))
+    (h.0, both_reported left_n left_t (λ o. IsNetworkDocument o network) (λ o. IsTraffic network o classes) (λ x y. Prints (IsMetered x y left asked from last before after) old new) n t (λ x y p q. (text, record { network = network; classes = classes; network_is = p; traffic_is = q; metered = metered; complete = run_complete network classes left asked from last before after text y sound q metered }, written)))
 
 -- the run is refused, in the network and traffic that were read, over a source that was lent
 pub run_refused : (left_n left_t left : Option (List ℕ)) (asked : ℕ) (lent : Type 0) (HoldsOfLent : CaptureState → Type 0) (unread : Type 0) (HoldsAtEnd : CaptureState → Type 0) (network : NetworkDocument) (classes : List Class) (from last : Lines) (before : Put) (M N T W : Fault → Type 0) (result : Result Answer Fault)
@@ -90,7 +90,7 @@ run_refused left_n left_t left asked lent HoldsOfLent unread HoldsAtEnd network 
       | inl m ↦ inl m
       | inr (inl w) ↦ inr (inr (inr (inl w)))
       | inr (inr r) ↦
-          inr (inr (inr (inr (both_told left_n left_t (λ o. IsNetworkDocument o network) (λ o. IsTraffic network o classes) (λ x y. IsRefusedMetering x y left asked unread HoldsAtEnd from last before e) n t (λ x y p q. inr (network, classes, p, q, refused_over network classes left asked lent HoldsOfLent unread HoldsAtEnd from last before e unreadable at_end r))))))
+          inr (inr (inr (inr (both_reported left_n left_t (λ o. IsNetworkDocument o network) (λ o. IsTraffic network o classes) (λ x y. IsRefusedMetering x y left asked unread HoldsAtEnd from last before e) n t (λ x y p q. inr (network, classes, p, q, refused_over network classes left asked lent HoldsOfLent unread HoldsAtEnd from last before e unreadable at_end r))))))
     ]
 
 -- a document is refused

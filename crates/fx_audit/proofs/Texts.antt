@@ -3,7 +3,7 @@ use Rattle.std.proofs.Common.{ℕ, List, inl, inr, refl, sym, subst}
 use Rattle.fx_base.specs.Lines.{Lines}
 use Rattle.fx_check.specs.FirstRefusal.{line_limit}
 use Rattle.fx_tables.specs.Classes.{Class}
-use Rattle.fx_machine.specs.States.{told_state}
+use Rattle.fx_machine.specs.States.{wrapped_state}
 use Rattle.fx_topology.specs.declared.network.NetworkDocument.{NetworkDocument}
 use Rattle.fx_plan.specs.Tables.{net_of}
 use Rattle.fx_checker.specs.declared.answer.Answer.{Answer}
@@ -28,7 +28,7 @@ audit_text network classes limit No text h = (h.refutation, h.text_is)
 audit_text network classes limit Unknown text h = h.text_is
 
 pub replay_text : (network : NetworkDocument) (classes : List Class) (lines : Lines) (text : List ℕ) → IsReplayedIn network classes lines text → IsReplayText Yes text
-replay_text network classes lines text h = (refl, ((net_of network).report_layout, told_state h.last, h.text_is))
+replay_text network classes lines text h = (refl, ((net_of network).report_layout, wrapped_state h.last, h.text_is))
 
 pub bundle_text : (command : Command) (n t : List ℕ) (lines : Lines) (answer : Answer) (text : List ℕ) → IsDone command n t lines answer text → IsBundleText answer text
 bundle_text Replay n t lines answer text h = inl (subst (λ (a : Answer). IsReplayText a text) (sym h.0) (replay_text h.1.network h.1.classes lines text h.1.holds))

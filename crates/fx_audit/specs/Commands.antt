@@ -8,7 +8,7 @@ use Rattle.fx_base.specs.Refusals.{failed_read, schedule_or_bundle}
 use Rattle.fx_tables.specs.Classes.{Class}
 use Rattle.fx_run_text.specs.RunText.{Run}
 use Rattle.fx_run_text.specs.RunReading.{MayReadRun}
-use Rattle.fx_machine.specs.States.{State, opening, told_state}
+use Rattle.fx_machine.specs.States.{State, opening, wrapped_state}
 use Rattle.fx_machine.specs.Steps.{run}
 use Rattle.fx_check.specs.FirstRefusal.{line_limit}
 use Rattle.fx_topology.specs.declared.network.NetworkDocument.{NetworkDocument}
@@ -46,7 +46,7 @@ pub record IsReplayedIn (network : NetworkDocument) (classes : List Class) (line
   pub last : State
   pub run_is : MayReadRun classes lines (Ok run_read)
   pub steps : run (net_of network) classes run_read.packets run_read.steps (opening (net_of network) classes run_read.packets) ≡ Ok last
-  pub text_is : IsTextOf (net_of network).report_layout (told_state last) text
+  pub text_is : IsTextOf (net_of network).report_layout (wrapped_state last) text
 
 -- the text that a replay prints in the network and traffic that two documents declare
 abbrev pub IsReplayed : List ℕ → List ℕ → Lines → List ℕ → Type 0

@@ -39,12 +39,12 @@ fn make_step<E: Explainer>(
         × (state.new.packets ≡ state.old.packets) }
     ensures before { IfOk result (λ r. IfSome refused (λ e. r ≡ Some e)) }
     ensures made { IfOk result (λ r. refused ≡ None → r ≡ None → (s : states.State)
-        → state.old.state ≡ states.told_state s
+        → state.old.state ≡ states.wrapped_state s
         → (next : states.State)
         × (stepping.after state.old.net state.old.classes state.old.packets step.now s ≡ Ok next)
-        × (state.new.state ≡ states.told_state next)) }
+        × (state.new.state ≡ states.wrapped_state next)) }
     ensures refused { IfOk result (λ r. refused ≡ None → IfSome r (λ e. (e.place ≡ places.None)
-        × ((s : states.State) → state.old.state ≡ states.told_state s
+        × ((s : states.State) → state.old.state ≡ states.wrapped_state s
         → stepping.after state.old.net state.old.classes state.old.packets step.now s
         ≡ Err e.number))) }
     ensures err { IfErr result IsMemory }
@@ -81,7 +81,7 @@ fn last_state<'a, R: Source, E: Explainer>(
 ) -> Result<State<'a>, Fault>
     ensures ok { IfOk result (λ state. (state.net ≡ net.now) × ((last : states.State)
         × ComesTo net.now classes.now lines.old last
-        × (state.state ≡ states.told_state last))) }
+        × (state.state ≡ states.wrapped_state last))) }
     ensures err { IfErr result (λ e. IsMemory e
         ⊎ (Fails lines.old lines.new e ⊎ CannotReplay net.now classes.now lines.old e)) }
 {
@@ -126,7 +126,7 @@ fn lent_state<'a, R: Source, E: Explainer>(
 ) -> Result<State<'a>, Fault>
     ensures ok { IfOk result (λ state. (state.net ≡ net.now) × ((last : states.State)
         × ComesTo net.now classes.now lines.old last
-        × (state.state ≡ states.told_state last))) }
+        × (state.state ≡ states.wrapped_state last))) }
     ensures err { IfErr result (λ e. IsMemory e
         ⊎ (Fails lines.old lines.new e ⊎ CannotReplay net.now classes.now lines.old e)) }
 {
@@ -203,7 +203,7 @@ pub fn replay<R: Source, E: Explainer, S: Sink>(
 ) -> Result<Answer, Fault>
     ensures ok { IfOk result (λ answer. (answer ≡ Yes) × ((last : states.State)
         × ComesTo net.now classes.now lines.old last
-        × Prints (IsTextOf net.now.report_layout (states.told_state last))
+        × Prints (IsTextOf net.now.report_layout (states.wrapped_state last))
         (S.taken sink.old) (S.taken sink.new))) }
     ensures err { IfErr result (λ e. IsMemory e
         ⊎ (Fails lines.old lines.new e

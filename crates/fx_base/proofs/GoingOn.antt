@@ -33,8 +33,8 @@ to_line old new at ended = record {
   gained : (o : Option (List ℕ)) → old.left ≡ o → IfSome o (λ text. (rest : List ℕ) × (new.left ≡ Some rest) × (new.calls + (length rest - new.held) ≤ old.calls + (length text - old.held)))
   gained None is = tt
   gained (Some text) is =
-      let told : (0 < length text) × (new.line ≡ first_line text) × (new.ended ≡ line_ends text) × (new.left ≡ Some (after_line text)) = rw is at at.text in
-      (after_line text, told.3, all text (after_line text) is told.3 at.gains)
+      let reported : (0 < length text) × (new.line ≡ first_line text) × (new.ended ≡ line_ends text) × (new.left ≡ Some (after_line text)) = rw is at at.text in
+      (after_line text, reported.3, all text (after_line text) is reported.3 at.gains)
 
 pub goes_then : (k l m : Lines) → GoesOnToLines k l → GoesOnToLines l m → GoesOnToLines k m
 goes_then k l m first next = record {
@@ -72,7 +72,7 @@ something_left (Some octets) = (octets, refl)
 pub may_follow : (l : Lines) (rest : List ℕ) → l.ended ≡ true → MayBeLeft l.left rest → MayFollow l rest
 may_follow l rest ended left = (left, λ e. cc)
 
--- where nothing is left that is told, that is what may be left
+-- where nothing is left that is reported, that is what may be left
 pub nothing_left : (o new : Option (List ℕ)) → IfSome o (λ text. (text ≡ []) × (new ≡ Some [])) → MayBeLeft o []
 nothing_left None new h = tt
 nothing_left (Some text) new h = sym h.0
@@ -86,10 +86,10 @@ all_first text none =
 
 -- behind a line that none ended, nothing is left
 pub nothing_follows : (old new : Lines) → AtLine old new → new.ended ≡ false → MayFollow new []
-nothing_follows old new at ended = (told old.left refl at.text, λ e. refl) where
-  told : (o : Option (List ℕ)) → old.left ≡ o → IfSome o (λ text. (0 < length text) × (new.line ≡ first_line text) × (new.ended ≡ line_ends text) × (new.left ≡ Some (after_line text))) → MayBeLeft new.left []
-  told None is h = rw (at.untold is) tt
-  told (Some text) is h = rw h.3 (sym (all_first text (sym h.2 ∙ ended)))
+nothing_follows old new at ended = (reported old.left refl at.text, λ e. refl) where
+  reported : (o : Option (List ℕ)) → old.left ≡ o → IfSome o (λ text. (0 < length text) × (new.line ≡ first_line text) × (new.ended ≡ line_ends text) × (new.left ≡ Some (after_line text))) → MayBeLeft new.left []
+  reported None is h = rw (at.opaque is) tt
+  reported (Some text) is h = rw h.3 (sym (all_first text (sym h.2 ∙ ended)))
 
 -- something may follow any line
 pub something_follows : (old new : Lines) → AtLine old new → (rest : List ℕ) × MayFollow new rest

@@ -19,12 +19,12 @@ none_there zero none = refl
 none_there (suc n) some = absurd (false≢true (sym some ∙ lt-ltb 0 (suc n) (omega arith)))
 
 module _ (held piece : List ℕ) (old now new : Option (List ℕ)) (before : prepend_known held now ≡ old) (read : prepend_known piece new ≡ now) where
-  pub stays_untold : old ≡ None → new ≡ None
-  stays_untold none = by new read where
+  pub stays_opaque : old ≡ None → new ≡ None
+  stays_opaque none = by new read where
     by : (o : Option (List ℕ)) → prepend_known piece o ≡ now → o ≡ None
     by None is = refl
     by (Some rest) is =
-        let told : Some (held ++ (piece ++ rest)) ≡ None = ap (prepend_known held) is ∙ before ∙ none in
+        let reported : Some (held ++ (piece ++ rest)) ≡ None = ap (prepend_known held) is ∙ before ∙ none in
         absurd (cc)
 
   pub all_held : IfSome now (λ left. left ≡ []) → MayBeLeft old held

@@ -18,11 +18,11 @@ left_to_read before after (Some l) (Some m) n calls same le =
 -- a window that could be filled for so many octets, and then not for more
 pub failed_behind : (w0 w1 w2 : Held) → octets_of w1 ≡ octets_of w0 → w1.calls + length w0.held ≤ w0.calls + length w1.held → HasFailed w1 w2 → HasFailed w0 w2
 failed_behind w0 w1 w2 same le (inl failed) = inl failed
-failed_behind w0 w1 w2 same le (inr (all, endless)) = inr (all, told w0.left w1.left same endless) where
-  told : (old new : Option (List ℕ)) → prepend_known w1.held new ≡ prepend_known w0.held old → IfSome new (λ left. call_limit ≤ w1.calls + length left) → IfSome old (λ left. call_limit ≤ w0.calls + length left)
-  told None new is h = tt
-  told (Some l) None is h = absurd (cc)
-  told (Some l) (Some m) is h =
+failed_behind w0 w1 w2 same le (inr (all, endless)) = inr (all, reported w0.left w1.left same endless) where
+  reported : (old new : Option (List ℕ)) → prepend_known w1.held new ≡ prepend_known w0.held old → IfSome new (λ left. call_limit ≤ w1.calls + length left) → IfSome old (λ left. call_limit ≤ w0.calls + length left)
+  reported None new is h = tt
+  reported (Some l) None is h = absurd (cc)
+  reported (Some l) (Some m) is h =
       let octets : w1.held ++ m ≡ w0.held ++ l = cc in
       let sizes : length w1.held + length m ≡ length w0.held + length l = sym (length-append w1.held m) ∙ ap length octets ∙ length-append w0.held l in
       omega (arith, sizes, le, h)

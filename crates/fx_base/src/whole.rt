@@ -17,7 +17,7 @@ use std::alloc::Global;
 pub fn read_whole<R: Source>(alloc: Global, source: &mut R) -> Result<Vec<u8>, Fault>
     ensures all { IfOk result (λ octets. MayBeLeft (R.left source.old) octets.items) }
     ensures end { OnOk result (IfSome (R.left source.old) (λ _. R.left source.new ≡ Some [])) }
-    ensures untold { R.left source.old ≡ None → R.left source.new ≡ None }
+    ensures opaque { R.left source.old ≡ None → R.left source.new ≡ None }
     ensures err { IfErr result (λ e. IsMemory e
         ⊎ ((e ≡ fault_at failed_read places.None)
         × IsUnread (R.left source.old) (R.calls source.old) (R.calls source.new)

@@ -23,9 +23,9 @@ holds_is b f h k lt =
 pub holds_if : (b : Bounds) (f : Fields) → Holds b f → holds b f ≡ true
 holds_if b f h = on_axes (λ axis. is_between b f (axis_index axis)) (λ axis. is_between_if b f (axis_index axis) (h (axis_index axis) (index_below axis)))
 
-pub told_by : (r : Bool) (b : Bounds) (f : Fields) → IsTrue r ↔ Holds b f → r ≡ holds b f
-told_by true b f h = sym (holds_if b f (h.0 refl))
-told_by false b f h = cases (holds b f) refl
+pub fields_read : (r : Bool) (b : Bounds) (f : Fields) → IsTrue r ↔ Holds b f → r ≡ holds b f
+fields_read true b f h = sym (holds_if b f (h.0 refl))
+fields_read false b f h = cases (holds b f) refl
   where
     cases : (t : Bool) → holds b f ≡ t → false ≡ holds b f
     cases true e = let no : false ≡ true = h.1 (holds_is b f e) in absurd (cc)

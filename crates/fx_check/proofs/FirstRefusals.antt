@@ -60,10 +60,10 @@ ends_well judge first old new all gs made before at none =
 
 -- and nothing is left
 none_behind : (old new : Lines) → AtTextEnd old new → MayBeLeft new.left []
-none_behind old new at = told old.left refl at.text where
-  told : (o : Option (List ℕ)) → old.left ≡ o → IfSome o (λ text. (text ≡ []) × (new.left ≡ Some [])) → MayBeLeft new.left []
-  told None is h = rw (at.untold is) tt
-  told (Some text) is h = rw h.1 refl
+none_behind old new at = reported old.left refl at.text where
+  reported : (o : Option (List ℕ)) → old.left ≡ o → IfSome o (λ text. (text ≡ []) × (new.left ≡ Some [])) → MayBeLeft new.left []
+  reported None is h = rw (at.opaque is) tt
+  reported (Some text) is h = rw h.1 refl
 
 -- the text has ended too early
 pub ends_early : (judge : Judge) (first old new : Lines) (all gs : List Goal) (made : ℕ) (e : Fault) → Continues judge first all old made gs → AtTextEnd old new → at_end new.number gs ≡ Some (record { fault = e; last = new.number; behind = [] }) → Comes judge first all (IsRefusal e new)

@@ -14,7 +14,7 @@ use Rattle.fx_leaf.specs.declared.verdict.Fate.TheVariants.{Never, Once, Many, D
 use Rattle.fx_leaf.specs.Leaves.{leaf_of, never_of, numbers_of}
 use Rattle.fx_leaf.specs.Verdicts.{Verdict, path_verdict, counter}
 use Rattle.fx_check.specs.Judging.{judge_of, same_leaf, unless_same, unless_never}
-use Rattle.fx_check.specs.Outcomes.{IsCertificateNumber, IsCheckFault, memory, device, too_long, wrong, IsToldBy}
+use Rattle.fx_check.specs.Outcomes.{IsCertificateNumber, IsCheckFault, memory, device, too_long, wrong, IsReportedBy}
 use Rattle.fx_traffic.specs.Targets.{Target}
 use Rattle.fx_check.specs.FirstRefusal.{Goal, header, opening, tree, close, LineReading, long, cut, malformed, says, Refusal, at_line, at_end, after, after_reading, form_fault, leaf_answer, split_answer, unless_wrong, parts, may_say_never, by_number}
 use Rattle.fx_check.specs.LineFaults.{number_of}
@@ -163,16 +163,16 @@ end_fault n (g ∷ gs) e last h = subst IsCheckFault (ap fault_or h) (wrong 405 
   fault_or (Some r) = r.fault
 
 -- the reader itself has refused, which it hadn't before unless it had at first
-pub reader_fault : (first old new : Lines) (e : Fault) → ((f : Fault) → old.stopped ≡ Some f → first.stopped ≡ Some f) → RefusesText old new e → IsToldBy first e
+pub reader_fault : (first old new : Lines) (e : Fault) → ((f : Fault) → old.stopped ≡ Some f → first.stopped ≡ Some f) → RefusesText old new e → IsReportedBy first e
 reader_fault first old new e before h = by_stopped old.stopped refl h.again h.first where
-  by_stops : StopsText old new e → IsToldBy first e
+  by_stops : StopsText old new e → IsReportedBy first e
   by_stops (inl k) = inr (subst IsCheckFault (sym k.0) device)
   by_stops (inr k) = inr (subst IsCheckFault (sym k.0) (too_long (next_number old.number)))
 
-  by_stopped : (s : Option Fault) → old.stopped ≡ s → IfSome s (λ f. e ≡ f) → (s ≡ None → StopsText old new e) → IsToldBy first e
+  by_stopped : (s : Option Fault) → old.stopped ≡ s → IfSome s (λ f. e ≡ f) → (s ≡ None → StopsText old new e) → IsReportedBy first e
   by_stopped (Some f) is again stops = inl (before e (is ∙ ap (λ (x : Fault). Some x) (sym again)))
   by_stopped None is again stops = by_stops (stops refl)
 
 -- memory is wanting
-pub from_memory : (lines : Lines) (e : Fault) → e ≡ fault_at 900 places.None → IsToldBy lines e
+pub from_memory : (lines : Lines) (e : Fault) → e ≡ fault_at 900 places.None → IsReportedBy lines e
 from_memory lines e is = inr (subst IsCheckFault (sym is) memory)

@@ -19,9 +19,9 @@ certified net classes lines is_net rs (text, left, none) = (text, left, certific
 pub accepts : {X : Type 0} (net : Net) (classes : List Class) (old new : Lines) (r : Result X Fault) → IsNetwork net → AreRegions (targets_of classes) → IfErr r (λ e. Fails old new e ⊎ MayBeRefused net (targets_of classes) old new e) → IfErr r (Accepts net classes old new)
 accepts net classes old new (Ok x) is_net rs h = tt
 accepts net classes old new (Err e) is_net rs (inl f) = λ text left is. inr f
-accepts net classes old new (Err e) is_net rs (inr there) = λ text told is.
+accepts net classes old new (Err e) is_net rs (inr there) = λ text reported is.
     let judged : List ℕ → Option Refusal = λ t. first_refusal (judge_of net) old.number 0 (whole (targets_of classes)) (text_lines t) in
-    let same_text : there.0 ≡ text = rw told at there.1 in
+    let same_text : there.0 ≡ text = rw reported at there.1 in
     let here : IsRefusal e new (judged text) = subst (λ (t : List ℕ). IsRefusal e new (judged t)) same_text there.2 in
     let none : ⊥ = subst (IsRefusal e new) (certificate_all net classes old.number (text_lines text) is_net rs is) here in
     absurd none

@@ -63,5 +63,5 @@ pub data IsCheckFault : Fault → Type 0 where
   wrong : (number line : ℕ) → IsCertificateNumber number → IsCheckFault (fault_at number (places.Line line))
 
 -- such a fault, or the fault with which the reader had already stopped
-abbrev pub IsToldBy : Lines → Fault → Type 0
-IsToldBy lines e = (lines.stopped ≡ Some e) ⊎ IsCheckFault e
+abbrev pub IsReportedBy : Lines → Fault → Type 0
+IsReportedBy lines e = (lines.stopped ≡ Some e) ⊎ IsCheckFault e

@@ -5,7 +5,7 @@ ghost use Rattle.fx_base.specs.Lines.{Fails};
 ghost use Rattle.fx_tables.specs.Ranks.{IsNetwork};
 ghost use Rattle.fx_plan.specs.Tables.{net_of};
 ghost use Rattle.fx_traffic.specs.Targets.{AreRegions, targets_of};
-ghost use Rattle.fx_check.specs.Outcomes.{IsToldBy, MayBeAccepted, MayBeRefused};
+ghost use Rattle.fx_check.specs.Outcomes.{IsReportedBy, MayBeAccepted, MayBeRefused};
 ghost use Rattle.fx_check.specs.Stops.{IsBeforeFirst, IsDue, IsStop};
 
 use crate::checking::{make_room, take_lines};
@@ -94,7 +94,7 @@ impl<'a> Checker<'a> {
         // What it waits for is what the line that stopped it had to be.
         ensures stops { IfErr result (IsStop lines.old lines.new self.new) }
         // 901 and 903 at a line are the reader's, and 401 to 415 at a line are the certificate's.
-        ensures numbers { IfErr result (IsToldBy lines.old) }
+        ensures numbers { IfErr result (IsReportedBy lines.old) }
     {
         take_lines(
             &mut self.progress,

@@ -6,7 +6,7 @@ ghost use Rattle.fx_leaf.specs.Tables.{AreTables};
 ghost use Rattle.fx_machine.specs.Claim.{ExactlyOnce, OnceModulo};
 ghost use Rattle.fx_base.specs.Lines.{Fails};
 ghost use Rattle.fx_plan.specs.Tables.{net_of};
-ghost use Rattle.fx_check.specs.Outcomes.{IsToldBy, Accepts, MayBeAccepted, MayBeCertificate, MayBeRefused};
+ghost use Rattle.fx_check.specs.Outcomes.{IsReportedBy, Accepts, MayBeAccepted, MayBeCertificate, MayBeRefused};
 ghost use Rattle.fx_check.specs.Remaining.{goals, HasRooms, IsConsistent, IsReady};
 ghost use Rattle.fx_traffic.specs.Targets.{targets_of};
 ghost use Rattle.fx_check.specs.FirstRefusal.{whole};
@@ -39,7 +39,7 @@ pub(crate) fn take_lines<'t, R: Source>(
         ⊎ MayBeRefused tables.now.net targets.now lines.old lines.new e) }
     ensures stops { IfErr result (IsStop lines.old lines.new
         (state_of tables.now.net targets.now progress.new)) }
-    ensures numbers { IfErr result (IsToldBy lines.old) }
+    ensures numbers { IfErr result (IsReportedBy lines.old) }
     ensures ready { IsReady tables.now targets.now progress.new scratch.new }
     ensures consistent { IsConsistent targets.now progress.new }
 {
@@ -127,7 +127,7 @@ pub fn check<R: Source>(
     // No such certificate is refused: if its text is read, only a lack of memory or a failed read stops the check.
     ensures accepts { IfErr result (Accepts (net_of plan.now) traffic.now lines.old lines.new) }
     // Whatever bytes the reader gives: 900 or 901, 903 at a line, or 401 to 415 at a line.
-    ensures numbers { IfErr result (IsToldBy lines.old) }
+    ensures numbers { IfErr result (IsReportedBy lines.old) }
 {
     check_watched(alloc, plan, traffic, lines, &mut Unwatched)
 }
@@ -149,7 +149,7 @@ pub fn check_watched<R: Source, W: CheckWatch>(
         ⊎ (Fails lines.old lines.new e
         ⊎ MayBeRefused (net_of plan.now) (targets_of traffic.now) lines.old lines.new e)) }
     ensures accepts { IfErr result (Accepts (net_of plan.now) traffic.now lines.old lines.new) }
-    ensures numbers { IfErr result (IsToldBy lines.old) }
+    ensures numbers { IfErr result (IsReportedBy lines.old) }
 {
     let mut checker = Checker::new(alloc, plan, traffic)?;
     let outcome = checker.take_all(lines);

@@ -52,7 +52,7 @@ pub fn certificates_join()
 
 /// States that, if something is wrong with a leaf for a region, its number gives why no leaf is sound there, or is 410
 /// if another one is; for a leaf which says that nothing is counted it gives why packets are.
-pub fn wrong_leaves_are_told()
+pub fn wrong_leaves_are_reported()
     ensures counted { (net : network.Net) (target : Target) (region : Bounds) (leaf : Counted)
         (number : ℕ)
         → IsNetwork net → IsRegion region → judge_of net target region (Some leaf) ≡ Some number

@@ -9,7 +9,7 @@ use Rattle.fx_cli.specs.OptionFlag.{AddsHelp, wants_help}
 pub handed_on : {S : Type 0} (taken : S → Option (List ℕ)) (failed holds_back : S → Bool) (Ends : S → ℕ → Type 0) (mid new : S) (code last : ℕ) → Ends mid code
     → ((last ≡ code) × (failed new ≡ false) × (holds_back new ≡ false) × (taken new ≡ taken mid)) ⊎ ((last ≡ 5) × (failed new ≡ true))
     → EndsAfterFlush taken failed holds_back Ends new last
-handed_on taken failed holds_back Ends mid new code last ends (inl (same, fine, none, told)) = inl (mid, subst (λ (n : ℕ). Ends mid n) (sym same) ends, told, fine, none)
+handed_on taken failed holds_back Ends mid new code last ends (inl (same, fine, none, reported)) = inl (mid, subst (λ (n : ℕ). Ends mid n) (sym same) ends, reported, fine, none)
 handed_on taken failed holds_back Ends mid new code last ends (inr fails) = inr fails
 
 pub if_ok_handed : {A E S : Type 0} (taken : S → Option (List ℕ)) (failed holds_back : S → Bool) (Ends : A → S → ℕ → Type 0) (r : Result A E) (mid new : S) (code last : ℕ) → IfOk r (λ a. Ends a mid code)

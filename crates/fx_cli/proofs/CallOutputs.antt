@@ -176,8 +176,8 @@ memory_refusal (Explain a) = refl
 pub ends_as : (words : List Text) (one other : Call) → Names words one → Names words other → (old new : Option (List ℕ)) (Going Failed : Type 0) (code : ℕ)
     → EndsAs (IsCallText one) (IsCallRefusal one) old new Going Failed code → EndsAs (IsCallText other) (IsCallRefusal other) old new Going Failed code
 ends_as words one other n m old new Going Failed code ends = elim ends [
-  | inl (going, (answer, text, is, told, ended)) ↦ inl (going, (answer, text, same_text words one other n m answer text is, told, ended))
-  | inr (inl (going, (e, is, told, ended))) ↦ inr (inl (going, (e, same_refusal words one other n m e is, told, ended)))
+  | inl (going, (answer, text, is, reported, ended)) ↦ inl (going, (answer, text, same_text words one other n m answer text is, reported, ended))
+  | inr (inl (going, (e, is, reported, ended))) ↦ inr (inl (going, (e, same_refusal words one other n m e is, reported, ended)))
   | inr (inr failed) ↦ inr (inr failed)
 ]
 
@@ -185,48 +185,48 @@ ends_as words one other n m old new Going Failed code ends = elim ends [
 pub of_documents : {E : Type 0} (P : Answer → List ℕ → List ℕ → List ℕ → Type 0) (r : Result Answer E) (network traffic old new : Option (List ℕ))
     → IfOk r (λ answer. BothMayHaveLeft network traffic (λ n t. Prints (P answer n t) old new)) → IfOk r (λ answer. Prints (λ text. ForSomeDocuments (λ n t. P answer n t text)) old new)
 of_documents P (Ok answer) network traffic old new (n, left, (t, also, (text, is, written))) = (text, (n, t, is), written)
-of_documents P (Err e) network traffic old new told = tt
+of_documents P (Err e) network traffic old new reported = tt
 
 pub yes_of_documents : {E : Type 0} (P : List ℕ → List ℕ → List ℕ → Type 0) (r : Result Answer E) (network traffic old new : Option (List ℕ))
     → IfOk r (λ answer. (answer ≡ Yes) × BothMayHaveLeft network traffic (λ n t. Prints (P n t) old new))
     → IfOk r (λ answer. Prints (λ text. (answer ≡ Yes) × ForSomeDocuments (λ n t. P n t text)) old new)
 yes_of_documents P (Ok answer) network traffic old new (said, (n, left, (t, also, (text, is, written)))) = (text, (said, (n, t, is)), written)
-yes_of_documents P (Err e) network traffic old new told = tt
+yes_of_documents P (Err e) network traffic old new reported = tt
 
 pub yes_of_document : {E : Type 0} (P : List ℕ → List ℕ → Type 0) (r : Result Answer E) (network old new : Option (List ℕ))
     → IfOk r (λ answer. (answer ≡ Yes) × MayHaveLeft network (λ n. Prints (P n) old new))
     → IfOk r (λ answer. Prints (λ text. (answer ≡ Yes) × ForSomeNetwork (λ n. P n text)) old new)
 yes_of_document P (Ok answer) network old new (said, (n, left, (text, is, written))) = (text, (said, (n, is)), written)
-yes_of_document P (Err e) network old new told = tt
+yes_of_document P (Err e) network old new reported = tt
 
 pub ran_over : {E : Type 0} (r : Result Answer E) (network traffic left old new : Option (List ℕ)) (asked : ℕ) (from last : Lines) (before after : Put) → IsAtBeginning from
     → IfOk r (λ answer. (answer ≡ Yes) × BothMayHaveLeft network traffic (λ n t. Prints (IsMetered n t left asked from last before after) old new))
     → IfOk r (λ answer. Prints (IsRunOutput answer) old new)
 ran_over (Ok answer) network traffic left old new asked from last before after begins (said, (n, l, (t, also, (text, is, written)))) =
     (text, (said, (n, t, from, begins, record { left = left; asked = asked; last = last; before = before; after = after; metered = is })), written)
-ran_over (Err e) network traffic left old new asked from last before after begins told = tt
+ran_over (Err e) network traffic left old new asked from last before after begins reported = tt
 
 pub yes_of_lines : {E : Type 0} (P : List ℕ → Lines → List ℕ → Type 0) (lines : Lines) (r : Result Answer E) (network old new : Option (List ℕ)) → IsAtBeginning lines
     → IfOk r (λ answer. (answer ≡ Yes) × MayHaveLeft network (λ n. Prints (P n lines) old new))
     → IfOk r (λ answer. Prints (λ text. (answer ≡ Yes) × ForSomeNetwork (λ n. ((lines : Lines) × IsAtBeginning lines × P n lines text))) old new)
 yes_of_lines P lines (Ok answer) network old new begins (said, (n, left, (text, is, written))) = (text, (said, (n, (lines, begins, is))), written)
-yes_of_lines P lines (Err e) network old new begins told = tt
+yes_of_lines P lines (Err e) network old new begins reported = tt
 
 pub yes_of_texts : {E : Type 0} (P : List ℕ → List ℕ → Lines → List ℕ → Type 0) (lines : Lines) (r : Result Answer E) (network traffic old new : Option (List ℕ)) → IsAtBeginning lines
     → IfOk r (λ answer. (answer ≡ Yes) × BothMayHaveLeft network traffic (λ n t. Prints (P n t lines) old new))
     → IfOk r (λ answer. Prints (λ text. (answer ≡ Yes) × ForSomeTexts (λ n t lines. P n t lines text)) old new)
 yes_of_texts P lines (Ok answer) network traffic old new begins (said, (n, left, (t, also, (text, is, written)))) = (text, (said, (n, t, lines, begins, is)), written)
-yes_of_texts P lines (Err e) network traffic old new begins told = tt
+yes_of_texts P lines (Err e) network traffic old new begins reported = tt
 
 pub ends_explained_as : (words : List Text) (one other : Call) → Names words one → Names words other → (old new : Option (List ℕ)) (Going Failed : Type 0) (code : ℕ)
     → EndsExplained (IsCallText one) (IsCallRefusal one) old new Going Failed code → EndsExplained (IsCallText other) (IsCallRefusal other) old new Going Failed code
 ends_explained_as words one other n m old new Going Failed code ends = elim ends [
-  | inl (going, (answer, text, more, is, told, ended)) ↦ inl (going, (answer, text, more, same_text words one other n m answer text is, told, ended))
-  | inr (inl (going, (e, more, is, told, ended))) ↦ inr (inl (going, (e, more, same_refusal words one other n m e is, told, ended)))
+  | inl (going, (answer, text, more, is, reported, ended)) ↦ inl (going, (answer, text, more, same_text words one other n m answer text is, reported, ended))
+  | inr (inl (going, (e, more, is, reported, ended))) ↦ inr (inl (going, (e, more, same_refusal words one other n m e is, reported, ended)))
   | inr (inr failed) ↦ inr (inr failed)
 ]
 
--- an answer that was told, or a refusal that came with nothing written or with a failed write and then its line, and words
+-- an answer that was reported, or a refusal that came with nothing written or with a failed write and then its line, and words
 -- behind it
 pub ended_explained : {S : Type 0} (taken : S → Option (List ℕ)) (failed : S → Bool) (IsText : Answer → List ℕ → Type 0) (IsRefused : Fault → Type 0) (r : Result Answer Fault) (more : List ℕ) (first then last : S) (code : ℕ)
     → AnswersWith taken failed IsText first then r
@@ -234,14 +234,14 @@ pub ended_explained : {S : Type 0} (taken : S → Option (List ℕ)) (failed : S
     → IfOk r (λ _. EndsWith taken failed more (status r) then last code)
     → IfErr r (λ e. EndsWith taken failed (refusal_line e ++ more) (refusal_status e) then last code)
     → EndsExplained IsText IsRefused (taken first) (taken last) (failed first ≡ false → failed last ≡ false) (HasFailedExplained taken failed last) code
-ended_explained {S} taken failed IsText IsRefused (Ok answer) more first then last code ((text, is, told), (going, quiet)) why (inl (code_is, line, keeps)) refused =
-    inl (λ fine. keeps (going fine), (answer, text, more, is, writes_both (taken first) (taken then) (taken last) text more (text ++ more) told line refl, code_is))
+ended_explained {S} taken failed IsText IsRefused (Ok answer) more first then last code ((text, is, reported), (going, quiet)) why (inl (code_is, line, keeps)) refused =
+    inl (λ fine. keeps (going fine), (answer, text, more, is, writes_both (taken first) (taken then) (taken last) text more (text ++ more) reported line refl, code_is))
 ended_explained {S} taken failed IsText IsRefused (Ok answer) more first then last code answers why (inr (five, fails)) refused = inr (inr (five, inl fails))
 ended_explained {S} taken failed IsText IsRefused (Err e) more first then last code answers (inl (is, fails)) answered (inl (code_is, line, keeps)) =
     inr (inr (code_is ∙ ap refusal_status is, inr (then, more, fails, subst (λ (x : Fault). Writes (taken then) (taken last) (refusal_line x ++ more)) is line)))
-ended_explained {S} taken failed IsText IsRefused (Err e) more first then last code (told, (going, inl (is, fails))) (inr why) answered (inl (code_is, line, keeps)) =
+ended_explained {S} taken failed IsText IsRefused (Err e) more first then last code (reported, (going, inl (is, fails))) (inr why) answered (inl (code_is, line, keeps)) =
     inr (inr (code_is ∙ ap refusal_status is, inr (then, more, fails, subst (λ (x : Fault). Writes (taken then) (taken last) (refusal_line x ++ more)) is line)))
-ended_explained {S} taken failed IsText IsRefused (Err e) more first then last code (told, (going, inr same)) (inr why) answered (inl (code_is, line, keeps)) =
+ended_explained {S} taken failed IsText IsRefused (Err e) more first then last code (reported, (going, inr same)) (inr why) answered (inl (code_is, line, keeps)) =
     inr (inl (λ fine. keeps (subst (λ (s : S). failed s ≡ false) (sym same) fine), (e, more, why, subst (λ (s : S). Writes (taken s) (taken last) (refusal_line e ++ more)) same line, code_is)))
 ended_explained {S} taken failed IsText IsRefused (Err e) more first then last code answers why answered (inr (five, fails)) = inr (inr (five, inl fails))
 

@@ -33,11 +33,11 @@ pub ended_in_json : {S : Type 0} (taken : S → Option (List ℕ)) (failed : S �
     → IfOk r (λ _. EndsAnswered taken failed (status r) then.octets.items old new result)
     → IfErr r (λ e. EndsRefused taken failed (refusal_status e) e (then.octets.items ++ refusal_line e) old new result)
     → EndsInJson IsText IsRefused taken failed old new result
-ended_in_json {S} taken failed IsText IsRefused (Ok answer) first then old new result empty ((text, is, told), (going, quiet)) why short answered refused =
-    inl (answer, text, is, subst (λ (t : List ℕ). EndsAnswered taken failed (status (Ok answer)) t old new result) (all_written first.octets.items then.octets.items text empty told) answered)
+ended_in_json {S} taken failed IsText IsRefused (Ok answer) first then old new result empty ((text, is, reported), (going, quiet)) why short answered refused =
+    inl (answer, text, is, subst (λ (t : List ℕ). EndsAnswered taken failed (status (Ok answer)) t old new result) (all_written first.octets.items then.octets.items text empty reported) answered)
 ended_in_json {S} taken failed IsText IsRefused (Err e) first then old new result empty answers (inl (is, fails)) short answered refused = inr (inr (short fails))
-ended_in_json {S} taken failed IsText IsRefused (Err e) first then old new result empty (told, (going, inl (is, fails))) (inr why) short answered refused = inr (inr (short fails))
-ended_in_json {S} taken failed IsText IsRefused (Err e) first then old new result empty (told, (going, inr unchanged)) (inr why) short answered refused =
+ended_in_json {S} taken failed IsText IsRefused (Err e) first then old new result empty (reported, (going, inl (is, fails))) (inr why) short answered refused = inr (inr (short fails))
+ended_in_json {S} taken failed IsText IsRefused (Err e) first then old new result empty (reported, (going, inr unchanged)) (inr why) short answered refused =
     let none : then.octets.items ≡ [] = ap (λ (b : TextBuffer). b.octets.items) unchanged ∙ empty in
     inr (inl (e, why, subst (λ (before : List ℕ). EndsRefused taken failed (refusal_status e) e (before ++ refusal_line e) old new result) none refused))
 

@@ -10,11 +10,11 @@ use Rattle.fx_run_text.specs.declared.step.Step.TheVariants.{Cross, Expire, Arri
 use Rattle.fx_tables.specs.Network.{Net, Exporter, holder_place}
 use Rattle.fx_base.specs.Entries.{entry_numbered}
 use Rattle.fx_tables.specs.Classes.{Class, path}
-use Rattle.fx_machine.specs.States.{State, opening, told_state, after_tally, sent_to, sent_to_all, add_at, without}
+use Rattle.fx_machine.specs.States.{State, opening, wrapped_state, after_tally, sent_to, sent_to_all, add_at, without}
 use Rattle.fx_machine.specs.Acts.{Choices, Act, Tally, Send, Hold, Made, Outcome, sent_to_chosen, send_by_choice, taken_in, with_held, hold_in, hold, act, act_all, all_acts, all_used}
 use Rattle.fx_machine.specs.Steps.{one_packet, crossing_acts, acts_of_leaving, acts_of_arrival, place, link_place, after_cross, after_expire, expire_from, expire_at, after_arrive, arrive_from, arrive_at, after, then_run, run}
 use Rattle.fx_collect.specs.Totals.{Totals, IsUnder, IsTable, totals_of, totals_in}
-use Rattle.fx_collect.proofs.TotalsOfTotals.{table_added, retold}
+use Rattle.fx_collect.proofs.TotalsOfTotals.{table_added, restated}
 
 module _ (net : Net) where
   Kept : State → Type 0
@@ -179,7 +179,7 @@ module _ (net : Net) where
   run_table classes packets steps last e =
       last_kept (run net classes packets steps (opening net classes packets)) last e (run_keeps classes packets steps (opening net classes packets) (opened classes packets))
 
--- what is told of a run's last state are its own totals
-pub run_retold : (net : Net) (classes : List Class) (packets : List Packet) (steps : List Step) (last : State) → IsLayout net.report_layout → run net classes packets steps (opening net classes packets) ≡ Ok last → totals_of net.report_layout (told_state last) ≡ totals_in net.report_layout (told_state last)
-run_retold net classes packets steps last l e =
-    ap (λ (t : Totals). record t { unassigned = (told_state last).unassigned }) (retold net.report_layout last.totals l (run_table net classes packets steps last e))
+-- what is reported of a run's last state are its own totals
+pub run_restated : (net : Net) (classes : List Class) (packets : List Packet) (steps : List Step) (last : State) → IsLayout net.report_layout → run net classes packets steps (opening net classes packets) ≡ Ok last → totals_of net.report_layout (wrapped_state last) ≡ totals_in net.report_layout (wrapped_state last)
+run_restated net classes packets steps last l e =
+    ap (λ (t : Totals). record t { unassigned = (wrapped_state last).unassigned }) (restated net.report_layout last.totals l (run_table net classes packets steps last e))

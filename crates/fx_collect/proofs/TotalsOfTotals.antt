@@ -54,20 +54,20 @@ added_last (d ∷ done) r h = rw (h.0) (ap (λ xs. d ∷ xs) (added_last done r 
 abbrev so_far : Layout → List Record → Totals
 so_far layout rs = record { layout = layout; entries = rs; unassigned = 0 }
 
-told_last : (layout : Layout) (done rs : List Record) (r : Record) → IsLayout layout → IsTable layout (done ++ r ∷ rs) → with_record (so_far layout done) r ≡ so_far layout (done ++ r ∷ [])
-told_last layout done rs r l t =
+reported_last : (layout : Layout) (done rs : List Record) (r : Record) → IsLayout layout → IsTable layout (done ++ r ∷ rs) → with_record (so_far layout done) r ≡ so_far layout (done ++ r ∷ [])
+reported_last layout done rs r l t =
     let under : IsUnder layout r.key = at_end (λ x. IsUnder layout x.key) done rs r t.under in
     let refined : refines r.key.layout layout ≡ true = subst (λ (k : Layout). refines k layout ≡ true) (sym under.0) (refines_own layout l) in
     let added : add_at done (project r.key layout) r.counts ≡ done ++ r ∷ [] = ap (λ (k : Key). add_at done k r.counts) (project_own layout r.key l under) ∙ added_last done r (others_before done rs r t.differ) in
     rw refined (ap (so_far layout) added)
 
-told_on : (layout : Layout) (done rs : List Record) → IsLayout layout → IsTable layout (done ++ rs) → with_records (so_far layout done) rs ≡ so_far layout (done ++ rs)
-told_on layout done [] l t = ap (so_far layout) (sym (append-nil done))
-told_on layout done (r ∷ rs) l t =
-    let one = told_last layout done rs r l t in
+reported_on : (layout : Layout) (done rs : List Record) → IsLayout layout → IsTable layout (done ++ rs) → with_records (so_far layout done) rs ≡ so_far layout (done ++ rs)
+reported_on layout done [] l t = ap (so_far layout) (sym (append-nil done))
+reported_on layout done (r ∷ rs) l t =
+    let one = reported_last layout done rs r l t in
     let joined = append_assoc done (r ∷ []) rs in
-    let rest = told_on layout (done ++ r ∷ []) rs l (subst (λ (xs : List Record). IsTable layout xs) (sym joined) t) in
+    let rest = reported_on layout (done ++ r ∷ []) rs l (subst (λ (xs : List Record). IsTable layout xs) (sym joined) t) in
     ap (λ (x : Totals). with_records x rs) one ∙ rest ∙ ap (so_far layout) joined
 
-pub retold : (layout : Layout) (rs : List Record) → IsLayout layout → IsTable layout rs → with_records (nothing layout) rs ≡ record { layout = layout; entries = rs; unassigned = 0 }
-retold layout rs l t = told_on layout [] rs l t
+pub restated : (layout : Layout) (rs : List Record) → IsLayout layout → IsTable layout rs → with_records (nothing layout) rs ≡ record { layout = layout; entries = rs; unassigned = 0 }
+restated layout rs l t = reported_on layout [] rs l t

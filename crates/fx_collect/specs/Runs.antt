@@ -5,7 +5,7 @@ use Rattle.fx_tables.specs.declared.packet.Packet.{Packet}
 use Rattle.fx_run_text.specs.declared.step.Step.{Step}
 use Rattle.fx_tables.specs.Network.{Net}
 use Rattle.fx_tables.specs.Classes.{Class}
-use Rattle.fx_machine.specs.States.{State, opening, told_state}
+use Rattle.fx_machine.specs.States.{State, opening, wrapped_state}
 use Rattle.fx_machine.specs.Steps.{run}
 use Rattle.fx_collect.specs.Totals.{IsTable, totals_of, totals_in}
 
@@ -19,6 +19,6 @@ abbrev pub HasTable : Net → State → Type 0
 HasTable net last = IsTable net.report_layout last.totals
 
 -- the totals recomputed record by record are the totals in the state
-abbrev pub IsToldAsItIs : Net → State → Type 0
-IsToldAsItIs net last =
-    IsLayout net.report_layout → totals_of net.report_layout (told_state last) ≡ totals_in net.report_layout (told_state last)
+abbrev pub HasExactTotals : Net → State → Type 0
+HasExactTotals net last =
+    IsLayout net.report_layout → totals_of net.report_layout (wrapped_state last) ≡ totals_in net.report_layout (wrapped_state last)

@@ -218,10 +218,10 @@ an_explanation_has_no_fault : fault_of once_app (codes "once" ∷ codes "explain
 unfolding clap_on_literals
 an_explanation_has_no_fault = refl
 
-the_version_is_told : fault_of once_app (codes "once" ∷ codes "--version" ∷ []) ≡ DisplayVersion ∷ []
+the_version_is_reported : fault_of once_app (codes "once" ∷ codes "--version" ∷ []) ≡ DisplayVersion ∷ []
 unfolding clap_on_literals
-the_version_is_told = refl
+the_version_is_reported = refl
 
-the_version_is_told_by_a_letter : fault_of once_app (codes "once" ∷ codes "-V" ∷ []) ≡ DisplayVersion ∷ []
+the_version_is_reported_by_a_letter : fault_of once_app (codes "once" ∷ codes "-V" ∷ []) ≡ DisplayVersion ∷ []
 unfolding clap_on_literals
-the_version_is_told_by_a_letter = refl
+the_version_is_reported_by_a_letter = refl

@@ -11,7 +11,7 @@ use Rattle.fx_tables.specs.declared.traffic.Crossing.{Crossing}
 use Rattle.fx_tables.specs.Network.{Net, named_by}
 use Rattle.fx_base.specs.Entries.{entry_numbered}
 use Rattle.fx_tables.specs.Classes.{Class, path}
-use Rattle.fx_machine.specs.States.{State, Coming, opening, told_state, put_last}
+use Rattle.fx_machine.specs.States.{State, Coming, opening, wrapped_state, put_last}
 use Rattle.fx_machine.specs.Acts.{Choices, Outcome}
 use Rattle.fx_machine.specs.Sends.{put_all}
 use Rattle.fx_machine.specs.Holds.{hold_all}
@@ -44,7 +44,7 @@ pub record IsAmid (net : Net) (classes : List Class) (packets : List Packet) (c 
   pub as_many : length s.carried ≡ length net.links
   pub links : AreCarried c.second pending history (put_by_run net classes packets steps) c.links s.carried
   pub chosen : AllUsable net c.chosen
-  pub totals : c.totals ≡ totals_in net.report_layout (told_state s)
+  pub totals : c.totals ≡ totals_in net.report_layout (wrapped_state s)
   pub second : c.second < 2 ^ 32
 
 -- ---- lists of what is carried

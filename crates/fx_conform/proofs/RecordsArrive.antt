@@ -14,7 +14,7 @@ use Rattle.fx_machine.specs.Acts.{Choices}
 use Rattle.fx_tables.specs.Takers.{intakes}
 use Rattle.fx_tables.specs.Runnable.{IsHolder, HasAggregations, IsRunnable}
 use Rattle.fx_machine.specs.Sends.{put_all}
-use Rattle.fx_machine.specs.States.{State, add_at, after_tally, told_state}
+use Rattle.fx_machine.specs.States.{State, add_at, after_tally, wrapped_state}
 use Rattle.fx_machine.specs.Steps.{after}
 use Rattle.fx_collect.specs.Totals.{Totals, with_record, totals_in}
 use Rattle.fx_link.specs.Sending.{IsSent}
@@ -49,7 +49,7 @@ use Rattle.fx_conform.proofs.PacketsCross.{Then, all_at, all_to_list, boundless_
 one_modulo : (n : ℕ) → (n % 2 ^ 64 + 1) % 2 ^ 64 ≡ (n + 1) % 2 ^ 64
 one_modulo n = omega arith
 
-with_tallied : (net : Net) (r : Record) (s : State) → with_record (totals_in net.report_layout (told_state s)) r ≡ totals_in net.report_layout (told_state (after_tally net r.key r.counts s))
+with_tallied : (net : Net) (r : Record) (s : State) → with_record (totals_in net.report_layout (wrapped_state s)) r ≡ totals_in net.report_layout (wrapped_state (after_tally net r.key r.counts s))
 with_tallied net r s = by (refines r.key.layout net.report_layout) where
   L : Layout
   L = net.report_layout
@@ -57,7 +57,7 @@ with_tallied net r s = by (refines r.key.layout net.report_layout) where
   by : (b : Bool)
       → cond b (let t : Totals = record { layout = L; entries = add_at s.totals (project r.key L) r.counts; unassigned = s.unassigned % 2 ^ 64 } in t)
       (record { layout = L; entries = s.totals; unassigned = (s.unassigned % 2 ^ 64 + 1) % 2 ^ 64 })
-      ≡ totals_in L (told_state (cond b (let t : State = record s { totals = add_at s.totals (project r.key L) r.counts } in t) (record s { unassigned = s.unassigned + 1 })))
+      ≡ totals_in L (wrapped_state (cond b (let t : State = record s { totals = add_at s.totals (project r.key L) r.counts } in t) (record s { unassigned = s.unassigned + 1 })))
   by true = refl
   by false = ap (λ (n : ℕ). let t : Totals = record { layout = L; entries = s.totals; unassigned = n } in t) (one_modulo s.unassigned)
 
@@ -75,10 +75,10 @@ tallied_coming net key r s = by (refines key.layout net.report_layout) where
   by false = refl
 
 -- at the report it is tallied in both
-tallies : (net : Net) (to : ℕ) (r : Record) (s : State) (totals : Totals) → totals ≡ totals_in net.report_layout (told_state s)
-    → cond (to == net.report) (with_record totals r) totals ≡ totals_in net.report_layout (told_state (tallied_at net to r s))
+tallies : (net : Net) (to : ℕ) (r : Record) (s : State) (totals : Totals) → totals ≡ totals_in net.report_layout (wrapped_state s)
+    → cond (to == net.report) (with_record totals r) totals ≡ totals_in net.report_layout (wrapped_state (tallied_at net to r s))
 tallies net to r s totals e = by (to == net.report) where
-  by : (b : Bool) → cond b (with_record totals r) totals ≡ totals_in net.report_layout (told_state (cond b (after_tally net r.key r.counts s) s))
+  by : (b : Bool) → cond b (with_record totals r) totals ≡ totals_in net.report_layout (wrapped_state (cond b (after_tally net r.key r.counts s) s))
   by true = ap (λ (t : Totals). with_record t r) e ∙ with_tallied net r s
   by false = e
 

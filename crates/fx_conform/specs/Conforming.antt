@@ -9,7 +9,7 @@ use Rattle.fx_tables.specs.Network.{Net, AggregationEntry, aggregations_of}
 use Rattle.fx_tables.specs.Classes.{Class}
 use Rattle.fx_tables.specs.Ranks.{IsNetwork}
 use Rattle.fx_tables.specs.Runnable.{IsRunnable}
-use Rattle.fx_machine.specs.States.{State, opening, told_state}
+use Rattle.fx_machine.specs.States.{State, opening, wrapped_state}
 use Rattle.fx_machine.specs.Steps.{run}
 use Rattle.fx_collect.specs.Totals.{totals_in}
 use Rattle.fx_link.specs.Links.{Put}
@@ -62,5 +62,5 @@ pub record Conforms (net : Net) (classes : List Class) (begin put : Put) (c : Co
   pub stores : StoresConform net c.stores s.held
   pub links : AreStill history (put_by_run net classes packets steps) c.links s.carried
   pub chosen : AllUsable net c.chosen
-  pub totals : c.totals ≡ totals_in net.report_layout (told_state s)
+  pub totals : c.totals ≡ totals_in net.report_layout (wrapped_state s)
   pub second : c.second < 2 ^ 32

@@ -10,7 +10,7 @@ use Rattle.fx_tables.specs.Network.{Net}
 use Rattle.fx_base.specs.Entries.{entry_numbered}
 use Rattle.fx_tables.specs.Classes.{Class, IsOf, to_count}
 use Rattle.fx_machine.specs.Claim.{ExactlyOnce, OnceModulo, counts_modulo}
-use Rattle.fx_machine.specs.States.{State, Complete, opening, told_state}
+use Rattle.fx_machine.specs.States.{State, Complete, opening, wrapped_state}
 use Rattle.fx_machine.specs.Steps.{run}
 use Rattle.fx_machine.specs.Sums.{SumsFit, plain_sum, total_at}
 use Rattle.fx_collect.specs.Totals.{Totals, totals_in}
@@ -69,7 +69,7 @@ pub record IsRunOf (network : NetworkDocument) (classes : List Class) (at to : c
   pub run_is : run (net_of network) classes course.packets course.steps (opening (net_of network) classes course.packets) ≡ Ok final
   pub complete : Complete final
   pub in_order : AreInOrder network classes from_line to_line course
-  pub totals_are : totals ≡ totals_in (net_of network).report_layout (told_state final)
+  pub totals_are : totals ≡ totals_in (net_of network).report_layout (wrapped_state final)
   pub read : (link : ℕ) → link < length (net_of network).links → IsReadOn (net_of network) classes course.packets course.steps before after link
 
 -- each class has a path

@@ -2,23 +2,8 @@
 use crate::dot::Dot;
 use fx_base::Name;
 use fx_config::{CacheKind, Direction, ExportMode, Method, PropertyMatch};
-use fx_elements::{Axis, width};
+use fx_elements::width;
 use fx_layout::Part;
-
-/// Returns the name of an axis's element (RFC 7012).
-pub(crate) fn axis_name(axis: Axis) -> &'static str {
-    match axis {
-        Axis::Source => "sourceIPv4Address",
-        Axis::Destination => "destinationIPv4Address",
-        Axis::Protocol => "protocolIdentifier",
-        Axis::SourcePort => "sourceTransportPort",
-        Axis::DestinationPort => "destinationTransportPort",
-        Axis::ClassOfService => "ipClassOfService",
-        Axis::Version => "ipVersion",
-        Axis::Source6 => "sourceIPv6Address",
-        Axis::Destination6 => "destinationIPv6Address",
-    }
-}
 
 /// Returns the directions in which an observation point observes packets, as in documents.
 pub(crate) fn direction_name(direction: Direction) -> &'static str {
@@ -66,7 +51,7 @@ pub(crate) fn add_key(dot: &mut Dot, parts: &[Part]) {
     }
     for part in parts {
         dot.code("\\nby ");
-        dot.code(axis_name(part.axis));
+        dot.code(part.axis.name());
         if part.bits < width(part.axis) {
             dot.code_number("/", u64::from(part.bits));
         }
@@ -76,7 +61,7 @@ pub(crate) fn add_key(dot: &mut Dot, parts: &[Part]) {
 /// Adds a line to a label with what a filter selects: an element with one value, or with the addresses of a prefix.
 pub(crate) fn add_match(dot: &mut Dot, filter: &PropertyMatch) {
     dot.code("\\n");
-    dot.code(axis_name(filter.axis));
+    dot.code(filter.axis.name());
     dot.code(" ");
     dot.value(filter.axis, filter.range.low);
     if filter.range.low == filter.range.high {

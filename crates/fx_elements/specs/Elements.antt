@@ -52,7 +52,18 @@ numbered_in (line ∷ lines) number = if number == line.number then line.element
 abbrev pub element_numbered : ℕ → ℕ → Element
 element_numbered number enterprise = if enterprise == 0 then numbered_in registry number else Other
 
--- ---- the inverse: the numbers of an axis's elements
+-- ---- the inverse: the names and numbers of an axis's elements
+
+abbrev pub axis_name : Axis → List ℕ
+axis_name Source = codes "sourceIPv4Address"
+axis_name Destination = codes "destinationIPv4Address"
+axis_name Protocol = codes "protocolIdentifier"
+axis_name SourcePort = codes "sourceTransportPort"
+axis_name DestinationPort = codes "destinationTransportPort"
+axis_name ClassOfService = codes "ipClassOfService"
+axis_name Version = codes "ipVersion"
+axis_name Source6 = codes "sourceIPv6Address"
+axis_name Destination6 = codes "destinationIPv6Address"
 
 abbrev pub element_number : Axis → ℕ
 element_number Source = 8

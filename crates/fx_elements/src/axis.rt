@@ -1,7 +1,7 @@
 //! The axes, which distinguish packets and flows.
 ghost use Rattle.std.specs.Prelude.{◌≡◌, ◌^◌, ◌+◌, ◌<◌, ◌==◌, map, length, slice_index};
 ghost use Rattle.fx_elements.specs.Axes.{axis_index, axis_width, axis_count, is_address, is_wide};
-ghost use Rattle.fx_elements.specs.Elements.{element_number, prefix_number, prefix_length_number};
+ghost use Rattle.fx_elements.specs.Elements.{axis_name, element_number, prefix_number, prefix_length_number};
 
 /// The number of axes.
 pub const AXES: usize = 9;
@@ -44,6 +44,19 @@ pub const TOPS: [u128; AXES] = [
     u128::MAX,
 ];
 
+/// The names of the axes' information elements (RFC 7012), in order.
+pub const AXIS_NAMES: [&str; AXES] = [
+    "sourceIPv4Address",
+    "destinationIPv4Address",
+    "protocolIdentifier",
+    "sourceTransportPort",
+    "destinationTransportPort",
+    "ipClassOfService",
+    "ipVersion",
+    "sourceIPv6Address",
+    "destinationIPv6Address",
+];
+
 /// The axes, in order.
 pub const EVERY_AXIS: [Axis; AXES] = [
     Axis::Source,
@@ -74,6 +87,13 @@ impl Axis {
             Axis::Source6 => 7,
             Axis::Destination6 => 8,
         }
+    }
+
+    /// Returns the name of the axis's information element.
+    pub fn name(self) -> &'static str
+        ensures { result.now ≡ axis_name self }
+    {
+        AXIS_NAMES[self.index()]
     }
 
     /// Returns whether the values of the axis are addresses, which may be cut to a prefix.

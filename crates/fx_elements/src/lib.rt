@@ -12,7 +12,7 @@ mod values;
 mod words;
 
 pub use address6::{many_spellings, read_address6, read_prefix6};
-pub use axis::{AXES, Axis, EVERY_AXIS, TOPS, top, width};
+pub use axis::{AXES, AXIS_NAMES, Axis, EVERY_AXIS, TOPS, top, width};
 pub use element::{Element, by_id, by_name};
 pub use groups::read_groups;
 pub use put::put_value;

@@ -3,6 +3,7 @@ use crate::members::one_required;
 use crate::parts::write_whole;
 use crate::pointers::last_member;
 use crate::similar_names::similar_name;
+use fx_elements::AXIS_NAMES;
 use fx_explanation::{Explanation, between};
 use serde_json::Value;
 
@@ -140,23 +141,9 @@ const OF_NETWORK: [(&str, &[&str]); 23] = [
 ];
 
 /// The members that objects of a traffic declaration may have, by the member that contains the object.
-const OF_TRAFFIC: [(&str, &[&str]); 4] = [
+const OF_TRAFFIC: [(&str, &[&str]); 3] = [
     ("", &["classes"]),
     ("classes", &["name", "region", "paths", "exempt"]),
-    (
-        "region",
-        &[
-            "sourceIPv4Address",
-            "destinationIPv4Address",
-            "protocolIdentifier",
-            "sourceTransportPort",
-            "destinationTransportPort",
-            "ipClassOfService",
-            "ipVersion",
-            "sourceIPv6Address",
-            "destinationIPv6Address",
-        ],
-    ),
     ("paths", &["device", "interface", "direction"]),
 ];
 
@@ -178,6 +165,8 @@ pub(crate) fn members_in(
 fn members_allowed(member: &str, is_network: bool) -> &'static [&'static str] {
     if is_network {
         members_in(&OF_NETWORK, member)
+    } else if member == "region" {
+        &AXIS_NAMES
     } else {
         members_in(&OF_TRAFFIC, member)
     }

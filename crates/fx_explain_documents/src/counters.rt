@@ -2,7 +2,7 @@
 use crate::elements::{element_of, write_element};
 use crate::pointers::{items_member, text_member, text_or_none};
 use crate::similar_names::similar_name;
-use fx_elements::{Axis, Element, by_name};
+use fx_elements::{Element, by_name};
 use fx_explanation::Explanation;
 use serde_json::Value;
 
@@ -45,21 +45,11 @@ pub(crate) fn write_counters(out: &mut Explanation, layout: &Value) {
     }
 }
 
-/// Returns the element of the whole addresses whose prefixes are on an axis.
-fn address_name(axis: Axis) -> &'static str {
-    match axis {
-        Axis::Source => "sourceIPv4Address",
-        Axis::Destination => "destinationIPv4Address",
-        Axis::Source6 => "sourceIPv6Address",
-        _ => "destinationIPv6Address",
-    }
-}
-
 /// Writes why a field of a cache can't be a flow key.
 pub(crate) fn write_flow_key(out: &mut Explanation, field: &Value) {
     if let Element::Prefix(axis) = element_of(field) {
         out.text("its element is a prefix, and the flow keys of caches are whole: write ");
-        out.text(address_name(axis));
+        out.text(axis.name());
         out.sentence(
             ", and the prefix with its prefixLength in the key of an aggregation or of the report",
         );

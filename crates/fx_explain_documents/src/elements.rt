@@ -1,25 +1,15 @@
 //! Values that aren't allowed, and the elements that they name.
 use crate::pointers::{text_member, text_or_none};
 use crate::similar_names::similar_name;
-use fx_elements::{Element, by_id, by_name};
-use fx_explanation::{Explanation, between, element_name};
+use fx_elements::{AXIS_NAMES, Element, by_id, by_name};
+use fx_explanation::{Explanation, element_name};
 use serde_json::Value;
 
 /// The maximum number of octets of a value that are written.
 const SHOWN: usize = 200;
 
-/// The names of elements by which packets are distinguished: those of axes, then those of address prefixes, then the
-/// others.
-const NAMES: [&str; 21] = [
-    "sourceIPv4Address",
-    "destinationIPv4Address",
-    "protocolIdentifier",
-    "sourceTransportPort",
-    "destinationTransportPort",
-    "ipClassOfService",
-    "ipVersion",
-    "sourceIPv6Address",
-    "destinationIPv6Address",
+/// The names of the other elements that are distinguished: those of prefixes of addresses, then the rest.
+const OTHER_NAMES: [&str; 12] = [
     "sourceIPv4Prefix",
     "destinationIPv4Prefix",
     "sourceIPv6Prefix",
@@ -34,11 +24,8 @@ const NAMES: [&str; 21] = [
     "destinationIPv6PrefixLength",
 ];
 
-/// The number of these names that are of axes.
-const ON_AXES: usize = 9;
-
-/// The number of these names that are of axes or of address prefixes on one.
-const OF_AXES: usize = 13;
+/// The number of these names that are of prefixes.
+const PREFIXES: usize = 4;
 
 /// Returns whether the element that an object names is enterprise-specific.
 fn is_of_enterprise(object: &Value) -> bool {
@@ -114,22 +101,34 @@ fn write_no_axis(out: &mut Explanation, object: &Value) {
     }
 }
 
+/// Writes names after others, with commas.
+fn write_more(out: &mut Explanation, names: &[&str]) {
+    for name in names {
+        out.text(", ");
+        out.text(name);
+    }
+}
+
 /// Writes the elements by which packets are distinguished, including those of prefixes if `prefixes` is true.
 fn write_choice(out: &mut Explanation, prefixes: bool) {
-    let count = if prefixes { OF_AXES } else { ON_AXES };
     out.text("elements that are allowed there: ");
-    for place in 0..count {
-        out.text(between(place > 0, ", "));
-        out.text(NAMES[place]);
+    out.text(AXIS_NAMES[0]);
+    write_more(out, &AXIS_NAMES[1..]);
+    if prefixes {
+        write_more(out, &OTHER_NAMES[..PREFIXES]);
     }
     out.end_line();
 }
 
 /// Returns the most similar name to the one that an object gives its element, if no element has that name.
 fn near_name(out: &mut Explanation, object: &Value) -> Option<&'static str> {
-    match text_member(object, "ieName") {
-        Some(name) if by_name(name) == Element::Other => similar_name(out, name, &NAMES),
-        _ => None,
+    let name = text_member(object, "ieName")?;
+    if by_name(name) != Element::Other {
+        return None;
+    }
+    match similar_name(out, name, &AXIS_NAMES) {
+        Some(known) => Some(known),
+        None => similar_name(out, name, &OTHER_NAMES),
     }
 }
 

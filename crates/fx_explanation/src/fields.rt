@@ -6,20 +6,14 @@ use fx_wire::{FieldSpecifier, VARIABLE};
 /// The maximum number of fields of a template that are written.
 const FIELDS: usize = 20;
 
-/// The elements of the IANA registry (RFC 7012) that exporters send, with their numbers.
-const ELEMENTS: [(u16, &str); 64] = [
+/// The elements of the IANA registry (RFC 7012) that exporters send, with their numbers, but for those of the axes.
+const ELEMENTS: [(u16, &str); 55] = [
     (1, "octetDeltaCount"),
     (2, "packetDeltaCount"),
     (3, "deltaFlowCount"),
-    (4, "protocolIdentifier"),
-    (5, "ipClassOfService"),
     (6, "tcpControlBits"),
-    (7, "sourceTransportPort"),
-    (8, "sourceIPv4Address"),
     (9, "sourceIPv4PrefixLength"),
     (10, "ingressInterface"),
-    (11, "destinationTransportPort"),
-    (12, "destinationIPv4Address"),
     (13, "destinationIPv4PrefixLength"),
     (14, "egressInterface"),
     (15, "ipNextHopIPv4Address"),
@@ -29,8 +23,6 @@ const ELEMENTS: [(u16, &str); 64] = [
     (22, "flowStartSysUpTime"),
     (23, "postOctetDeltaCount"),
     (24, "postPacketDeltaCount"),
-    (27, "sourceIPv6Address"),
-    (28, "destinationIPv6Address"),
     (29, "sourceIPv6PrefixLength"),
     (30, "destinationIPv6PrefixLength"),
     (31, "flowLabelIPv6"),
@@ -41,7 +33,6 @@ const ELEMENTS: [(u16, &str); 64] = [
     (50, "samplerRandomInterval"),
     (56, "sourceMacAddress"),
     (58, "vlanId"),
-    (60, "ipVersion"),
     (61, "flowDirection"),
     (62, "ipNextHopIPv6Address"),
     (80, "destinationMacAddress"),
@@ -77,6 +68,9 @@ const ELEMENTS: [(u16, &str); 64] = [
 /// Returns the name of an information element of the IANA registry, or an empty text if it isn't one that exporters
 /// often send.
 pub fn element_name(number: u16) -> &'static str {
+    if let Element::OnAxis(axis) = by_id(number, 0) {
+        return axis.name();
+    }
     for (known, name) in &ELEMENTS {
         if *known == number {
             return name;

@@ -25,7 +25,7 @@ once_and_never = refl
 nothing : all_happen [] ≡ Never
 nothing = refl
 
--- one of three that is unassigned is what has to be told
+-- one of three that is unassigned is what has to be reported
 unassigned_among : all_happen (Once ∷ Differing ∷ Unassigned ∷ []) ≡ Unassigned
 unassigned_among = refl
 

@@ -33,11 +33,11 @@ module _ (region : Bounds) (old now : List PathSelection) (kept place : ℕ) (x 
 
   -- one more that is apart stays where it is
   pub apart_more : IsApart region x.selection → IsParted region old now kept (place + 1)
-  apart_more told = record {
+  apart_more reported = record {
     within = let le = h.within in omega (arith, le);
     overlapping = h.overlapping;
     apart = λ k d from less. elim (eqb_tells k place) [
-      | inl same ↦ subst (λ (s : PathSelection). IsApart region s.selection) (sym (ap (λ (m : ℕ). get_or now m d) same.1 ∙ here d)) told
+      | inl same ↦ subst (λ (s : PathSelection). IsApart region s.selection) (sym (ap (λ (m : ℕ). get_or now m d) same.1 ∙ here d)) reported
       | inr other ↦ h.apart k d from (let ne = other.1 in omega (arith, ne, less))
     ];
     others = λ k d le. h.others k d (omega (arith, le));

@@ -15,10 +15,10 @@ length_point crossing point process [] = refl
 length_point crossing point process (s ∷ ss) = ap suc (length_point crossing point (process + 1) ss)
 
 pub watching_length : (number n : ℕ) (c : Crossing) (p : Point) (b : Bool) → b ≡ watches p c → b ≡ true → length (watching_selections number n c p) ≡ length p.selections
-watching_length number n c p b is told = let seen : watches p c ≡ true = sym is ∙ told in rw seen (length_point number n 1 p.selections)
+watching_length number n c p b is reported = let seen : watches p c ≡ true = sym is ∙ reported in rw seen (length_point number n 1 p.selections)
 
 pub unwatched_length : (number n : ℕ) (c : Crossing) (p : Point) (b : Bool) → b ≡ watches p c → b ≡ false → length (watching_selections number n c p) ≡ 0
-unwatched_length number n c p b is told = let unseen : watches p c ≡ false = sym is ∙ told in rw unseen refl
+unwatched_length number n c p b is reported = let unseen : watches p c ≡ false = sym is ∙ reported in rw unseen refl
 
 abbrev pub count_watching : Crossing → List Point → ℕ
 count_watching c [] = 0

@@ -12,5 +12,5 @@ pub mod FlushedMessages
 pub mod OctetsCarried
 pub mod WireTrip
 pub mod OctetsPut
-mod SinksTold
+mod SinksKnown
 pub mod SetsTrip

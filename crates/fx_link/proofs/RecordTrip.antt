@@ -69,7 +69,7 @@ before-again xs ys (Some p) = ap (λ (vs : List Value). Some (vs, p.1)) (sym (ap
 
 -- ---- parts
 
--- values have a length that is told by their template
+-- values have a length that is reported by their template
 pub width_small : (axis : Axis) → axis_octets axis < 65535
 width_small axis = ltb-true _ _ (on_axis (λ axis. ltb (axis_octets axis) 65535) refl axis)
 

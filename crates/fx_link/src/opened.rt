@@ -6,7 +6,7 @@ ghost use Rattle.std.specs.Option.{option_copied};
 ghost use Rattle.fx_base.specs.Fault.{fault_at, IsMemory};
 ghost use Rattle.fx_base.specs.declared.fault.Place.TheVariants as places;
 ghost use Rattle.fx_base.specs.Refusals.{failed_write};
-ghost use Rattle.fx_link.specs.Links.{Puts, told_on};
+ghost use Rattle.fx_link.specs.Links.{Puts, known_on};
 
 use crate::links::Links;
 use fx_base::{Fault, Sink, put_text};
@@ -77,8 +77,8 @@ impl<S: Sink, M: MakeSink<S>> OpenedSinks<S, M> {
     fn begin(&mut self, link: u64, octets: &[u8]) -> Result<(), Fault>
         requires { get nat_cmp self.old.sinks link ≡ None }
         ensures ok { OnOk result (Puts
-            (λ n. told_on (M.begun self.old.maker) S.taken (get nat_cmp self.old.sinks n))
-            (λ n. told_on (M.begun self.new.maker) S.taken (get nat_cmp self.new.sinks n))
+            (λ n. known_on (M.begun self.old.maker) S.taken (get nat_cmp self.old.sinks n))
+            (λ n. known_on (M.begun self.new.maker) S.taken (get nat_cmp self.new.sinks n))
             link octets.now) }
         ensures err { IfErr result (λ e. (e ≡ fault_at failed_write places.None)
             ⊎ IsMemory e) }
@@ -92,8 +92,8 @@ impl<S: Sink, M: MakeSink<S>> OpenedSinks<S, M> {
     /// Writes octets after those that were put on the link before.
     fn append(&mut self, link: u64, octets: &[u8]) -> Result<(), Fault>
         ensures ok { OnOk result (Puts
-            (λ n. told_on (M.begun self.old.maker) S.taken (get nat_cmp self.old.sinks n))
-            (λ n. told_on (M.begun self.new.maker) S.taken (get nat_cmp self.new.sinks n))
+            (λ n. known_on (M.begun self.old.maker) S.taken (get nat_cmp self.old.sinks n))
+            (λ n. known_on (M.begun self.new.maker) S.taken (get nat_cmp self.new.sinks n))
             link octets.now) }
         ensures err { IfErr result (λ e. (e ≡ fault_at failed_write places.None)
             ⊎ IsMemory e) }
@@ -108,9 +108,9 @@ impl<S: Sink, M: MakeSink<S>> OpenedSinks<S, M> {
 impl<S: Sink, M: MakeSink<S>> Links for OpenedSinks<S, M> {
     ghost use Rattle.std.specs.Ordering.{nat_cmp};
     ghost use Rattle.std.specs.BTreeMap.{get};
-    ghost use Rattle.fx_link.specs.Links.{told_on};
+    ghost use Rattle.fx_link.specs.Links.{known_on};
 
-    ghost put_on = { λ s link. told_on (M.begun s.maker) S.taken (get nat_cmp s.sinks link) };
+    ghost put_on = { λ s link. known_on (M.begun s.maker) S.taken (get nat_cmp s.sinks link) };
 
     ghost failed = { λ s. s.failed };
 

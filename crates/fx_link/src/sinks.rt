@@ -40,9 +40,9 @@ impl<S: Sink> Sinks<S> {
 
 impl<S: Sink> Links for Sinks<S> {
     ghost use Rattle.fx_base.specs.Entries.{entry_numbered};
-    ghost use Rattle.fx_link.specs.Links.{octets_told};
+    ghost use Rattle.fx_link.specs.Links.{octets_known};
 
-    ghost put_on = { λ s link. octets_told S.taken (entry_numbered s.sinks.items link) };
+    ghost put_on = { λ s link. octets_known S.taken (entry_numbered s.sinks.items link) };
 
     ghost failed = { λ s. s.failed };
 

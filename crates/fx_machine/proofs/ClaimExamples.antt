@@ -201,22 +201,22 @@ not_once_but_twice claim =
     let same : 2 ≡ 1 = ap packets_of (each.totals (key 32 167772161)) in
     absurd (omega (arith, same))
 
--- records of 16 bits can't be told by 24
+-- records of 16 bits can't be stated by 24
 abbrev metering_less : Net
 metering_less = net_with false 16 in_parallel 24
 
-abbrev untold : State
-untold = record { coming = []; held = [] ∷ []; carried = [] ∷ []; totals = []; unassigned = 1 }
+abbrev opaque : State
+opaque = record { coming = []; held = [] ∷ []; carried = [] ∷ []; totals = []; unassigned = 1 }
 
 abbrev reaching : List Step
 reaching = Cross 1 1 (None ∷ []) ∷ Expire (Cache 1 1) 1 [] ∷ Arrive 1 1 [] ∷ []
 
-does_not_tell : run metering_less customers one reaching (opening metering_less customers one) ≡ Ok untold
+does_not_tell : run metering_less customers one reaching (opening metering_less customers one) ≡ Ok opaque
 does_not_tell = refl
 
 pub not_once_but_unassigned : ExactlyOnce metering_less customers → ⊥
 not_once_but_unassigned claim =
-    let each : CountsEachOnce metering_less one untold = claim one (of_class false (inwards ∷ [])) (λ key. is_small _) untold (runs_of _ _ one reaching _ untold does_not_tell) (record { crossed = refl; nothing_held = refl; nothing_carried = refl }) in
+    let each : CountsEachOnce metering_less one opaque = claim one (of_class false (inwards ∷ [])) (λ key. is_small _) opaque (runs_of _ _ one reaching _ opaque does_not_tell) (record { crossed = refl; nothing_held = refl; nothing_carried = refl }) in
     let none : 1 ≡ 0 = each.assigned in
     absurd (omega (arith, none))
 

@@ -9,7 +9,7 @@ use Rattle.fx_tables.specs.declared.holder_name.HolderName.{HolderName}
 use Rattle.fx_tables.specs.Network.{Net, Exporter, entries, at_places, named_by, holder_place}
 use Rattle.fx_base.specs.Entries.{entry_numbered}
 use Rattle.fx_tables.specs.Classes.{Class, path}
-use Rattle.fx_machine.specs.States.{State, Coming, after_tally, sent_to, sent_to_all, put_last, without, told_state, add_at}
+use Rattle.fx_machine.specs.States.{State, Coming, after_tally, sent_to, sent_to_all, put_last, without, wrapped_state, add_at}
 use Rattle.fx_machine.specs.Acts.{Choices, Act, Tally, Send, Made, Outcome, act_all, all_used, sent_to_chosen, send_by_choice, taken_in, with_held, hold_in}
 use Rattle.fx_machine.specs.Steps.{one_packet, crossing_acts, place, after_cross, after_expire, expire_from, expire_at, acts_of_arrival, after_arrive, arrive_from, arrive_at, link_place}
 use Rattle.fx_machine.specs.Sends.{put_all, link_list, links_of, Chosen, next_destination, chosen_from}
@@ -113,7 +113,7 @@ module _ (net : Net) (counts : Counts) where
 abbrev pub state_of : List Coming → List (List Record) → List (List Record) → List Record → ℕ → State
 state_of coming held carried totals u = record { coming = coming; held = held; carried = carried; totals = totals; unassigned = u }
 
-module _ (net : Net) (classes : List Class) (packets : List Packet) (i j : ℕ) (choices : Choices) (fs : List (List Bool)) (held carried : List (List Record)) (totals : List Record) (u : ℕ) (s : State) (e : state_of (coming_of 1 fs) held carried totals u ≡ told_state s) where
+module _ (net : Net) (classes : List Class) (packets : List Packet) (i j : ℕ) (choices : Choices) (fs : List (List Bool)) (held carried : List (List Record)) (totals : List Record) (u : ℕ) (s : State) (e : state_of (coming_of 1 fs) held carried totals u ≡ wrapped_state s) where
   abbrev outcome : Outcome
   outcome = after_cross net classes (entry_numbered packets i) (place s.coming i j) j s choices
 
@@ -142,14 +142,14 @@ module _ (net : Net) (classes : List Class) (packets : List Packet) (i j : ℕ) 
       let from : List Coming → State = λ cs. record s { coming = cs } in
       ap₂ (λ q o. after_cross net classes q o j s choices) (sym h) at ∙ ap₂ (λ (list : List Act) (cs : List Coming). act_all net (one_packet p) list (Some (record { state = from cs; choices = choices }))) (sym acts) left ∙ holds_are net (one_packet p) hs (from (coming_of 1 (without_mark fs i j))) s.held choices ∙ ap (λ (h' : List (List Record)). held_out (from (coming_of 1 (without_mark fs i j))) (hold_all (one_packet p) hs h' choices)) (sym held_is)
 
-  pub crossed : (p : Packet) (hs : List Holding) (new_fs : List (List Bool)) (new_held : List (List Record)) → has_mark_at fs i j ≡ true → Some p ≡ entry_numbered packets i → map hold_act hs ≡ crossing_acts net p.fields (entry_numbered (path classes p) j) → hold_all (one_packet p) hs held choices ≡ Some new_held → new_fs ≡ without_mark fs i j → (next : State) × (outcome ≡ Ok next) × (state_of (coming_of 1 new_fs) new_held carried totals u ≡ told_state next)
+  pub crossed : (p : Packet) (hs : List Holding) (new_fs : List (List Bool)) (new_held : List (List Record)) → has_mark_at fs i j ≡ true → Some p ≡ entry_numbered packets i → map hold_act hs ≡ crossing_acts net p.fields (entry_numbered (path classes p) j) → hold_all (one_packet p) hs held choices ≡ Some new_held → new_fs ≡ without_mark fs i j → (next : State) × (outcome ≡ Ok next) × (state_of (coming_of 1 new_fs) new_held carried totals u ≡ wrapped_state next)
   crossed p hs new_fs new_held f h acts taken clear =
       let change : State → State = λ t. record t { coming = coming_of 1 (without_mark fs i j); held = new_held } in
       (change s, cross_is p hs f h acts ∙ ap (held_out (record s { coming = coming_of 1 (without_mark fs i j) })) taken, ap (λ (x : List (List Bool)). state_of (coming_of 1 x) new_held carried totals u) clear ∙ ap change e)
 
 -- ---- a holder's record
 
-module _ (net : Net) (name : HolderName) (number : ℕ) (choices : Choices) (coming : List Coming) (held carried : List (List Record)) (totals : List Record) (u : ℕ) (s : State) (e : state_of coming held carried totals u ≡ told_state s) where
+module _ (net : Net) (name : HolderName) (number : ℕ) (choices : Choices) (coming : List Coming) (held carried : List (List Record)) (totals : List Record) (u : ℕ) (s : State) (e : state_of coming held carried totals u ≡ wrapped_state s) where
   abbrev left : Outcome
   left = expire_at net (holder_place net name) number s choices
 
@@ -180,7 +180,7 @@ module _ (net : Net) (name : HolderName) (number : ℕ) (choices : Choices) (com
       let from : State = record s { held = taken_out s.held place number } in
       ap (λ q. expire_at net q number s choices) (sym h) ∙ ap (λ q. expire_from net place q number s choices) found ∙ ap (λ q. after_expire net place rs number q s choices) (sym n) ∙ ap (λ (rss : List (List Record)). act_all net r.counts (map (λ x. Send x r.key) es) (Some (record { state = record s { held = rss }; choices = choices }))) out ∙ ap (λ list. act_all net r.counts list (Some (record { state = from; choices = choices }))) (sym (append-nil (map (λ x. Send x r.key) es))) ∙ sends_are net r.counts r.key from [] es [] choices ∙ sent_ended from r (chosen_from [] es choices) ∙ ap (ended from r) c
 
-  pub expired : (place : ℕ) (rs : List Record) (r : Record) (links : List ℕ) (rest : Choices) (new_held new_carried : List (List Record)) → Some place ≡ holder_place net name → Some rs ≡ slice_get held place → Some r ≡ entry_numbered rs number → chosen_from [] (at_places net.exporters (named_by (slice_get net.holders place))) choices ≡ Some (record { links = links; rest = rest }) → ((t : State) → all_used rest t ≡ Ok t) → new_held ≡ taken_out held place number → new_carried ≡ put_all links r carried → (next : State) × (left ≡ Ok next) × (state_of coming new_held new_carried totals u ≡ told_state next)
+  pub expired : (place : ℕ) (rs : List Record) (r : Record) (links : List ℕ) (rest : Choices) (new_held new_carried : List (List Record)) → Some place ≡ holder_place net name → Some rs ≡ slice_get held place → Some r ≡ entry_numbered rs number → chosen_from [] (at_places net.exporters (named_by (slice_get net.holders place))) choices ≡ Some (record { links = links; rest = rest }) → ((t : State) → all_used rest t ≡ Ok t) → new_held ≡ taken_out held place number → new_carried ≡ put_all links r carried → (next : State) × (left ≡ Ok next) × (state_of coming new_held new_carried totals u ≡ wrapped_state next)
   expired place rs r links rest new_held new_carried h k n c used eh ec =
       let change : State → State = λ t. record t { held = taken_out t.held place number; carried = put_all links r t.carried } in
       (change s, expire_is place rs r (Some (record { links = links; rest = rest })) h k n c ∙ used (change s), ap₂ (λ (x y : List (List Record)). state_of coming x y totals u) eh ec ∙ ap change e)
@@ -264,7 +264,7 @@ pub same_parts : (a b : List Coming) (c d f g : List (List Record)) (h i : List 
 same_parts a b c d f g h i j k ab cd fg hi jk =
     ap₂ (λ (x : List Coming) (y : List (List Record)). state_of x y f h j) ab cd ∙ ap₂ (λ (x : List (List Record)) (y : List Record). state_of b d x y j) fg hi ∙ ap (λ n. state_of b d g i n) jk
 
-module _ (net : Net) (link number : ℕ) (choices : Choices) (coming : List Coming) (held carried : List (List Record)) (totals : List Record) (u : ℕ) (s : State) (e : state_of coming held carried totals u ≡ told_state s) where
+module _ (net : Net) (link number : ℕ) (choices : Choices) (coming : List Coming) (held carried : List (List Record)) (totals : List Record) (u : ℕ) (s : State) (e : state_of coming held carried totals u ≡ wrapped_state s) where
   abbrev handed : Outcome
   handed = arrive_at net (link_place link) number s choices
 
@@ -296,7 +296,7 @@ module _ (net : Net) (link number : ℕ) (choices : Choices) (coming : List Comi
       let taken' : hold_all r.counts hs s.held rest ≡ None = ap (λ (x : List (List Record)). hold_all r.counts hs x rest) (sym (ap (λ (x : State). x.held) e)) ∙ refused' in
       arrive_is place rs r t places hs (Some (record { links = links; rest = rest })) h k n acts c ∙ ap (held_out (with_links (summed net t r.key r.counts (freed place)) r links)) taken'
 
-  pub arrived : (place : ℕ) (rs : List Record) (r : Record) (t : Bool) (places : List ℕ) (hs : List Holding) (links : List ℕ) (rest : Choices) (new_held new_carried : List (List Record)) (new_totals : List Record) (new_u : ℕ) → Some place ≡ link_place link → Some rs ≡ slice_get carried place → Some r ≡ entry_numbered rs number → acts_of_arrival net r.key (slice_get net.links place) ≡ handling_acts net r.key t places hs → chosen_from [] (at_places net.exporters places) choices ≡ Some (record { links = links; rest = rest }) → hold_all r.counts hs held rest ≡ Some new_held → new_carried ≡ taken_out (put_all links r carried) place number → new_totals ≡ totals_when t net.report_layout r.key r.counts totals → ((v : ℕ) → u ≡ v % 2 ^ 64 → new_u ≡ unassigned_when t net.report_layout r.key v % 2 ^ 64) → (next : State) × (handed ≡ Ok next) × (state_of coming new_held new_carried new_totals new_u ≡ told_state next)
+  pub arrived : (place : ℕ) (rs : List Record) (r : Record) (t : Bool) (places : List ℕ) (hs : List Holding) (links : List ℕ) (rest : Choices) (new_held new_carried : List (List Record)) (new_totals : List Record) (new_u : ℕ) → Some place ≡ link_place link → Some rs ≡ slice_get carried place → Some r ≡ entry_numbered rs number → acts_of_arrival net r.key (slice_get net.links place) ≡ handling_acts net r.key t places hs → chosen_from [] (at_places net.exporters places) choices ≡ Some (record { links = links; rest = rest }) → hold_all r.counts hs held rest ≡ Some new_held → new_carried ≡ taken_out (put_all links r carried) place number → new_totals ≡ totals_when t net.report_layout r.key r.counts totals → ((v : ℕ) → u ≡ v % 2 ^ 64 → new_u ≡ unassigned_when t net.report_layout r.key v % 2 ^ 64) → (next : State) × (handed ≡ Ok next) × (state_of coming new_held new_carried new_totals new_u ≡ wrapped_state next)
   arrived place rs r t places hs links rest new_held new_carried new_totals new_u h k n acts c taken ec et eu =
       let there : There carried place number r = ap (λ (q : Option (List Record)). entry_numbered (entries q) number) (sym k) ∙ sym n in
       let next : State = record s { held = new_held; carried = put_all links r (taken_out s.carried place number); totals = totals_when t net.report_layout r.key r.counts s.totals; unassigned = unassigned_when t net.report_layout r.key s.unassigned } in

@@ -98,5 +98,5 @@ sent_to_all [] r s = s
 sent_to_all (d ∷ ds) r s = sent_to_all ds r (sent_to d r s)
 
 -- the state as a program reports it: the number of unassigned records is modulo 2 to the 64
-abbrev pub told_state : State → State
-told_state s = record s { unassigned = s.unassigned % 2 ^ 64 }
+abbrev pub wrapped_state : State → State
+wrapped_state s = record s { unassigned = s.unassigned % 2 ^ 64 }

@@ -257,11 +257,11 @@ fn crossing_acts<'a>(
     packet: u64,
     crossing: u64,
 ) -> Result<StepActs<'a>, Fault>
-    ensures ok { IfOk result (λ a. (s : states.State) → store.now ≡ states.told_state s
+    ensures ok { IfOk result (λ a. (s : states.State) → store.now ≡ states.wrapped_state s
         → (choices : acts.Choices) → effects.IsHandled net.now classes.now packets.now
         (of_step.Cross packet crossing choices) s a.tally a.exporters.now a.holdings.items) }
     ensures err { IfErr result (λ e. (e.place ≡ faults.None)
-        × ((e.number ≡ want_of_memory) ⊎ ((s : states.State) → store.now ≡ states.told_state s
+        × ((e.number ≡ want_of_memory) ⊎ ((s : states.State) → store.now ≡ states.wrapped_state s
         → (choices : acts.Choices)
         → steps.after_cross net.now classes.now (network.entry_numbered packets.now packet)
         (steps.place s.coming packet crossing) crossing s choices ≡ Err e.number))) }
@@ -288,12 +288,12 @@ fn leaving_acts<'a>(
     holder: HolderName,
     position: u64,
 ) -> Result<StepActs<'a>, Fault>
-    ensures ok { IfOk result (λ a. (s : states.State) → store.now ≡ states.told_state s
+    ensures ok { IfOk result (λ a. (s : states.State) → store.now ≡ states.wrapped_state s
         → (classes : List traffic.Class) → (packets : List of_packet.Packet)
         → (choices : acts.Choices) → effects.IsHandled net.now classes packets
         (of_step.Expire holder position choices) s a.tally a.exporters.now a.holdings.items) }
     ensures err { IfErr result (λ e. (e.place ≡ faults.None)
-        × ((s : states.State) → store.now ≡ states.told_state s → (choices : acts.Choices)
+        × ((s : states.State) → store.now ≡ states.wrapped_state s → (choices : acts.Choices)
         → steps.expire_at net.now (network.holder_place net.now holder) position s choices
         ≡ Err e.number)) }
 {
@@ -334,12 +334,12 @@ fn arrival_acts<'a>(
     link: u64,
     position: u64,
 ) -> Result<StepActs<'a>, Fault>
-    ensures ok { IfOk result (λ a. (s : states.State) → store.now ≡ states.told_state s
+    ensures ok { IfOk result (λ a. (s : states.State) → store.now ≡ states.wrapped_state s
         → (classes : List traffic.Class) → (packets : List of_packet.Packet)
         → (choices : acts.Choices) → effects.IsHandled net.now classes packets
         (of_step.Arrive link position choices) s a.tally a.exporters.now a.holdings.items) }
     ensures err { IfErr result (λ e. (e.place ≡ faults.None)
-        × ((e.number ≡ want_of_memory) ⊎ ((s : states.State) → store.now ≡ states.told_state s
+        × ((e.number ≡ want_of_memory) ⊎ ((s : states.State) → store.now ≡ states.wrapped_state s
         → (choices : acts.Choices)
         → steps.arrive_at net.now (steps.link_place link) position s choices
         ≡ Err e.number))) }
@@ -370,11 +370,11 @@ pub fn step_acts<'a>(
     store: &Store,
     step: &Step,
 ) -> Result<StepActs<'a>, Fault>
-    ensures ok { IfOk result (λ a. (s : states.State) → store.now ≡ states.told_state s
+    ensures ok { IfOk result (λ a. (s : states.State) → store.now ≡ states.wrapped_state s
         → effects.IsHandled net.now classes.now packets.now step.now s a.tally a.exporters.now
         a.holdings.items) }
     ensures err { IfErr result (λ e. (e.place ≡ faults.None)
-        × ((e.number ≡ want_of_memory) ⊎ ((s : states.State) → store.now ≡ states.told_state s
+        × ((e.number ≡ want_of_memory) ⊎ ((s : states.State) → store.now ≡ states.wrapped_state s
         → steps.after net.now classes.now packets.now step.now s ≡ Err e.number))) }
 {
     match step {
@@ -438,12 +438,12 @@ pub fn step_effects(
     store: &Store,
     step: &Step,
 ) -> Result<Effects, Fault>
-    ensures ok { IfOk result (λ e. (s : states.State) → store.now ≡ states.told_state s
+    ensures ok { IfOk result (λ e. (s : states.State) → store.now ≡ states.wrapped_state s
         → ((next : states.State)
         × (steps.after net.now classes.now packets.now step.now s ≡ Ok next))
         × (effects.effects_of net.now classes.now packets.now step.now s ≡ Some e)) }
     ensures err { IfErr result (λ e. (e.place ≡ faults.None)
-        × ((e.number ≡ want_of_memory) ⊎ ((s : states.State) → store.now ≡ states.told_state s
+        × ((e.number ≡ want_of_memory) ⊎ ((s : states.State) → store.now ≡ states.wrapped_state s
         → steps.after net.now classes.now packets.now step.now s ≡ Err e.number))) }
 {
     let asked = step_acts(alloc, net, classes, packets, store, step)?;

@@ -194,12 +194,12 @@ impl<'a> State<'a> {
     /// Fails like [`State::step`], except with 852, since it doesn't look at the choices.
     pub fn acts(&self, step: &Step) -> Result<StepActs<'a>, Fault>
         ensures ok { IfOk result (λ a. (s : states.State)
-            → self.now.state ≡ states.told_state s
+            → self.now.state ≡ states.wrapped_state s
             → effects.IsHandled self.now.net self.now.classes self.now.packets step.now s a.tally
             a.exporters.now a.holdings.items) }
         ensures err { IfErr result (λ e. (e.place ≡ faults.None)
             × ((e.number ≡ want_of_memory) ⊎ ((s : states.State)
-            → self.now.state ≡ states.told_state s
+            → self.now.state ≡ states.wrapped_state s
             → steps.after self.now.net self.now.classes self.now.packets step.now s
             ≡ Err e.number))) }
     {
@@ -218,14 +218,14 @@ impl<'a> State<'a> {
     /// Fails like [`State::step`], at no place, with 851, 853, 852 and 900.
     pub fn effects(&self, step: &Step) -> Result<Effects, Fault>
         ensures ok { IfOk result (λ e. (s : states.State)
-            → self.now.state ≡ states.told_state s
+            → self.now.state ≡ states.wrapped_state s
             → ((next : states.State)
             × (steps.after self.now.net self.now.classes self.now.packets step.now s ≡ Ok next))
             × (effects.effects_of self.now.net self.now.classes self.now.packets step.now s
             ≡ Some e)) }
         ensures err { IfErr result (λ e. (e.place ≡ faults.None)
             × ((e.number ≡ want_of_memory) ⊎ ((s : states.State)
-            → self.now.state ≡ states.told_state s
+            → self.now.state ≡ states.wrapped_state s
             → steps.after self.now.net self.now.classes self.now.packets step.now s
             ≡ Err e.number))) }
     {
@@ -246,16 +246,16 @@ impl<'a> State<'a> {
     /// chosen destination or held record doesn't exist or has another key; and with 900 if out of memory. After a fault
     /// the state is unchanged.
     pub fn step(&mut self, step: &Step) -> Result<(), Fault>
-        ensures ok { OnOk result ((s : states.State) → self.old.state ≡ states.told_state s
+        ensures ok { OnOk result ((s : states.State) → self.old.state ≡ states.wrapped_state s
             → (next : states.State)
             × (steps.after self.old.net self.old.classes self.old.packets step.now s ≡ Ok next)
-            × (self.new.state ≡ states.told_state next)) }
+            × (self.new.state ≡ states.wrapped_state next)) }
         ensures tables { (self.new.net ≡ self.old.net) × (self.new.classes ≡ self.old.classes)
             × (self.new.packets ≡ self.old.packets) }
         ensures same { OnErr result (self.new ≡ self.old) }
         ensures err { IfErr result (λ e. (e.place ≡ faults.None)
             × ((e.number ≡ want_of_memory) ⊎ ((s : states.State)
-            → self.old.state ≡ states.told_state s
+            → self.old.state ≡ states.wrapped_state s
             → steps.after self.old.net self.old.classes self.old.packets step.now s
             ≡ Err e.number))) }
     {

@@ -217,14 +217,14 @@ impl Store {
         crossing: u64,
         choices: &[Option<u64>],
     ) -> Result<(), Fault>
-        ensures ok { OnOk result ((s : states.State) → self.old ≡ states.told_state s
+        ensures ok { OnOk result ((s : states.State) → self.old ≡ states.wrapped_state s
             → (next : states.State)
             × (steps.after_cross net.now classes.now (network.entry_numbered packets.now packet)
             (steps.place s.coming packet crossing) crossing s choices.now ≡ Ok next)
-            × (self.new ≡ states.told_state next)) }
+            × (self.new ≡ states.wrapped_state next)) }
         ensures same { OnErr result (self.new ≡ self.old) }
         ensures err { IfErr result (λ e. (e.place ≡ faults.None)
-            × ((e.number ≡ want_of_memory) ⊎ ((s : states.State) → self.old ≡ states.told_state s
+            × ((e.number ≡ want_of_memory) ⊎ ((s : states.State) → self.old ≡ states.wrapped_state s
             → steps.after_cross net.now classes.now (network.entry_numbered packets.now packet)
             (steps.place s.coming packet crossing) crossing s choices.now ≡ Err e.number))) }
     {
@@ -256,14 +256,14 @@ impl Store {
         number: u64,
         choices: &[Option<u64>],
     ) -> Result<(), Fault>
-        ensures ok { OnOk result ((s : states.State) → self.old ≡ states.told_state s
+        ensures ok { OnOk result ((s : states.State) → self.old ≡ states.wrapped_state s
             → (next : states.State)
             × (steps.expire_at net.now (network.holder_place net.now holder) number s choices.now
             ≡ Ok next)
-            × (self.new ≡ states.told_state next)) }
+            × (self.new ≡ states.wrapped_state next)) }
         ensures same { OnErr result (self.new ≡ self.old) }
         ensures err { IfErr result (λ e. (e.place ≡ faults.None)
-            × ((e.number ≡ want_of_memory) ⊎ ((s : states.State) → self.old ≡ states.told_state s
+            × ((e.number ≡ want_of_memory) ⊎ ((s : states.State) → self.old ≡ states.wrapped_state s
             → steps.expire_at net.now (network.holder_place net.now holder) number s choices.now
             ≡ Err e.number))) }
     {
@@ -298,13 +298,13 @@ impl Store {
         number: u64,
         choices: &[Option<u64>],
     ) -> Result<(), Fault>
-        ensures ok { OnOk result ((s : states.State) → self.old ≡ states.told_state s
+        ensures ok { OnOk result ((s : states.State) → self.old ≡ states.wrapped_state s
             → (next : states.State)
             × (steps.arrive_at net.now (steps.link_place link) number s choices.now ≡ Ok next)
-            × (self.new ≡ states.told_state next)) }
+            × (self.new ≡ states.wrapped_state next)) }
         ensures same { OnErr result (self.new ≡ self.old) }
         ensures err { IfErr result (λ e. (e.place ≡ faults.None)
-            × ((e.number ≡ want_of_memory) ⊎ ((s : states.State) → self.old ≡ states.told_state s
+            × ((e.number ≡ want_of_memory) ⊎ ((s : states.State) → self.old ≡ states.wrapped_state s
             → steps.arrive_at net.now (steps.link_place link) number s choices.now
             ≡ Err e.number))) }
     {

@@ -10,17 +10,17 @@ use Rattle.fx_pcap.specs.Captures as captures
 use Rattle.fx_net.specs.declared.stop.Stop.{Stop}
 use Rattle.fx_net.specs.declared.stop.Stop.TheVariants as stop
 use Rattle.fx_net.specs.Running.{RunningNetwork, FailsOutside, HasGoneOn, IsOfNone, ObeysAll, RefusesClose, RefusesRun, none_holds, rest_refused, fault_of, stop_of}
-use Rattle.fx_net.proofs.Frames.{told_again}
+use Rattle.fx_net.proofs.Frames.{reported_again}
 
 -- the exit of a `?` of a reader of a capture
-pub told_exit : {X : Type 0} (r : Result X Stop) (e : Fault) (Q : Fault → Type 0) → IsErr r × IsErrAnd r (λ s. s ≡ stop_of e) → captures.IsToldByCapture e → Q e → IfErr r (λ s. Q (fault_of s))
-told_exit (Ok x) e Q h told q = absurd h.1
-told_exit (Err s) e Q h told q = subst (λ (t : Stop). Q (fault_of t)) (sym h.1) (subst Q (sym (told_again e told)) q)
+pub reported_exit : {X : Type 0} (r : Result X Stop) (e : Fault) (Q : Fault → Type 0) → IsErr r × IsErrAnd r (λ s. s ≡ stop_of e) → captures.IsCaptureFault e → Q e → IfErr r (λ s. Q (fault_of s))
+reported_exit (Ok x) e Q h reported q = absurd h.1
+reported_exit (Err s) e Q h reported q = subst (λ (t : Stop). Q (fault_of t)) (sym h.1) (subst Q (sym (reported_again e reported)) q)
 
 -- the same where memory may be wanting too
-pub refused_exit : {X : Type 0} (r : Result X Stop) (e : Fault) (Q : Fault → Type 0) → IsErr r × IsErrAnd r (λ s. s ≡ stop_of e) → captures.IsToldByCapture e → Q e → IfErr r (λ s. (s ≡ stop.Bare want_of_memory) ⊎ Q (fault_of s))
-refused_exit (Ok x) e Q h told q = absurd h.1
-refused_exit {X} (Err s) e Q h told q = inr (told_exit {X = X} (Err s) e Q h told q)
+pub refused_exit : {X : Type 0} (r : Result X Stop) (e : Fault) (Q : Fault → Type 0) → IsErr r × IsErrAnd r (λ s. s ≡ stop_of e) → captures.IsCaptureFault e → Q e → IfErr r (λ s. (s ≡ stop.Bare want_of_memory) ⊎ Q (fault_of s))
+refused_exit (Ok x) e Q h reported q = absurd h.1
+refused_exit {X} (Err s) e Q h reported q = inr (reported_exit {X = X} (Err s) e Q h reported q)
 
 -- the exit of a `?` where links are put out
 pub outside_exit : {X : Type 0} (r : Result X Stop) (e : Fault) (failed : Bool) (Q : Fault → Type 0) → IsErr r × IsErrAnd r (λ s. s ≡ stop_of e) → FailsOutside failed e → IfErr r (λ s. FailsOutside failed (fault_of s) ⊎ Q (fault_of s))

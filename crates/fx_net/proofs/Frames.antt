@@ -55,7 +55,7 @@ at_end_of old new true h e = absurd cc
 at_end_of old new false h e = h
 
 -- what a reader of a capture answers is kept as it is
-pub told_again : (e : Fault) → captures.IsToldByCapture e → fault_of (stop_of e) ≡ e
-told_again e (captures.not_read is) = ap (λ (f : Fault). fault_of (stop_of f)) is ∙ sym is
-told_again e (captures.cut_off octet is) = ap (λ (f : Fault). fault_of (stop_of f)) is ∙ sym is
-told_again e (captures.too_long octet is) = ap (λ (f : Fault). fault_of (stop_of f)) is ∙ sym is
+pub reported_again : (e : Fault) → captures.IsCaptureFault e → fault_of (stop_of e) ≡ e
+reported_again e (captures.not_read is) = ap (λ (f : Fault). fault_of (stop_of f)) is ∙ sym is
+reported_again e (captures.cut_off octet is) = ap (λ (f : Fault). fault_of (stop_of f)) is ∙ sym is
+reported_again e (captures.too_long octet is) = ap (λ (f : Fault). fault_of (stop_of f)) is ∙ sym is

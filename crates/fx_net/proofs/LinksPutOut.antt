@@ -5,7 +5,7 @@ use Rattle.fx_link.specs.Links.{Put, Puts}
 use Rattle.fx_link.specs.Ongoing.{Ongoing, to_put}
 use Rattle.fx_net.specs.Finishing.{HasRoom, PutsAll, to_put_on}
 
-pub writes_nothing : (told : Option (List ℕ)) → Writes told told []
+pub writes_nothing : (reported : Option (List ℕ)) → Writes reported reported []
 writes_nothing None = refl
 writes_nothing (Some octets) = ap Some (sym (append-nil octets))
 

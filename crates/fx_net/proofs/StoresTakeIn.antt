@@ -67,7 +67,7 @@ immediate_after counts [] a p = refl
 immediate_after counts (h ∷ hs) a p =
     immediate_after counts hs (with_holding counts h a) p ∙ immediate_still (λ s. with_counts s h.key counts) a.stores h.holder p
 
--- what leaves at once is told as well before anything was added
+-- what leaves at once is reported as well before anything was added
 same_leave : (counts : Counts) (hs : List Holding) (before after : List (Option Stored)) → ((p : ℕ) → is_immediate (stored_at after p) ≡ is_immediate (stored_at before p)) → all_leave_at_once before counts hs ≡ all_leave_at_once after counts hs
 same_leave counts [] before after h = refl
 same_leave counts (x ∷ xs) before after h =

@@ -1,4 +1,4 @@
--- Packets of IPv4 by what is told of their headers.
+-- Packets of IPv4 by what is reported of their headers.
 use Rattle.std.proofs.Common.{◌≡◌, ℕ, ◌+◌, ◌<◌, ◌≤◌, Bool, true, false, List, length, min, inl, inr, refl, ap, arith, if◌then◌else◌, ◌&&◌, ◌==◌}
 use Rattle.std.specs.Prelude.{nat_le}
 use Rattle.std.proofs.lemmas.Bool.{le-leb, leb-true}

@@ -1,4 +1,4 @@
--- Octets of a record that was read are passed over, and records are told one by one.
+-- Octets of a record that was read are passed over, and records are reported one by one.
 use Rattle.std.proofs.Common.{◌≡◌, ℕ, zero, suc, ◌+◌, ◌-◌, ◌^◌, ◌≤◌, ◌<◌, List, [], ◌∷◌, length, drop, Option, None, refl, sym, ap, ◌∙◌, arith}
 use Rattle.fx_pcap.specs.declared.header.Format.{Format}
 use Rattle.fx_pcap.specs.Records.{captured_length, record_fault, item_of, place_after, with_item, records_behind, records_of}

@@ -22,7 +22,7 @@ use Rattle.fx_pcap.specs.declared.content.Content.TheVariants.{Packet, Other, Ma
 use Rattle.fx_pcap.specs.declared.stop.CaptureStop.{CaptureStop}
 use Rattle.fx_base.specs.Device.{MayBeLeft, MayHaveLeft, IsAsked}
 use Rattle.fx_pcap.proofs.Asking.{asks_of, gains_of}
-use Rattle.fx_base.proofs.Reading.{untold_behind}
+use Rattle.fx_base.proofs.Reading.{opaque_after}
 use Rattle.fx_pcap.proofs.Left.{first_and_more}
 use Rattle.fx_pcap.proofs.Whole.{number_whole}
 use Rattle.fx_pcap.proofs.Passing.{first_record}
@@ -100,7 +100,7 @@ behind k n place s fields octets second = record k { place = place; taken = n; s
 pub record After (old new : CaptureState) (content : Content) (s : Skipped) : Type 0 where
   pub going : (old.stopped ≡ None) × (new.stopped ≡ None)
   pub frames : (rest : List ℕ) → MayBeLeft new.left rest → MayHaveLeft old.left (λ octets. ahead_of old octets ≡ ahead_with content new.seen.captured new.seen.second s (records_of new.format new.place rest))
-  pub untold : old.left ≡ None → new.left ≡ None
+  pub opaque : old.left ≡ None → new.left ≡ None
   pub format : new.format ≡ old.format
   pub asks : CallsForFrames old new
   pub gains : GainsFrames 0 old new
@@ -122,7 +122,7 @@ after_record w w1 w2 k n place s fields size second content octets passed same s
     record {
       going = (going, no_stop k.place place k.stopped going);
       frames = λ rest left. (take n w2.held ++ rest, subst (λ (o : Option (List ℕ)). MayBeLeft o (take n w2.held ++ rest)) all (first_and_more n w2.held rest w2.left left), taken_alone w2.held rest k.format n k.place place second content (slice_range w2.held (min 16 n) n) k.skipped has fits at here lent stamp);
-      untold = untold_behind (drop k.taken w.held) w2.held (drop n w2.held) w.left w2.left all;
+      opaque = opaque_after (drop k.taken w.held) w2.held (drop n w2.held) w.left w2.left all;
       format = refl;
       asks = asks_of w w1 w2 k (behind k n place s fields size second) passed more asked;
       gains = gains_of 0 w w1 w2 k (behind k n place s fields size second) passed same (omega (arith, spent));
@@ -137,7 +137,7 @@ pub at_frame : (old new : CaptureState) (content : Content) (fields : List ℕ) 
 at_frame old new content fields octets a is f o = record {
   going = a.going;
   frames = λ rest left. (let x = a.frames rest left in (x.0, x.1, x.2 ∙ frame_first content fields octets new.seen new.skipped (records_of new.format new.place rest) is f o));
-  untold = a.untold;
+  opaque = a.opaque;
   format = a.format;
   asks = a.asks;
   gains = a.gains;
@@ -148,7 +148,7 @@ passes : (old new : CaptureState) (content : Content) (s : Skipped) → After ol
 passes old new content s a same = record {
   going = a.going.1;
   frames = λ rest left. (let x = a.frames rest left in (x.0, x.1, x.2 ∙ same new.seen.captured new.seen.second (records_of new.format new.place rest)));
-  untold = a.untold;
+  opaque = a.opaque;
   format = a.format;
   asks = a.asks;
   gains = a.gains;

@@ -108,6 +108,6 @@ headed held rest left source format is h behind =
     let after : drop 24 (take 24 held ++ rest) ≡ rest = drop-append-le 24 (take 24 held) rest (omega (arith, long)) ∙ ap (λ (l : List ℕ). l ++ rest) none in
     (take 24 held ++ rest, subst (λ (o : Option (List ℕ)). MayBeLeft o (take 24 held ++ rest)) is (first_and_more 24 held rest left behind), (read, after))
 
-pub told_behind : (held : List ℕ) (left source : Option (List ℕ)) → prepend_known held left ≡ source → 24 ≤ length held → IfSome source (λ octets. prepend_known (drop 24 held) left ≡ Some (drop 24 octets))
-told_behind held None source is long = rw (← is) tt
-told_behind held (Some rest) source is long = rw (← is) (sym (ap (λ (l : List ℕ). Some l) (drop-append-le 24 held rest long)))
+pub reported_behind : (held : List ℕ) (left source : Option (List ℕ)) → prepend_known held left ≡ source → 24 ≤ length held → IfSome source (λ octets. prepend_known (drop 24 held) left ≡ Some (drop 24 octets))
+reported_behind held None source is long = rw (← is) tt
+reported_behind held (Some rest) source is long = rw (← is) (sym (ap (λ (l : List ℕ). Some l) (drop-append-le 24 held rest long)))

@@ -114,7 +114,7 @@ pub record AtFrame (old new : CaptureState) : Type 0 where
   pub going : (old.stopped ≡ None) × (new.stopped ≡ None)
   -- what was ahead is the frame, then what is ahead now
   pub frames : HadAhead old new (with_first new.seen new.skipped)
-  pub untold : old.left ≡ None → new.left ≡ None
+  pub opaque : old.left ≡ None → new.left ≡ None
   pub format : new.format ≡ old.format
   pub asks : CallsForFrames old new
   pub gains : GainsFrames 0 old new
@@ -125,7 +125,7 @@ pub record AtCaptureEnd (old new : CaptureState) : Type 0 where
   pub going : (old.stopped ≡ None) × (new.stopped ≡ None)
   pub frames : MayHaveLeft old.left (λ octets. ahead_of old octets ≡ nothing_more new.skipped None)
   pub rest : IfSome old.left (λ _. new.left ≡ Some [])
-  pub untold : old.left ≡ None → new.left ≡ None
+  pub opaque : old.left ≡ None → new.left ≡ None
   pub format : new.format ≡ old.format
   pub asks : CallsForFrames old new
   pub gains : GainsFrames 1 old new
@@ -150,10 +150,10 @@ pub record RefusesCapture (old new : CaptureState) (e : Fault) : Type 0 where
   pub first : old.stopped ≡ None → StopsCapture old new e
 
 -- the faults of a reader of a capture: 901, or 703 or 704 at an octet
-pub data IsToldByCapture (e : Fault) : Type 0 where
-  not_read : e ≡ fault_at failed_read places.None → IsToldByCapture e
-  cut_off : (octet : ℕ) → e ≡ fault_at capture_cut (places.Octet octet) → IsToldByCapture e
-  too_long : (octet : ℕ) → e ≡ fault_at long_capture_record (places.Octet octet) → IsToldByCapture e
+pub data IsCaptureFault (e : Fault) : Type 0 where
+  not_read : e ≡ fault_at failed_read places.None → IsCaptureFault e
+  cut_off : (octet : ℕ) → e ≡ fault_at capture_cut (places.Octet octet) → IsCaptureFault e
+  too_long : (octet : ℕ) → e ≡ fault_at long_capture_record (places.Octet octet) → IsCaptureFault e
 
 -- the effect of advancing to the next frame
 abbrev pub AdvancesToFrame : CaptureState → CaptureState → Result Bool Fault → Type 0
@@ -172,7 +172,7 @@ pub record IsOpened (left : Option (List ℕ)) (asked : ℕ) (new : CaptureState
   -- for every possible rest after the header, the header and the rest are octets that may have been left before
   pub format : (rest : List ℕ) → MayBeLeft new.left rest → MayHaveLeft left (λ octets. (format_of octets ≡ Ok new.format) × (drop 24 octets ≡ rest))
   pub rest : IfSome left (λ octets. new.left ≡ Some (drop 24 octets))
-  pub untold : left ≡ None → new.left ≡ None
+  pub opaque : left ≡ None → new.left ≡ None
   pub place : new.place ≡ 24
   pub skipped : new.skipped ≡ record { other = 0; malformed = 0 }
   pub going : new.stopped ≡ None

@@ -55,7 +55,7 @@ pub record IsCaptureWindow (w : Held) (taken : ℕ) : Type 0 where
 pub record Passes (old new : CaptureState) : Type 0 where
   pub going : new.stopped ≡ None
   pub frames : HadAhead old new (λ a. a)
-  pub untold : old.left ≡ None → new.left ≡ None
+  pub opaque : old.left ≡ None → new.left ≡ None
   pub format : new.format ≡ old.format
   pub asks : CallsForFrames old new
   pub gains : GainsFrames 0 old new

@@ -1,6 +1,6 @@
 //! The frames of a capture, one at a time.
 ghost use Rattle.std.specs.Prelude.{◌≡◌, None, IfOk, IfErr};
-ghost use Rattle.fx_pcap.specs.Captures.{IsToldByCapture};
+ghost use Rattle.fx_pcap.specs.Captures.{IsCaptureFault};
 ghost use Rattle.fx_pcap.specs.Kept.{fault_of};
 
 use crate::content::{Content, read_content};
@@ -26,7 +26,7 @@ pub(crate) enum RecordKind {
 /// Returns the fault of a reader that stopped at this octet.
 fn fault_of_stop(place: u64, stop: CaptureStop) -> Fault
     ensures value { result ≡ fault_of place stop }
-    ensures told { IsToldByCapture result }
+    ensures reported { IsCaptureFault result }
 {
     match stop {
         CaptureStop::Device => Fault::bare(refusals::FAILED_READ),
@@ -164,7 +164,7 @@ impl<R: Source> Capture<R> {
     pub fn advance(&mut self) -> Result<bool, Fault>
         ensures advances { AdvancesToFrame self.old self.new result }
         // This holds whether the source is known or opaque.
-        ensures told { IfErr result IsToldByCapture }
+        ensures reported { IfErr result IsCaptureFault }
     {
         if let Some(stop) = self.stopped {
             return Err(fault_of_stop(self.place, stop));

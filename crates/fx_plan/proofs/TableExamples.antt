@@ -160,7 +160,7 @@ first_is_stuck = record { among = λ p. nat_lt p 3; is_among = refl; within = re
   fed (suc (suc zero)) h = (1, refl, refl)
   fed (suc (suc (suc n))) h = let few : suc (suc (suc n)) < 3 = ltb-true _ _ h in absurd (omega (arith, few))
 
--- they are told by the numbers of their devices, and their own on them
-told : stuck_text circle.devices (0 ∷ 1 ∷ 2 ∷ []) ≡ codes "1.1 2.1 3.1"
+-- they are reported by the numbers of their devices, and their own on them
+reported : stuck_text circle.devices (0 ∷ 1 ∷ 2 ∷ []) ≡ codes "1.1 2.1 3.1"
 unfolding digits
-told = refl
+reported = refl

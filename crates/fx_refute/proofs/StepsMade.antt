@@ -5,18 +5,18 @@ use Rattle.fx_base.specs.declared.fault.Place.TheVariants as places
 use Rattle.fx_base.specs.Fault.{fault_at}
 use Rattle.fx_run_text.specs.declared.step.Step.{Step}
 use Rattle.fx_machine.specs.Acts.{Outcome}
-use Rattle.fx_machine.specs.States.{State, told_state}
+use Rattle.fx_machine.specs.States.{State, wrapped_state}
 use Rattle.fx_machine.specs.Steps.{run, after}
 use Rattle.fx_machine.specs.Stores.{LoadedNetwork}
 use Rattle.fx_refute.specs.Confirming.{IsStopped}
 use Rattle.fx_refute.proofs.StepsInTurn.{take_next, parted, length_taken, run_on, one_step}
 
--- the tables stay, and after so many of the steps it is as told
+-- the tables stay, and after so many of the steps it is as reported
 pub record Made (old new : LoadedNetwork) (steps : List Step) (k : ℕ) : Type 0 where
   pub net : new.net ≡ old.net
   pub classes : new.classes ≡ old.classes
   pub packets : new.packets ≡ old.packets
-  pub at : (s : State) → old.state ≡ told_state s → (mid : State) × (run old.net old.classes old.packets (take k steps) s ≡ Ok mid) × (new.state ≡ told_state mid)
+  pub at : (s : State) → old.state ≡ wrapped_state s → (mid : State) × (run old.net old.classes old.packets (take k steps) s ≡ Ok mid) × (new.state ≡ wrapped_state mid)
 
 pub nothing_made : (r : LoadedNetwork) (steps : List Step) → Made r r steps 0
 nothing_made r steps = record { net = refl; classes = refl; packets = refl; at = λ s e. (s, refl, e) }
@@ -25,7 +25,7 @@ moved : (old new : LoadedNetwork) (step : Step) (s : State) (o : Outcome) → ne
 moved old new step s o n c p h =
     ap (λ x. after x old.classes old.packets step s) (sym n) ∙ ap (λ x. after new.net x old.packets step s) (sym c) ∙ ap (λ x. after new.net new.classes x step s) (sym p) ∙ h
 
-pub step_made : (old mid new : LoadedNetwork) (steps : List Step) (k : ℕ) (step : Step) → slice_get steps k ≡ Some step → Made old mid steps k → (new.net ≡ mid.net) × (new.classes ≡ mid.classes) × (new.packets ≡ mid.packets) → ((s : State) → mid.state ≡ told_state s → (next : State) × (after mid.net mid.classes mid.packets step s ≡ Ok next) × (new.state ≡ told_state next)) → Made old new steps (k + 1)
+pub step_made : (old mid new : LoadedNetwork) (steps : List Step) (k : ℕ) (step : Step) → slice_get steps k ≡ Some step → Made old mid steps k → (new.net ≡ mid.net) × (new.classes ≡ mid.classes) × (new.packets ≡ mid.packets) → ((s : State) → mid.state ≡ wrapped_state s → (next : State) × (after mid.net mid.classes mid.packets step s ≡ Ok next) × (new.state ≡ wrapped_state next)) → Made old new steps (k + 1)
 step_made old mid new steps k step is m same next = record {
   net = same.0 ∙ m.net;
   classes = same.1 ∙ m.classes;
@@ -39,7 +39,7 @@ step_made old mid new steps k step is m same next = record {
       (n.0, ap (λ xs. run old.net old.classes old.packets xs s) taken ∙ run_on old.net old.classes old.packets (take k steps) (step ∷ []) s a.0 (Ok n.0) a.1 one, n.2);
 }
 
-pub is_stopped : (old mid : LoadedNetwork) (steps : List Step) (k : ℕ) (step : Step) (number : ℕ) (e : Fault) → slice_get steps k ≡ Some step → Made old mid steps k → ((s : State) → mid.state ≡ told_state s → after mid.net mid.classes mid.packets step s ≡ Err number) → e ≡ fault_at 503 (places.Line (k + 3)) → (s : State) → old.state ≡ told_state s → IsStopped old.net old.classes old.packets steps s e
+pub is_stopped : (old mid : LoadedNetwork) (steps : List Step) (k : ℕ) (step : Step) (number : ℕ) (e : Fault) → slice_get steps k ≡ Some step → Made old mid steps k → ((s : State) → mid.state ≡ wrapped_state s → after mid.net mid.classes mid.packets step s ≡ Err number) → e ≡ fault_at 503 (places.Line (k + 3)) → (s : State) → old.state ≡ wrapped_state s → IsStopped old.net old.classes old.packets steps s e
 is_stopped old mid steps k step number e is m refused fault s at =
     let a = m.at s at in
     record {
@@ -54,7 +54,7 @@ is_stopped old mid steps k step number e is m refused fault s at =
       fault = fault ∙ ap (λ n. fault_at 503 (places.Line (n + 3))) (sym (length_taken steps k step is));
     }
 
-pub all_made : (old new : LoadedNetwork) (steps : List Step) (k : ℕ) → Made old new steps k → take k steps ≡ steps → (s : State) → old.state ≡ told_state s → (last : State) × (run old.net old.classes old.packets steps s ≡ Ok last) × (new.state ≡ told_state last)
+pub all_made : (old new : LoadedNetwork) (steps : List Step) (k : ℕ) → Made old new steps k → take k steps ≡ steps → (s : State) → old.state ≡ wrapped_state s → (last : State) × (run old.net old.classes old.packets steps s ≡ Ok last) × (new.state ≡ wrapped_state last)
 all_made old new steps k m whole s e =
     let a = m.at s e in
     (a.0, ap (λ xs. run old.net old.classes old.packets xs s) (sym whole) ∙ a.1, a.2)

@@ -13,7 +13,7 @@ use Rattle.fx_tables.specs.Network.{Net}
 use Rattle.fx_base.specs.Entries.{entry_numbered}
 use Rattle.fx_tables.specs.Classes.{Class, IsOf, exempts, to_count}
 use Rattle.fx_machine.specs.Claim.{CountsEachOnce}
-use Rattle.fx_machine.specs.States.{State, opening, told_state}
+use Rattle.fx_machine.specs.States.{State, opening, wrapped_state}
 use Rattle.fx_machine.specs.Steps.{run, one_packet}
 use Rattle.fx_machine.specs.Stores.{LoadedNetwork}
 use Rattle.fx_machine.specs.Sums.{plain_sum, total_at}
@@ -118,53 +118,53 @@ no_total (t ∷ ts) e key = absurd (omega arith)
 -- ---- the answer
 
 module _ (net : Net) (p : Packet) (last : State) (is : IsLayout net.report_layout) where
-  abbrev told_of : Totals
-  told_of = totals_in net.report_layout (told_state last)
+  abbrev reported_of : Totals
+  reported_of = totals_in net.report_layout (wrapped_state last)
 
   abbrev own_key : Key
   own_key = key_of net.report_layout p.fields
 
-  pub agrees_counted : (ps : List Packet) → IsOneOrNone p ps → last.unassigned < 2 ^ 64 → TotalsAgreeAt told_of (plain_totals net.report_layout ps) own_key → CountsEachOnce net ps last
+  pub agrees_counted : (ps : List Packet) → IsOneOrNone p ps → last.unassigned < 2 ^ 64 → TotalsAgreeAt reported_of (plain_totals net.report_layout ps) own_key → CountsEachOnce net ps last
   agrees_counted ps (inl one) few a =
-      let b : TotalsAgreeAt told_of (one_total net.report_layout p) own_key = rw (one, one_tallied net.report_layout p is) at a in
+      let b : TotalsAgreeAt reported_of (one_total net.report_layout p) own_key = rw (one, one_tallied net.report_layout p is) at a in
       rw one (record {
         totals = one_entry net.report_layout p last.totals b.keys (b.same ∙ own_sum net.report_layout p);
         assigned = sym (mod-eq_of_lt few) ∙ b.assigned;
       })
   agrees_counted ps (inr none) few a =
-      let b : TotalsAgreeAt told_of (plain_totals net.report_layout []) own_key = rw none at a in
+      let b : TotalsAgreeAt reported_of (plain_totals net.report_layout []) own_key = rw none at a in
       rw none (record {
         totals = no_total last.totals b.keys;
         assigned = sym (mod-eq_of_lt few) ∙ b.assigned;
       })
 
-  counted_agrees_one : IsTable net.report_layout last.totals → CountsEachOnce net (p ∷ []) last → TotalsAgreeAt told_of (plain_totals net.report_layout (p ∷ [])) own_key
+  counted_agrees_one : IsTable net.report_layout last.totals → CountsEachOnce net (p ∷ []) last → TotalsAgreeAt reported_of (plain_totals net.report_layout (p ∷ [])) own_key
   counted_agrees_one table c = rw (one_tallied net.report_layout p is) (record {
     assigned = ap (λ n. n % 2 ^ 64) c.assigned;
     keys = entries_alone net.report_layout p last.totals table c.totals;
     same = c.totals own_key;
   })
 
-  counted_agrees_none : CountsEachOnce net [] last → TotalsAgreeAt told_of (plain_totals net.report_layout []) own_key
+  counted_agrees_none : CountsEachOnce net [] last → TotalsAgreeAt reported_of (plain_totals net.report_layout []) own_key
   counted_agrees_none c = record {
     assigned = ap (λ n. n % 2 ^ 64) c.assigned;
     keys = no_entry last.totals c.totals;
     same = c.totals own_key;
   }
 
-  pub counted_agrees : (ps : List Packet) → IsOneOrNone p ps → IsTable net.report_layout last.totals → CountsEachOnce net ps last → TotalsAgreeAt told_of (plain_totals net.report_layout ps) own_key
+  pub counted_agrees : (ps : List Packet) → IsOneOrNone p ps → IsTable net.report_layout last.totals → CountsEachOnce net ps last → TotalsAgreeAt reported_of (plain_totals net.report_layout ps) own_key
   counted_agrees ps (inl one) table c = rw one (counted_agrees_one table (rw one at c))
   counted_agrees ps (inr none) table c = rw none (counted_agrees_none (rw none at c))
 
 -- ---- a run from its opening
 
-pub ran : (net : Net) (classes : List Class) (r : Refutation) (old new : LoadedNetwork) → old ≡ record { net = net; classes = classes; packets = r.packet ∷ []; state = opening net classes (r.packet ∷ []) } → IsOf r.packet (entry_numbered classes r.packet.class) → ((s : State) → old.state ≡ told_state s → (last : State) × (run old.net old.classes old.packets r.steps s ≡ Ok last) × (new.state ≡ told_state last)) → (last : State) × ReachesState net classes r last × (new.state ≡ told_state last)
+pub ran : (net : Net) (classes : List Class) (r : Refutation) (old new : LoadedNetwork) → old ≡ record { net = net; classes = classes; packets = r.packet ∷ []; state = opening net classes (r.packet ∷ []) } → IsOf r.packet (entry_numbered classes r.packet.class) → ((s : State) → old.state ≡ wrapped_state s → (last : State) × (run old.net old.classes old.packets r.steps s ≡ Ok last) × (new.state ≡ wrapped_state last)) → (last : State) × ReachesState net classes r last × (new.state ≡ wrapped_state last)
 ran net classes r old new is of_class made =
     let begun : LoadedNetwork = record { net = net; classes = classes; packets = r.packet ∷ []; state = opening net classes (r.packet ∷ []) } in
-    let m = subst (λ (x : LoadedNetwork). (s : State) → x.state ≡ told_state s → (last : State) × (run x.net x.classes x.packets r.steps s ≡ Ok last) × (new.state ≡ told_state last)) is made (opening net classes (r.packet ∷ [])) refl in
+    let m = subst (λ (x : LoadedNetwork). (s : State) → x.state ≡ wrapped_state s → (last : State) × (run x.net x.classes x.packets r.steps s ≡ Ok last) × (new.state ≡ wrapped_state last)) is made (opening net classes (r.packet ∷ [])) refl in
     (m.0, record { of_class = of_class; runs = m.1 }, m.2)
 
-pub stopped : (net : Net) (classes : List Class) (r : Refutation) (old : LoadedNetwork) (e : Fault) → old ≡ record { net = net; classes = classes; packets = r.packet ∷ []; state = opening net classes (r.packet ∷ []) } → IsOf r.packet (entry_numbered classes r.packet.class) → ((s : State) → old.state ≡ told_state s → IsStopped old.net old.classes old.packets r.steps s e) → IsNoRefutation net classes r e
+pub stopped : (net : Net) (classes : List Class) (r : Refutation) (old : LoadedNetwork) (e : Fault) → old ≡ record { net = net; classes = classes; packets = r.packet ∷ []; state = opening net classes (r.packet ∷ []) } → IsOf r.packet (entry_numbered classes r.packet.class) → ((s : State) → old.state ≡ wrapped_state s → IsStopped old.net old.classes old.packets r.steps s e) → IsNoRefutation net classes r e
 stopped net classes r old e is of_class stop =
-    let s = subst (λ (x : LoadedNetwork). (s : State) → x.state ≡ told_state s → IsStopped x.net x.classes x.packets r.steps s e) is stop (opening net classes (r.packet ∷ [])) refl in
+    let s = subst (λ (x : LoadedNetwork). (s : State) → x.state ≡ wrapped_state s → IsStopped x.net x.classes x.packets r.steps s e) is stop (opening net classes (r.packet ∷ [])) refl in
     subst (IsNoRefutation net classes r) (sym s.fault) (not_enabled s.before s.step s.behind s.mid s.number s.all (record { of_class = of_class; runs = s.runs }) s.refused)

@@ -11,7 +11,7 @@ use Rattle.fx_base.specs.Entries.{entry_numbered}
 use Rattle.fx_base.specs.Refusals.{refutation_packet, refutation_step, run_not_complete, totals_agree}
 use Rattle.fx_tables.specs.Classes.{Class, IsOf, to_count}
 use Rattle.fx_machine.specs.Claim.{CountsEachOnce}
-use Rattle.fx_machine.specs.States.{State, opening, Complete, told_state}
+use Rattle.fx_machine.specs.States.{State, opening, Complete, wrapped_state}
 use Rattle.fx_machine.specs.Steps.{run, after}
 use Rattle.fx_machine.specs.Sums.{plain_sum, total_at}
 use Rattle.fx_collect.specs.Totals.{Totals, IsTable, totals_in}
@@ -50,7 +50,7 @@ pub record IsPlainSumTable (layout : Layout) (packets : List Packet) (t : Totals
 pub record AreTotals (net : Net) (classes : List Class) (r : Refutation) (ran plain : Totals) : Type 0 where
   pub last : State
   pub runs_to : ReachesState net classes r last
-  pub totals : ran ≡ totals_in net.report_layout (told_state last)
+  pub totals : ran ≡ totals_in net.report_layout (wrapped_state last)
   pub sums : IsPlainSumTable net.report_layout (packets_to_count classes r) plain
 
 -- why nothing is refuted: the packet isn't in its class, a step isn't enabled (steps begin at line 3), the run isn't

@@ -57,13 +57,13 @@ fn open<'a>(
 /// Makes the steps one after another. The first is at line 3 of a refutation's text.
 fn make_steps(state: &mut State<'_>, steps: &[Step]) -> Result<(), Fault>
     requires few { length steps.now ≤ step_limit }
-    ensures ok { OnOk result ((s : states.State) → state.old.state ≡ states.told_state s
+    ensures ok { OnOk result ((s : states.State) → state.old.state ≡ states.wrapped_state s
         → (last : states.State)
         × (stepping.run state.old.net state.old.classes state.old.packets steps.now s ≡ Ok last)
-        × (state.new.state ≡ states.told_state last)) }
+        × (state.new.state ≡ states.wrapped_state last)) }
     ensures net { OnOk result (state.new.net ≡ state.old.net) }
     ensures err { IfErr result (λ e. IsMemory e
-        ⊎ ((s : states.State) → state.old.state ≡ states.told_state s
+        ⊎ ((s : states.State) → state.old.state ≡ states.wrapped_state s
         → confirming.IsStopped state.old.net state.old.classes state.old.packets steps.now s e)) }
 {
     for place in 0..steps.len() {

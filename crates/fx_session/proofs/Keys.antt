@@ -15,7 +15,7 @@ use Rattle.fx_layout.specs.Keys.{Layout, Key, key_of}
 use Rattle.fx_wire.specs.Values.{Value}
 use Rattle.fx_session.specs.declared.field_numbers.FieldNumbers.{FieldNumbers}
 use Rattle.fx_session.specs.Flows.{Found, found_in, is_refused, key_by, found_or_none, layout_of, fields_of, flow_in, part_of, value_of}
-use Rattle.fx_session.specs.Parts.{AllStand, IsTold, Stands, bits_of, layout_by}
+use Rattle.fx_session.specs.Parts.{AllStand, IsGathered, Stands, bits_of, layout_by}
 use Rattle.fx_session.specs.Values.{Notes, noted_part}
 use Rattle.fx_session.proofs.Layouts.{same_parts, layout_by-is, bits_stand}
 use Rattle.fx_session.specs.declared.stream_fault.StreamFault.{StreamFault}
@@ -36,19 +36,19 @@ value_fits axis (Some p) =
     let pos : 0 < 2 ^ axis_width axis = pow_pos (axis_width axis) in
     omega (arith, pos, top_is axis)
 
-pub values_fit : (part : Axis → Result Found StreamFault) (bits values : List ℕ) → length values ≡ axis_count → ((axis : Axis) → IsTold bits values axis (part axis)) → IsFields values
-values_fit part bits values len told =
-    subst IsFields (sym (values_are (λ axis. found_or_none (part axis)) values len (λ axis. (told axis).value))) (each_on (λ axis. value_of axis (found_or_none (part axis))) (λ axis. value_fits axis (found_or_none (part axis))))
+pub values_fit : (part : Axis → Result Found StreamFault) (bits values : List ℕ) → length values ≡ axis_count → ((axis : Axis) → IsGathered bits values axis (part axis)) → IsFields values
+values_fit part bits values len reported =
+    subst IsFields (sym (values_are (λ axis. found_or_none (part axis)) values len (λ axis. (reported axis).value))) (each_on (λ axis. value_of axis (found_or_none (part axis))) (λ axis. value_fits axis (found_or_none (part axis))))
 
-pub all_stand : (part : Axis → Result Found StreamFault) (bits values : List ℕ) → ((axis : Axis) → IsTold bits values axis (part axis)) → AllStand bits
-all_stand part bits values told = λ axis. bits_stand axis (found_or_none (part axis)) (get_or bits (axis_index axis) 0) (told axis).stands (told axis).leading
+pub all_stand : (part : Axis → Result Found StreamFault) (bits values : List ℕ) → ((axis : Axis) → IsGathered bits values axis (part axis)) → AllStand bits
+all_stand part bits values reported = λ axis. bits_stand axis (found_or_none (part axis)) (get_or bits (axis_index axis) 0) (reported axis).stands (reported axis).leading
 
 -- what is known of one axis more
-pub told_more : (part : Axis → Result Found StreamFault) (bits values : List ℕ) (own : Axis) (f : Found) (b v i place : ℕ) → length bits ≡ axis_count → length values ≡ axis_count
+pub reported_more : (part : Axis → Result Found StreamFault) (bits values : List ℕ) (own : Axis) (f : Found) (b v i place : ℕ) → length bits ≡ axis_count → length values ≡ axis_count
     → place ≡ axis_index own → i ≡ axis_index own → part own ≡ Ok f → Stands own f → b ≡ bits_of f → v ≡ value_of own f
-    → ((axis : Axis) → axis_index axis < i → IsTold bits values axis (part axis))
-    → (axis : Axis) → axis_index axis < i + 1 → IsTold (set bits place b) (set values place v) axis (part axis)
-told_more part bits values own f b v i place lb lv at turn is stands bits_are value_is before axis lt = elim (cases_lt (axis_index axis) i) [
+    → ((axis : Axis) → axis_index axis < i → IsGathered bits values axis (part axis))
+    → (axis : Axis) → axis_index axis < i + 1 → IsGathered (set bits place b) (set values place v) axis (part axis)
+reported_more part bits values own f b v i place lb lv at turn is stands bits_are value_is before axis lt = elim (cases_lt (axis_index axis) i) [
   | inl less ↦
       let old = before axis less in
       let other : axis_index axis ≢ place = λ e. omega (arith, less, at, turn, e) in record {
@@ -61,7 +61,7 @@ told_more part bits values own f b v i place lb lv at turn is stands bits_are va
       let below = index_below own in
       let here : axis_index axis ≡ place = omega (arith, lt, more, at, turn) in
       let same : own ≡ axis = axis_is own axis (eq-eqb (axis_index own) (axis_index axis) (omega (arith, here, at))) in
-      subst (λ (a : Axis). IsTold (set bits place b) (set values place v) a (part a)) same (record {
+      subst (λ (a : Axis). IsGathered (set bits place b) (set values place v) a (part a)) same (record {
         read = is ∙ ap (λ (r : Result Found StreamFault). Ok (found_or_none r)) (sym is);
         stands = subst (λ (r : Result Found StreamFault). Stands own (found_or_none r)) (sym is) stands;
         leading = get_or-set_at bits place (axis_index own) b 0 (sym at) (omega (arith, lb, at, below)) ∙ bits_are ∙ ap (λ (r : Result Found StreamFault). bits_of (found_or_none r)) (sym is);
@@ -95,12 +95,12 @@ flow_refused seen octets packets fault o p refusal vs h =
     cc (o, p, h.octets, h.packets, key, refusal.0)
 
 pub flow_known : (seen : FieldNumbers) (octets packets : ℕ) (bits values : List ℕ) (key : Key) → seen.octets ≡ Some octets → seen.packets ≡ Some packets → length values ≡ axis_count
-    → ((axis : Axis) → IsTold bits values axis (noted_part seen axis)) → key ≡ key_of (layout_by bits) values → (vs : List Value) → Notes seen vs
+    → ((axis : Axis) → IsGathered bits values axis (noted_part seen axis)) → key ≡ key_of (layout_by bits) values → (vs : List Value) → Notes seen vs
     → Ok (Some (record { key = key; counts = record { packets = packets % 2 ^ 64; octets = octets % 2 ^ 64 } })) ≡ flow_in vs
 unfolding flow_in
-flow_known seen octets packets bits values key o p len told is vs h =
+flow_known seen octets packets bits values key o p len reported is vs h =
     let own : Axis → Found = λ axis. found_or_none (noted_part seen axis) in
-    let k = key_known (found_in vs) own (λ axis. sym (same_part seen vs h axis) ∙ (told axis).read) in
-    let l = layout_by-is own bits (λ axis. (told axis).stands) (λ axis. (told axis).leading) in
-    let f = values_are own values len (λ axis. (told axis).value) in
+    let k = key_known (found_in vs) own (λ axis. sym (same_part seen vs h axis) ∙ (reported axis).read) in
+    let l = layout_by-is own bits (λ axis. (reported axis).stands) (λ axis. (reported axis).leading) in
+    let f = values_are own values len (λ axis. (reported axis).value) in
     cc (o, p, h.octets, h.packets, k, is, l, f)

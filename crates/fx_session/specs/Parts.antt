@@ -28,7 +28,7 @@ bits_of (Some leading) = leading.bits
 bits_of None = 0
 
 -- the lists hold, at the axis's index, the number of leading bits known (0 if none) and the value
-pub record IsTold (bits values : List ℕ) (axis : Axis) (part : Result Found StreamFault) : Type 0 where
+pub record IsGathered (bits values : List ℕ) (axis : Axis) (part : Result Found StreamFault) : Type 0 where
   pub read : part ≡ Ok (found_or_none part)
   pub stands : Stands axis (found_or_none part)
   pub leading : slice_index bits (axis_index axis) ≡ bits_of (found_or_none part)
@@ -36,7 +36,7 @@ pub record IsTold (bits values : List ℕ) (axis : Axis) (part : Result Found St
 
 -- the lists hold what is read on each axis, or the refusal is that of some axis
 abbrev pub Gathers : (Axis → Result Found StreamFault) → List ℕ → List ℕ → Result (Unit {0}) StreamFault → Type 0
-Gathers part bits values (Ok done) = (axis : Axis) → IsTold bits values axis (part axis)
+Gathers part bits values (Ok done) = (axis : Axis) → IsGathered bits values axis (part axis)
 Gathers part bits values (Err fault) = (fault ≡ faults.PrefixLength) × (axis : Axis) × (is_refused (part axis) ≡ true)
 
 -- this number of bits of the axis is permitted in a layout, if it is not 0

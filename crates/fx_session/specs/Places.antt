@@ -46,13 +46,13 @@ abbrev pub place_on : RecordPlaces → Axis → Option ValuePlace
 place_on places axis = slice_index_or places.values (axis_index axis) None
 
 -- the value that a record gives on each axis, 0 if it gives none
-abbrev pub told_by : RecordPlaces → List ℕ → Fields
-told_by places octets = fields_of (λ axis. found_at octets axis (place_on places axis))
+abbrev pub fields_read : RecordPlaces → List ℕ → Fields
+fields_read places octets = fields_of (λ axis. found_at octets axis (place_on places axis))
 
 -- the flow record read at the places
 abbrev pub record_by : RecordPlaces → List ℕ → Record
 record_by places octets = record {
-  key = key_of places.layout (told_by places octets);
+  key = key_of places.layout (fields_read places octets);
   counts = record {
     packets = number_in (octets_of_place places.packets octets) % 2 ^ 64;
     octets = number_in (octets_of_place places.octets octets) % 2 ^ 64;

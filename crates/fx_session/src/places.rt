@@ -157,7 +157,7 @@ impl RecordPlaces {
     fn read_values(&self, octets: &[u8], values: &mut Values)
         requires { placed.ArePlacesIn (length octets.now) self.now }
         ensures key { values.new ≡ (keys.key_of self.now.layout
-            (placed.told_by self.now octets.now)).values }
+            (placed.fields_read self.now octets.now)).values }
         ensures bits { keys.HasBits self.now.layout values.new }
     {
         values.clear();

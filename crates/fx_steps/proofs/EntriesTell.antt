@@ -25,14 +25,14 @@ use Rattle.fx_steps.proofs.HowWaysBegin.{Of, Any, way_is, of_nothing, of_tally, 
 
 module _ (net : Net) (n : Numbering) (fields : Fields) (network : IsNetwork net) (numbers : Numbers net n) (table : CostTable) where
   -- the entries for a collecting process tell of the packet's records there
-  abbrev pub ToldAt : ℕ → Type 0
-  ToldAt process =
+  abbrev pub HasCostsAt : ℕ → Type 0
+  HasCostsAt process =
       (number : ℕ) (layout : Layout) → slice_get n.layouts number ≡ Some layout → Fits layout → Tells (cost_entry table process number) (Of net (acts (coming_to net (key_of layout fields) process)))
 
   -- a destination's link is there, and leads to a process of which the table tells
   abbrev pub GoodTo : Option ℕ → Type 0
   GoodTo None = Unit {0}
-  GoodTo (Some link) = (link < length net.links) × ((q : ℕ) → slice_get net.links link ≡ Some q → ToldAt q)
+  GoodTo (Some link) = (link < length net.links) × ((q : ℕ) → slice_get net.links link ≡ Some q → HasCostsAt q)
 
   abbrev pub GoodBy : Exporter → Type 0
   GoodBy e = Every GoodTo e.destinations
@@ -44,7 +44,7 @@ module _ (net : Net) (n : Numbering) (fields : Fields) (network : IsNetwork net)
     abbrev key : Key
     key = key_of layout fields
 
-    arriving_tells : (o : Option ℕ) → ((q : ℕ) → o ≡ Some q → ToldAt q) → Tells (process_costs table number o) (Of net (acts (acts_of_arrival net key o)))
+    arriving_tells : (o : Option ℕ) → ((q : ℕ) → o ≡ Some q → HasCostsAt q) → Tells (process_costs table number o) (Of net (acts (acts_of_arrival net key o)))
     arriving_tells None good = no_acts_tell
     arriving_tells (Some q) good = good q refl number layout is fits
 

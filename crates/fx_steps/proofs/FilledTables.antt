@@ -22,7 +22,7 @@ use Rattle.fx_tables.specs.Runnable.{IsHolder}
 use Rattle.fx_steps.specs.Ways.{acts}
 use Rattle.fx_steps.proofs.WholeNetworks.{IsWhole, HasLinks, HasHolders}
 use Rattle.fx_steps.proofs.HowWaysBegin.{Of}
-use Rattle.fx_steps.proofs.EntriesTell.{ToldAt, GoodTo, GoodBy, GoodIn, no_acts_tell, entry_tells}
+use Rattle.fx_steps.proofs.EntriesTell.{HasCostsAt, GoodTo, GoodBy, GoodIn, no_acts_tell, entry_tells}
 
 -- ---- lists
 
@@ -56,15 +56,15 @@ row_at table net n fields process first (l ∷ ls) (suc k) layout h =
     row_at table net n fields process (suc first) ls k layout h ∙ ap (λ i. Some (cost_entry_from table net n fields process i layout)) e
 
 module _ (net : Net) (n : Numbering) (fields : Fields) (network : IsNetwork net) (numbers : Numbers net n) (whole : IsWhole net) (reports : net.report < length net.processes) where
-  abbrev pub Told : CostTable → ℕ → Type 0
-  Told table process = ToldAt net n fields network numbers table process
+  abbrev pub HasCosts : CostTable → ℕ → Type 0
+  HasCosts table process = HasCostsAt net n fields network numbers table process
 
   abbrev ranked : IsRanked net
   ranked = network.ranked
 
   -- ---- destinations are good where the table tells of all processes of higher rank
 
-  module _ (table : CostTable) (from : ℕ) (later : (q : ℕ) → ranked.rank from < ranked.rank q → Told table q) where
+  module _ (table : CostTable) (from : ℕ) (later : (q : ℕ) → ranked.rank from < ranked.rank q → HasCosts table q) where
     good_to : (d : Option ℕ) → Rises ranked.rank net from d → IfSome d (λ link. link < length net.links) → GoodTo net n fields network numbers table d
     good_to None rises lt = tt
     good_to (Some link) rises lt = (lt, λ q e. later q (subst (RisesTo ranked.rank from) e rises))
@@ -95,7 +95,7 @@ module _ (net : Net) (n : Numbering) (fields : Fields) (network : IsNetwork net)
     apart false e = refl
 
   -- a process that isn't there does nothing
-  pub not_there : (table : CostTable) (q : ℕ) → length table ≡ length net.processes → length net.processes ≤ q → Told table q
+  pub not_there : (table : CostTable) (q : ℕ) → length table ≡ length net.processes → length net.processes ≤ q → HasCosts table q
   not_there table q size le number layout is fits =
       let none : slice_get table q ≡ None = slice_get_past table q (omega (arith, size, le)) in
       let key : Key = key_of layout fields in
@@ -104,7 +104,7 @@ module _ (net : Net) (n : Numbering) (fields : Fields) (network : IsNetwork net)
   abbrev filled : CostTable → ℕ → CostTable
   filled table process = slice_set table process (cost_row table net n fields process 0 n.layouts)
 
-  new_row : (table : CostTable) (process : ℕ) → length table ≡ length net.processes → process < length net.processes → ((q : ℕ) → ranked.rank process < ranked.rank q → Told table q) → Told (filled table process) process
+  new_row : (table : CostTable) (process : ℕ) → length table ≡ length net.processes → process < length net.processes → ((q : ℕ) → ranked.rank process < ranked.rank q → HasCosts table q) → HasCosts (filled table process) process
   new_row table process size lt later number layout is fits =
       let row = cost_row table net n fields process 0 n.layouts in
       let here : slice_get (filled table process) process ≡ Some row = set_here table process row (omega (arith, size, lt)) in
@@ -113,29 +113,29 @@ module _ (net : Net) (n : Numbering) (fields : Fields) (network : IsNetwork net)
       let e : cost_entry (filled table process) process number ≡ cost_entry_from table net n fields process number layout = ap (λ o. cost_in o number) here ∙ ap or_never at ∙ ap (λ i. cost_entry_from table net n fields process i layout) first in
       subst (λ (c : Costs). Tells c (Of net (acts (coming_to net (key_of layout fields) process)))) (sym e) (entry_tells net n fields network numbers table number layout is fits process (good_process table process later))
 
-  old_row : (table : CostTable) (process q : ℕ) → process ≢ q → Told table q → Told (filled table process) q
-  old_row table process q e told number layout is fits =
-      subst (λ o. Tells (cost_in o number) (Of net (acts (coming_to net (key_of layout fields) q)))) (sym (set_elsewhere table process q (cost_row table net n fields process 0 n.layouts) e)) (told number layout is fits)
+  old_row : (table : CostTable) (process q : ℕ) → process ≢ q → HasCosts table q → HasCosts (filled table process) q
+  old_row table process q e fate_costs number layout is fits =
+      subst (λ o. Tells (cost_in o number) (Of net (acts (coming_to net (key_of layout fields) q)))) (sym (set_elsewhere table process q (cost_row table net n fields process 0 n.layouts) e)) (fate_costs number layout is fits)
 
-  any_row : (table : CostTable) (process q : ℕ) → length table ≡ length net.processes → process < length net.processes → ((r : ℕ) → ranked.rank process < ranked.rank r → Told table r) → (q ≢ process → Told table q) → Told (filled table process) q
+  any_row : (table : CostTable) (process q : ℕ) → length table ≡ length net.processes → process < length net.processes → ((r : ℕ) → ranked.rank process < ranked.rank r → HasCosts table r) → (q ≢ process → HasCosts table q) → HasCosts (filled table process) q
   any_row table process q size lt later old = by (process == q) refl where
-    by : (t : Bool) → (process == q) ≡ t → Told (filled table process) q
-    by true e = let same : process ≡ q = eqb-true _ _ e in subst (Told (filled table process)) same (new_row table process size lt later)
+    by : (t : Bool) → (process == q) ≡ t → HasCosts (filled table process) q
+    by true e = let same : process ≡ q = eqb-true _ _ e in subst (HasCosts (filled table process)) same (new_row table process size lt later)
     by false e = let differs = eqb-false process q e in old_row table process q differs (old (λ same. differs (sym same)))
 
-  later_told : (done : List ℕ) (table : CostTable) (process : ℕ) → length table ≡ length net.processes → ((q : ℕ) → Contains done q → Told table q) → ((q : ℕ) → q < length net.processes → ranked.rank process < ranked.rank q → Contains done q) → (q : ℕ) → ranked.rank process < ranked.rank q → Told table q
-  later_told done table process size told behind q up =
-      elim (cases_lt q (length net.processes)) [ inl lt ↦ told q (behind q lt up) | inr le ↦ not_there table q size le ]
+  later_reported : (done : List ℕ) (table : CostTable) (process : ℕ) → length table ≡ length net.processes → ((q : ℕ) → Contains done q → HasCosts table q) → ((q : ℕ) → q < length net.processes → ranked.rank process < ranked.rank q → Contains done q) → (q : ℕ) → ranked.rank process < ranked.rank q → HasCosts table q
+  later_reported done table process size fate_costs behind q up =
+      elim (cases_lt q (length net.processes)) [ inl lt ↦ fate_costs q (behind q lt up) | inr le ↦ not_there table q size le ]
 
   in_done : (process : ℕ) (done : List ℕ) (q : ℕ) → Contains (process ∷ done) q → q ≢ process → Contains done q
   in_done process done q (zero, lt, e) differs = absurd (differs (sym e))
   in_done process done q (suc k, lt, e) differs = (k, le_of_suc-le-suc lt, e)
 
-  all_told : (order done : List ℕ) (table : CostTable) → length table ≡ length net.processes → Descends net ranked.rank done order → ((q : ℕ) → Contains done q → Told table q) → (q : ℕ) → (Contains done q) ⊎ (Contains order q) → Told (cost_fill net n fields order table) q
-  all_told [] done table size falls told q (inl at) = told q at
-  all_told [] done table size falls told q (inr at) = absurd (let lt = at.1 in omega (arith, lt))
-  all_told (process ∷ order) done table size falls told q at =
-      all_told order (process ∷ done) (filled table process) (length-set table process (cost_row table net n fields process 0 n.layouts) ∙ size) falls.2 (λ r. λ in'. any_row table process r size falls.0 (later_told done table process size told falls.1) (λ differs. told r (in_done process done r in' differs))) q (placed at)
+  all_have_costs : (order done : List ℕ) (table : CostTable) → length table ≡ length net.processes → Descends net ranked.rank done order → ((q : ℕ) → Contains done q → HasCosts table q) → (q : ℕ) → (Contains done q) ⊎ (Contains order q) → HasCosts (cost_fill net n fields order table) q
+  all_have_costs [] done table size falls fate_costs q (inl at) = fate_costs q at
+  all_have_costs [] done table size falls fate_costs q (inr at) = absurd (let lt = at.1 in omega (arith, lt))
+  all_have_costs (process ∷ order) done table size falls fate_costs q at =
+      all_have_costs order (process ∷ done) (filled table process) (length-set table process (cost_row table net n fields process 0 n.layouts) ∙ size) falls.2 (λ r. λ in'. any_row table process r size falls.0 (later_reported done table process size fate_costs falls.1) (λ differs. fate_costs r (in_done process done r in' differs))) q (placed at)
     where
       placed : (Contains done q) ⊎ (Contains (process ∷ order) q) → (Contains (process ∷ done) q) ⊎ (Contains order q)
       placed (inl (k, lt, e)) = inl (suc k, omega (arith, lt), e)
@@ -147,9 +147,9 @@ module _ (net : Net) (n : Numbering) (fields : Fields) (network : IsNetwork net)
   fill_length (process ∷ order) table = fill_length order (filled table process) ∙ length-set table process (cost_row table net n fields process 0 n.layouts)
 
 -- whatever the table held
-pub table_tells : (t : Tables) (are : AreTables t) → IsWhole t.net → (fields : Fields) (table : CostTable) → length table ≡ length t.net.processes → (process : ℕ) → ToldAt t.net t.numbering fields are.network are.numbers (cost_fill t.net t.numbering fields t.order table) process
+pub table_tells : (t : Tables) (are : AreTables t) → IsWhole t.net → (fields : Fields) (table : CostTable) → length table ≡ length t.net.processes → (process : ℕ) → HasCostsAt t.net t.numbering fields are.network are.numbers (cost_fill t.net t.numbering fields t.order table) process
 table_tells t are whole fields table size process =
     elim (cases_lt process (length t.net.processes)) [
-      | inl lt ↦ all_told t.net t.numbering fields are.network are.numbers whole are.reports t.order [] table size are.falls (λ q none. absurd (let lt = none.1 in omega (arith, lt))) process (inr (are.whole process lt))
+      | inl lt ↦ all_have_costs t.net t.numbering fields are.network are.numbers whole are.reports t.order [] table size are.falls (λ q none. absurd (let lt = none.1 in omega (arith, lt))) process (inr (are.whole process lt))
       | inr le ↦ not_there t.net t.numbering fields are.network are.numbers whole are.reports (cost_fill t.net t.numbering fields t.order table) process (fill_length t.net t.numbering fields are.network are.numbers whole are.reports t.order table ∙ size) le
     ]

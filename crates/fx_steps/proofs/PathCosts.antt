@@ -22,15 +22,15 @@ use Rattle.fx_steps.specs.Ways.{Comes, PacketComes, acts}
 use Rattle.fx_steps.proofs.WholeNetworks.{whole, IsWhole, HasLinks, HasCaches}
 use Rattle.fx_steps.proofs.CostsTell.{Both, both_tells, next_tells, never_tells}
 use Rattle.fx_steps.proofs.HowWaysBegin.{Of, next_tells_acts}
-use Rattle.fx_steps.proofs.EntriesTell.{ToldAt, GoodTo, GoodBy, no_acts_tell, held_tells}
+use Rattle.fx_steps.proofs.EntriesTell.{HasCostsAt, GoodTo, GoodBy, no_acts_tell, held_tells}
 use Rattle.fx_steps.proofs.FilledTables.{all_at, all_at_places, table_tells}
 
-module _ (net : Net) (n : Numbering) (fields : Fields) (network : IsNetwork net) (numbers : Numbers net n) (whole : IsWhole net) (table : CostTable) (told : (q : ℕ) → ToldAt net n fields network numbers table q) where
+module _ (net : Net) (n : Numbering) (fields : Fields) (network : IsNetwork net) (numbers : Numbers net n) (whole : IsWhole net) (table : CostTable) (fate_costs : (q : ℕ) → HasCostsAt net n fields network numbers table q) where
   -- ---- all destinations are good
 
   good_to : (d : Option ℕ) → IfSome d (λ link. link < length net.links) → GoodTo net n fields network numbers table d
   good_to None lt = tt
-  good_to (Some link) lt = (lt, λ q e. told q)
+  good_to (Some link) lt = (lt, λ q e. fate_costs q)
 
   all_good : (ds : List (Option ℕ)) → AllByRecursion (λ d. IfSome d (λ link. link < length net.links)) ds → Every (GoodTo net n fields network numbers table) ds
   all_good [] h = tt

@@ -32,14 +32,14 @@ use Rattle.fx_steps.proofs.CostsTell.{cost_next}
 use Rattle.fx_steps.proofs.FilledTables.{all_at, all_at_places, table_tells}
 use Rattle.fx_steps.proofs.HowWaysBegin.{Of}
 use Rattle.fx_steps.proofs.SharesCost.{pick_is, alone}
-use Rattle.fx_steps.proofs.EntriesTell.{ToldAt, GoodBy, GoodIn, entry_tells}
+use Rattle.fx_steps.proofs.EntriesTell.{HasCostsAt, GoodBy, GoodIn, entry_tells}
 
-module _ (net : Net) (n : Numbering) (fields : Fields) (network : IsNetwork net) (numbers : Numbers net n) (whole : IsWhole net) (table : CostTable) (told : (q : ℕ) → ToldAt net n fields network numbers table q) where
+module _ (net : Net) (n : Numbering) (fields : Fields) (network : IsNetwork net) (numbers : Numbers net n) (whole : IsWhole net) (table : CostTable) (fate_costs : (q : ℕ) → HasCostsAt net n fields network numbers table q) where
   links_at : (places : List ℕ) → AllByRecursion (HasLinks net) (at_places net.exporters places)
   links_at places = all_at_places (HasLinks net) net.exporters places whole.links
 
   good_at : (places : List ℕ) → Every (GoodBy net n fields network numbers table) (at_places net.exporters places)
-  good_at places = each_good net n fields network numbers whole table told (at_places net.exporters places) (links_at places)
+  good_at places = each_good net n fields network numbers whole table fate_costs (at_places net.exporters places) (links_at places)
 
   good_in : (as' : List AggregationEntry) → AllByRecursion (λ (a : AggregationEntry). IsHolder net a.holder) as' → Every (λ (a : AggregationEntry). GoodIn net n fields network numbers table a.holder) as'
   good_in [] h = tt
@@ -72,7 +72,7 @@ module _ (net : Net) (n : Numbering) (fields : Fields) (network : IsNetwork net)
     -- an entry tells of the same ways as the costs from the table as it is
     entry_is : (q : ℕ) (f : Fate) → cost_of (cost_entry table q number) f ≤ step_limit → cost_of (cost_entry table q number) f ≡ cost_of (cost_entry_from table net n fields q number layout) f
     entry_is q f le =
-        same_cost (Of net (acts (coming_to net (key_of layout fields) q))) (cost_entry table q number) (cost_entry_from table net n fields q number layout) f (told q number layout is fits) (entry_tells net n fields network numbers table number layout is fits q (λ p e. (good_at p.exporters, good_in p.aggregations (all_at (HasHolders net) net.processes q p whole.aggregations e)))) le
+        same_cost (Of net (acts (coming_to net (key_of layout fields) q))) (cost_entry table q number) (cost_entry_from table net n fields q number layout) f (fate_costs q number layout is fits) (entry_tells net n fields network numbers table number layout is fits q (λ p e. (good_at p.exporters, good_in p.aggregations (all_at (HasHolders net) net.processes q p whole.aggregations e)))) le
 
     keys_come : (q : ℕ) → keys_fate net (arrival_keys net fields layout (Some q)) ≡ tally_comes table net n fields network numbers number layout is fits q
     keys_come q =

@@ -1,4 +1,4 @@
--- Networks in which no record is stuck, told along their lists.
+-- Networks in which no record is stuck, fate_costs along their lists.
 use Rattle.std.proofs.Common.{suc, ◌<◌, List, [], ◌∷◌, length, All, IfSome, arith}
 use Rattle.std.specs.List.{AllByRecursion}
 use Rattle.fx_tables.specs.declared.observation.Selection.{Selection}

@@ -27,12 +27,12 @@ use fx_tables::{Classes, Crossing, HolderName, Packet};
 use std::alloc::{AllocError, Global};
 
 /// Returns the cheaper of two fates, or the first if they cost the same.
-fn cheaper_fate(told: Costs, one: Fate, other: Fate) -> Fate
+fn cheaper_fate(fate_costs: Costs, one: Fate, other: Fate) -> Fate
     ensures either { (result ≡ one) ⊎ (result ≡ other) }
-    ensures one { by_fate.cost_of told result ≤ by_fate.cost_of told one }
-    ensures other { by_fate.cost_of told result ≤ by_fate.cost_of told other }
+    ensures one { by_fate.cost_of fate_costs result ≤ by_fate.cost_of fate_costs one }
+    ensures other { by_fate.cost_of fate_costs result ≤ by_fate.cost_of fate_costs other }
 {
-    if cost_of(told, other) < cost_of(told, one) {
+    if cost_of(fate_costs, other) < cost_of(fate_costs, one) {
         other
     } else {
         one
@@ -40,15 +40,15 @@ fn cheaper_fate(told: Costs, one: Fate, other: Fate) -> Fate
 }
 
 /// Returns a fate of least cost among all except the wanted one.
-fn least_unwanted_fate(told: Costs, exempt: bool) -> Fate
+fn least_unwanted_fate(fate_costs: Costs, exempt: bool) -> Fate
     ensures unwanted { result ≢ wanted_fate exempt }
     ensures least { (f : of_fate.Fate) → f ≢ wanted_fate exempt → f ≢ fates.Differing
-        → by_fate.cost_of told result ≤ by_fate.cost_of told f }
+        → by_fate.cost_of fate_costs result ≤ by_fate.cost_of fate_costs f }
 {
     let uncounted = if exempt { Fate::Once } else { Fate::Never };
     cheaper_fate(
-        told,
-        cheaper_fate(told, uncounted, Fate::Many),
+        fate_costs,
+        cheaper_fate(fate_costs, uncounted, Fate::Many),
         Fate::Unassigned,
     )
 }
@@ -148,9 +148,9 @@ pub fn wrong_run(
 {
     let path = classes.path_of(packet);
     let mut rows = empty_rows(alloc, tables.net().processes().len())?;
-    let told = least_steps(rows.as_mut_slice(), tables, packet, path);
-    let fate = least_unwanted_fate(told, classes.exempts(packet));
-    if cost_of(told, fate) >= OVER_LIMIT {
+    let fate_costs = least_steps(rows.as_mut_slice(), tables, packet, path);
+    let fate = least_unwanted_fate(fate_costs, classes.exempts(packet));
+    if cost_of(fate_costs, fate) >= OVER_LIMIT {
         return Ok(None);
     }
     let costs = PacketCosts {

@@ -1,4 +1,4 @@
--- What look-ups by a hash say, told by the order of keys.
+-- What look-ups by a hash say, reported by the order of keys.
 use Rattle.std.proofs.Common.{◌≡◌, Bool, cond, List, Option, Some, None, IsSome, is_some, option_map, sym, ap, ◌∙◌, subst}
 use Rattle.std.specs.FinMap.{get}
 use Rattle.std.specs.Map.{lookup}

@@ -11,7 +11,7 @@ use Rattle.fx_machine.specs.Sums.{total_at}
 use Rattle.fx_collect.specs.Totals.{with_records}
 use Rattle.fx_sums.specs.declared.notes.Notes.{Notes}
 use Rattle.fx_sums.specs.Sums.{Sum, joined, plus, plus_all, plus_notes, AreAlike}
-use Rattle.fx_sums.proofs.SumsOfParts.{shares, told, lost, left_out, layouts_kept, exchanged}
+use Rattle.fx_sums.proofs.SumsOfParts.{shares, reported, lost, left_out, layouts_kept, exchanged}
 
 -- alike, and under the same keys
 abbrev AreSame : Sum → Sum → Type 0
@@ -32,9 +32,9 @@ with_text : (s t u : Sum) → AreSame s t → AreSame (plus s u) (plus t u)
 with_text s t u h = (((totals, unassigned), ap (λ (n : Notes). plus_notes n u.notes) h.0.1), layout_stays s u ∙ h.1 ∙ sym (layout_stays t u)) where
   totals : (key : Key) → total_at (plus s u).totals.entries key ≡ total_at (plus t u).totals.entries key
   totals key =
-      told s.totals key u.totals.entries
+      reported s.totals key u.totals.entries
       ∙ ap₂ (λ (o : Option Counts) (l : Layout). joined add_counts o (shares l key u.totals.entries)) (h.0.0.0 key) h.1
-      ∙ sym (told t.totals key u.totals.entries)
+      ∙ sym (reported t.totals key u.totals.entries)
 
   numbers : (a b x y m n e : ℕ) → a % 2 ^ 64 ≡ (x + m) % 2 ^ 64 → b % 2 ^ 64 ≡ (y + n) % 2 ^ 64 → x ≡ y → m ≡ n → (a + e) % 2 ^ 64 ≡ (b + e) % 2 ^ 64
   numbers a b x y m n e first second same lost_same = omega (arith, first, second, same, lost_same)

@@ -9,7 +9,7 @@ use Rattle.fx_tables.specs.declared.record.Record.{Record}
 use Rattle.fx_machine.specs.States.{add_at}
 use Rattle.fx_machine.specs.Sums.{total_at}
 use Rattle.fx_collect.specs.Totals.{Totals, IsTable, nothing, with_record, with_records, with_unassigned}
-use Rattle.fx_collect.proofs.TotalsOfTotals.{table_added, retold}
+use Rattle.fx_collect.proofs.TotalsOfTotals.{table_added, restated}
 use Rattle.fx_sums.specs.declared.notes.Notes.{Notes}
 use Rattle.fx_sums.specs.declared.notes.SkippedFrames.{SkippedFrames}
 use Rattle.fx_sums.specs.Sums.{Sum, joined, plus, plus_totals, plus_numbers, plus_frames, plus_notes, HaveSameTotals, AreAlike}
@@ -83,8 +83,8 @@ abbrev pub shares : Layout → Key → List Record → Option Counts
 shares layout key [] = None
 shares layout key (r ∷ rs) = joined add_counts (share layout key r) (shares layout key rs)
 
-told_one : (t : Totals) (key : Key) (r : Record) → total_at (with_record t r).entries key ≡ joined add_counts (total_at t.entries key) (share t.layout key r)
-told_one t key r =
+reported_one : (t : Totals) (key : Key) (r : Record) → total_at (with_record t r).entries key ≡ joined add_counts (total_at t.entries key) (share t.layout key r)
+reported_one t key r =
     let added = added_at t.entries (project r.key t.layout) key r.counts in
     elim (refines r.key.layout t.layout) as (λ b. total_at (cond b (record t { entries = add_at t.entries (project r.key t.layout) r.counts }) (with_unassigned t 1)).entries key ≡ joined add_counts (total_at t.entries key) (cond b (at_key (project r.key t.layout) key r.counts) None)) [
       | true ↦ added
@@ -92,11 +92,11 @@ told_one t key r =
     ]
 
 -- what was there is joined with what the records have
-pub told : (t : Totals) (key : Key) (rs : List Record) → total_at (with_records t rs).entries key ≡ joined add_counts (total_at t.entries key) (shares t.layout key rs)
-told t key [] = sym (joined_none add_counts (total_at t.entries key))
-told t key (r ∷ rs) =
-    told (with_record t r) key rs
-    ∙ ap₂ (λ (o : Option Counts) (l : Layout). joined add_counts o (shares l key rs)) (told_one t key r) (layout_kept t r)
+pub reported : (t : Totals) (key : Key) (rs : List Record) → total_at (with_records t rs).entries key ≡ joined add_counts (total_at t.entries key) (shares t.layout key rs)
+reported t key [] = sym (joined_none add_counts (total_at t.entries key))
+reported t key (r ∷ rs) =
+    reported (with_record t r) key rs
+    ∙ ap₂ (λ (o : Option Counts) (l : Layout). joined add_counts o (shares l key rs)) (reported_one t key r) (layout_kept t r)
     ∙ joined_assoc add_counts counts_assoc (total_at t.entries key) (share t.layout key r) (shares t.layout key rs)
 
 shares_both : (layout : Layout) (key : Key) (a b : List Record) → shares layout key (a ++ b) ≡ joined add_counts (shares layout key a) (shares layout key b)
@@ -127,24 +127,24 @@ table_kept t (r ∷ rs) h =
 collected : (layout : Layout) (rs : List Record) → IsTable layout (with_records (nothing layout) rs).entries
 collected layout rs = table_kept (nothing layout) rs (record { under = tt; differ = tt })
 
--- what was collected is told once more as it is
-told_again : (layout : Layout) (rs : List Record) → IsLayout layout → with_records (nothing layout) (with_records (nothing layout) rs).entries ≡ record { layout = layout; entries = (with_records (nothing layout) rs).entries; unassigned = 0 }
-told_again layout rs l = retold layout (with_records (nothing layout) rs).entries l (collected layout rs)
+-- what was collected is reported once more as it is
+reported_again : (layout : Layout) (rs : List Record) → IsLayout layout → with_records (nothing layout) (with_records (nothing layout) rs).entries ≡ record { layout = layout; entries = (with_records (nothing layout) rs).entries; unassigned = 0 }
+reported_again layout rs l = restated layout (with_records (nothing layout) rs).entries l (collected layout rs)
 
 -- it has at each key what its records have
 shares_again : (layout : Layout) (key : Key) (rs : List Record) → IsLayout layout → shares layout key (with_records (nothing layout) rs).entries ≡ shares layout key rs
 shares_again layout key rs l =
-    sym (told (nothing layout) key (with_records (nothing layout) rs).entries) ∙ ap (λ (t : Totals). total_at t.entries key) (told_again layout rs l) ∙ told (nothing layout) key rs
+    sym (reported (nothing layout) key (with_records (nothing layout) rs).entries) ∙ ap (λ (t : Totals). total_at t.entries key) (reported_again layout rs l) ∙ reported (nothing layout) key rs
 
 pub totals_of_parts : (layout : Layout) (a b : List Record) (key : Key) → IsLayout layout → total_at (plus_totals (with_records (nothing layout) a) (with_records (nothing layout) b)).entries key ≡ total_at (with_records (nothing layout) (a ++ b)).entries key
 totals_of_parts layout a b key l =
     let first = with_records (nothing layout) a in
     let second = with_records (nothing layout) b in
-    told first key second.entries
-    ∙ ap₂ (λ (o : Option Counts) (k : Layout). joined add_counts o (shares k key second.entries)) (told (nothing layout) key a) (layouts_kept (nothing layout) a)
+    reported first key second.entries
+    ∙ ap₂ (λ (o : Option Counts) (k : Layout). joined add_counts o (shares k key second.entries)) (reported (nothing layout) key a) (layouts_kept (nothing layout) a)
     ∙ ap (joined add_counts (shares layout key a)) (shares_again layout key b l)
     ∙ sym (shares_both layout key a b)
-    ∙ sym (told (nothing layout) key (a ++ b))
+    ∙ sym (reported (nothing layout) key (a ++ b))
 
 -- ---- unassigned records
 
@@ -188,7 +188,7 @@ unassigned_of_parts layout a b l =
     let second = with_records (nothing layout) b in
     let all = with_records (nothing layout) (a ++ b) in
     let own : first.layout ≡ layout = layouts_kept (nothing layout) a in
-    let none : 0 % 2 ^ 64 ≡ (0 + lost layout second.entries) % 2 ^ 64 = ap (λ (t : Totals). t.unassigned % 2 ^ 64) (sym (told_again layout b l)) ∙ left_out (nothing layout) second.entries in
+    let none : 0 % 2 ^ 64 ≡ (0 + lost layout second.entries) % 2 ^ 64 = ap (λ (t : Totals). t.unassigned % 2 ^ 64) (sym (reported_again layout b l)) ∙ left_out (nothing layout) second.entries in
     let out : (with_records first second.entries).unassigned % 2 ^ 64 ≡ (first.unassigned + lost layout second.entries) % 2 ^ 64 = left_out first second.entries ∙ ap (λ (k : Layout). (first.unassigned + lost k second.entries) % 2 ^ 64) own in
     let one : first.unassigned % 2 ^ 64 ≡ (0 + lost layout a) % 2 ^ 64 = left_out (nothing layout) a in
     let two : second.unassigned % 2 ^ 64 ≡ (0 + lost layout b) % 2 ^ 64 = left_out (nothing layout) b in
@@ -205,7 +205,7 @@ parts_alike layout a b l = (λ key. totals_of_parts layout a b key l, unassigned
 
 totals_exchanged : (s t u : Totals) (key : Key) → total_at (plus_totals (plus_totals s t) u).entries key ≡ joined add_counts (joined add_counts (total_at s.entries key) (shares s.layout key t.entries)) (shares s.layout key u.entries)
 totals_exchanged s t u key =
-    told (plus_totals s t) key u.entries ∙ ap₂ (λ (o : Option Counts) (k : Layout). joined add_counts o (shares k key u.entries)) (told s key t.entries) (layouts_kept s t.entries)
+    reported (plus_totals s t) key u.entries ∙ ap₂ (λ (o : Option Counts) (k : Layout). joined add_counts o (shares k key u.entries)) (reported s key t.entries) (layouts_kept s t.entries)
 
 unassigned_exchanged : (s t u : Totals) → (plus_totals (plus_totals s t) u).unassigned ≡ (s.unassigned + (lost s.layout t.entries + t.unassigned) + (lost s.layout u.entries + u.unassigned)) % 2 ^ 64
 unassigned_exchanged s t u =

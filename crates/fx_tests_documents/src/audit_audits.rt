@@ -123,9 +123,9 @@ fn items(found: Found) -> usize {
 fn finds_a_certificate(rt: HostRuntime) {
     let plan = plan_of(&rt, rt.alloc(), NETWORK);
     let traffic = traffic_of(&rt, rt.alloc(), TRAFFIC, &plan);
-    let mut told = LastLines { lines: 0 };
-    let found = search(rt.alloc(), &plan, &traffic, 2, &mut told).expect(&rt, "a certificate");
-    assert!(rt; (items(found) == 4) & (told.lines == 1));
+    let mut progress = LastLines { lines: 0 };
+    let found = search(rt.alloc(), &plan, &traffic, 2, &mut progress).expect(&rt, "a certificate");
+    assert!(rt; (items(found) == 4) & (progress.lines == 1));
 }
 
 /// A path through a meter that observes only the sources below 128.0.0.0.

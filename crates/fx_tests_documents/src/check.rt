@@ -1,11 +1,11 @@
 //! Certificates of small networks.
 use crate::audit_texts::{NETWORK, TRAFFIC};
-use crate::documents::is_told;
+use crate::documents::is_reported;
 use crate::plan::plan_of;
 use fx_base::{Fault, LineReader, Octets};
 use fx_cert::Version;
 use fx_check::{
-    Checker, Due, certificates_are_accepted, certificates_count_once, check, wrong_leaves_are_told,
+    Checker, Due, certificates_are_accepted, certificates_count_once, check, wrong_leaves_are_reported,
 };
 use fx_elements::Axis;
 use fx_plan::Plan;
@@ -59,7 +59,7 @@ fn check_all(
     let traffic = traffic_of(rt, alloc, traffic, &plan);
     for (certificate, wanted) in certificates {
         let answer = checked(alloc, &plan, &traffic, *certificate);
-        assert!(rt; is_told(rt, alloc, answer, *wanted), "{certificate}");
+        assert!(rt; is_reported(rt, alloc, answer, *wanted), "{certificate}");
     }
 }
 
@@ -208,7 +208,7 @@ fn stands_before_the_refused_line(rt: HostRuntime) {
     assert!(rt; matches!(checker.due(), Due::Header));
     let answer = checker.take_all(&mut lines);
     assert!(rt;
-        is_told(&rt, rt.alloc(), answer, wanted)
+        is_reported(&rt, rt.alloc(), answer, wanted)
             & (lines.number() == 5)
             & (lines.line().bytes == b"L 2 1 1".as_slice())
             & is_part_due(&checker.due(), 2147483647)
@@ -253,5 +253,5 @@ fn waits_for_the_next_class(rt: HostRuntime) {
 fn the_laws() {
     certificates_are_accepted();
     certificates_count_once();
-    wrong_leaves_are_told();
+    wrong_leaves_are_reported();
 }

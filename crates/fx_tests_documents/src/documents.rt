@@ -65,31 +65,31 @@ fn read(rt: &impl Abort, alloc: Global, kind: Kind, text: &str) -> Result<(), Fa
 }
 
 /// Returns a fault's number, and its place after a space.
-pub(crate) fn fault_told(rt: &impl Abort, alloc: Global, fault: Fault) -> String {
+pub(crate) fn fault_reported(rt: &impl Abort, alloc: Global, fault: Fault) -> String {
     let Fault { number, place } = fault;
     format!(in alloc; "{number} {place}").expect(rt, "memory")
 }
 
 /// Returns the text of an answer: `ok`, or the fault's number and place.
-fn told(rt: &impl Abort, alloc: Global, answer: Result<(), Fault>) -> String {
+fn reported(rt: &impl Abort, alloc: Global, answer: Result<(), Fault>) -> String {
     match answer {
         Ok(()) => String::from_str(alloc, "ok").expect(rt, "memory"),
-        Err(fault) => fault_told(rt, alloc, fault),
+        Err(fault) => fault_reported(rt, alloc, fault),
     }
 }
 
 /// Returns whether this is the text of an answer.
-pub(crate) fn is_told(
+pub(crate) fn is_reported(
     rt: &impl Abort,
     alloc: Global,
     answer: Result<(), Fault>,
     wanted: &str,
 ) -> bool {
-    told(rt, alloc, answer).as_str() == wanted
+    reported(rt, alloc, answer).as_str() == wanted
 }
 
 /// Returns whether this is the text of an answer, if pointers begin after the frame's.
-fn is_told_in(found: &str, pointer: &str, wanted: &str) -> bool {
+fn is_reported_in(found: &str, pointer: &str, wanted: &str) -> bool {
     match found.split_once(pointer) {
         Some((number, place)) => wanted.strip_prefix(number) == Some(place),
         None => found == wanted,
@@ -101,8 +101,8 @@ fn comes_to(rt: &impl Abort, alloc: Global, frame: &Frame<'_>, text: &str, wante
     let document = [frame.before, text, frame.behind]
         .concat(alloc)
         .expect(rt, "memory");
-    let found = told(rt, alloc, read(rt, alloc, frame.kind, document.as_str()));
-    is_told_in(found.as_str(), frame.pointer, wanted)
+    let found = reported(rt, alloc, read(rt, alloc, frame.kind, document.as_str()));
+    is_reported_in(found.as_str(), frame.pointer, wanted)
 }
 
 /// Reads each text, and asserts that it has the result beside it.

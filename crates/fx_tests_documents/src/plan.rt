@@ -1,5 +1,5 @@
 //! Ranks of collecting processes, their order, and the numbers of layouts.
-use crate::documents::fault_told;
+use crate::documents::fault_reported;
 use fx_base::Fault;
 use fx_plan::{Plan, documents_name_axes, plans_have_complete_runs, read_plan};
 use fx_ranks::rank_order;
@@ -21,16 +21,16 @@ pub(crate) fn plan_of(rt: &impl Abort, alloc: Global, text: &str) -> Plan {
 }
 
 /// Returns the order of a plan's ranks as text.
-fn ranks_told(rt: &impl Abort, alloc: Global, plan: Plan) -> String {
+fn ranks_reported(rt: &impl Abort, alloc: Global, plan: Plan) -> String {
     plans_have_complete_runs(&plan);
     format!(in alloc; "{:?}", plan.upwards()).expect(rt, "memory")
 }
 
 /// Returns the result of reading a plan: the order of ranks, or the fault's number and place.
-fn told(rt: &impl Abort, alloc: Global, text: &str) -> String {
+fn reported(rt: &impl Abort, alloc: Global, text: &str) -> String {
     match read(rt, alloc, text) {
-        Ok(plan) => ranks_told(rt, alloc, plan),
-        Err(fault) => fault_told(rt, alloc, fault),
+        Ok(plan) => ranks_reported(rt, alloc, plan),
+        Err(fault) => fault_reported(rt, alloc, fault),
     }
 }
 
@@ -75,7 +75,7 @@ fn ranks_feeders_first_and_refuses_cycles(rt: HostRuntime) {
     documents_name_axes();
     for (links, wanted) in &LINKS {
         let text = linked(rt.alloc(), *links).expect(&rt, "memory");
-        assert!(rt; told(&rt, rt.alloc(), text.as_str()).as_str() == *wanted);
+        assert!(rt; reported(&rt, rt.alloc(), text.as_str()).as_str() == *wanted);
     }
 }
 
@@ -125,7 +125,7 @@ fn aggregations(alloc: Global, count: u32) -> Result<String, AllocError> {
 #[test]
 fn refuses_too_many_layouts(rt: HostRuntime) {
     let text = aggregations(rt.alloc(), 64).expect(&rt, "memory");
-    assert!(rt; told(&rt, rt.alloc(), text.as_str()).as_str() == "207 ");
+    assert!(rt; reported(&rt, rt.alloc(), text.as_str()).as_str() == "207 ");
 }
 
 /// Returns the plan of this many aggregations.

@@ -2,7 +2,7 @@
 use crate::answers::ends;
 use crate::audit_texts::{NETWORK, TRAFFIC};
 use crate::check::traffic_of;
-use crate::documents::fault_told;
+use crate::documents::fault_reported;
 use crate::plan::plan_of;
 use fx_base::{Fault, LineReader, Octets, Place, Room};
 use fx_collect::Totals;
@@ -92,16 +92,16 @@ fn is_shown(alloc: Global, plan: &Plan, traffic: &Traffic, text: &str) -> bool {
 }
 
 /// Returns the numbers of keys and unassigned records of a run, and of the keys of its packet, as text.
-fn totals_told(rt: &impl Abort, alloc: Global, ran: Totals, plain: Totals) -> String {
+fn totals_reported(rt: &impl Abort, alloc: Global, ran: Totals, plain: Totals) -> String {
     let (keys, lost, wanted) = (ran.len(), ran.unassigned(), plain.len());
     format!(in alloc; "{keys} {lost} for {wanted}").expect(rt, "memory")
 }
 
 /// Returns the result of a refutation: its totals, or the fault's number and place.
-fn told(rt: &impl Abort, alloc: Global, answer: Result<(Totals, Totals), Fault>) -> String {
+fn reported(rt: &impl Abort, alloc: Global, answer: Result<(Totals, Totals), Fault>) -> String {
     match answer {
-        Ok((ran, plain)) => totals_told(rt, alloc, ran, plain),
-        Err(fault) => fault_told(rt, alloc, fault),
+        Ok((ran, plain)) => totals_reported(rt, alloc, ran, plain),
+        Err(fault) => fault_reported(rt, alloc, fault),
     }
 }
 
@@ -117,7 +117,7 @@ fn confirm_all(
     let traffic = traffic_of(rt, alloc, traffic, &plan);
     for (text, wanted) in refutations {
         let answer = refuted(alloc, &plan, &traffic, *text);
-        assert!(rt; told(rt, alloc, answer).as_str() == *wanted, "{text}");
+        assert!(rt; reported(rt, alloc, answer).as_str() == *wanted, "{text}");
         assert!(rt; is_shown(alloc, &plan, &traffic, *text), "{text}");
     }
 }

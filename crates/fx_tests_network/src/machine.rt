@@ -175,19 +175,19 @@ fn is_queried(net: &Net, classes: &Classes, rt: &impl Abort, alloc: Global) -> b
     let [first, second, third, last] = all.as_slice() else {
         return false;
     };
-    let mut told = state.packets().len() == 2
+    let mut reported = state.packets().len() == 2
         && state.classes().as_slice().len() == 1
         && counts(&state) == [0, 0, 2]
         && effects_of(&state, first) == (0, None, Tally::Untallied);
-    told = told
+    reported = reported
         && number(state.step(first)) == 0
         && counts(&state) == [1, 0, 1]
         && effects_of(&state, second) == (0, Some(1), Tally::Untallied);
-    told = told
+    reported = reported
         && number(state.step(second)) == 0
         && first_records(&state) == [true, false]
         && effects_of(&state, third) == (1, None, Tally::Untallied);
-    told && number(state.step(third)) == 0
+    reported && number(state.step(third)) == 0
         && counts(&state) == [0, 1, 0]
         && first_records(&state) == [false, true]
         && effects_of(&state, last) == (0, None, Tally::Counted)

@@ -17,10 +17,10 @@ const LONG: [u8; 4097] = [b'x'; 4097];
 const LONGEST: [u8; 4096] = [b'x'; 4096];
 
 /// A line's octets, its number, and whether a line feed ended it.
-type Told<'a> = (&'a [u8], u64, bool);
+type Reported<'a> = (&'a [u8], u64, bool);
 
 /// Texts, and the lines of each.
-const TEXTS: [(&[u8], &[Told<'static>]); 3] = [
+const TEXTS: [(&[u8], &[Reported<'static>]); 3] = [
     (
         b"one\n\nthree",
         &[(b"one", 1, true), (b"", 2, true), (b"three", 3, false)],
@@ -30,18 +30,18 @@ const TEXTS: [(&[u8], &[Told<'static>]); 3] = [
 ];
 
 /// Two lines.
-const TWO_LINES: [Told<'static>; 2] = [(b"one", 1, true), (b"two", 2, true)];
+const TWO_LINES: [Reported<'static>; 2] = [(b"one", 1, true), (b"two", 2, true)];
 
 /// The line before one that is too long.
-const ONE_LINE: [Told<'static>; 1] = [(b"one", 1, true)];
+const ONE_LINE: [Reported<'static>; 1] = [(b"one", 1, true)];
 
 /// Returns whether a line is the given one.
-fn is_line(line: Line<'_>, want: &Told<'_>) -> bool {
+fn is_line(line: Line<'_>, want: &Reported<'_>) -> bool {
     line.bytes == want.0 && line.number == want.1 && line.ended == want.2
 }
 
 /// Returns whether a lent line is the given one.
-fn is_lent(lent: Result<Option<Line<'_>>, Fault>, want: &Told<'_>) -> bool {
+fn is_lent(lent: Result<Option<Line<'_>>, Fault>, want: &Reported<'_>) -> bool {
     match lent {
         Ok(Some(line)) => is_line(line, want),
         _ => false,
@@ -49,7 +49,7 @@ fn is_lent(lent: Result<Option<Line<'_>>, Fault>, want: &Told<'_>) -> bool {
 }
 
 /// Returns whether a reader's next lines are the given ones.
-fn are_next<S: Source>(reader: &mut LineReader<S>, lines: &[Told<'_>]) -> bool {
+fn are_next<S: Source>(reader: &mut LineReader<S>, lines: &[Reported<'_>]) -> bool {
     let mut held = true;
     for line in lines {
         held &= is_lent(reader.next_line(), line)
@@ -68,7 +68,7 @@ fn is_none(lent: Result<Option<Line<'_>>, Fault>) -> bool {
 }
 
 /// Returns whether a source has exactly these lines.
-fn has_lines<S: Source>(rt: &impl Abort, alloc: Global, source: S, lines: &[Told<'_>]) -> bool {
+fn has_lines<S: Source>(rt: &impl Abort, alloc: Global, source: S, lines: &[Reported<'_>]) -> bool {
     let mut reader = LineReader::new(alloc, source).expect(rt, "memory");
     are_next(&mut reader, lines)
         & is_none(reader.next_line())
@@ -88,7 +88,7 @@ fn fails_behind<S: Source>(
     rt: &impl Abort,
     alloc: Global,
     source: S,
-    lines: &[Told<'_>],
+    lines: &[Reported<'_>],
     fault: &Fault,
 ) -> bool {
     let mut reader = LineReader::new(alloc, source).expect(rt, "memory");

@@ -27,7 +27,7 @@ one_address_prefix : values_on Destination (codes "192.0.2.1/32") ≡ Some (from
 unfolding number_of quad_of prefix_of
 one_address_prefix = refl
 
--- all addresses can't be told by a prefix: no number of bits is 0
+-- all addresses can't be reported by a prefix: no number of bits is 0
 no_bits : values_on Source (codes "0.0.0.0/0") ≡ None
 unfolding number_of quad_of prefix_of
 no_bits = refl

@@ -14,7 +14,8 @@ use Rattle.fx_boxes.specs.Boxes.{Bounds, IsRegion}
 use Rattle.fx_walk.specs.Walk.{FoundFault, Refuses, Row, optional, row_faults}
 use Rattle.fx_walk.proofs.Faults.{refuses_more}
 use Rattle.fx_base.specs.declared.fault.Fault.{Fault}
-use Rattle.fx_traffic.specs.Regions.{IsOn, axis_name, region_of, values_faults, values_given}
+use Rattle.fx_elements.specs.Elements.{axis_name}
+use Rattle.fx_traffic.specs.Regions.{IsOn, region_of, values_faults, values_given}
 
 -- the addresses of a prefix are on its axis
 pub prefix_is_on : (axis : Axis) (o : Option (ℕ × ℕ)) → ((p : ℕ × ℕ) → o ≡ Some p → (p.0 < 2 ^ axis_width axis) × (0 < p.1) × (p.1 ≤ axis_width axis)) → IfSome (option_map (with_prefix (axis_width axis)) o) (IsOn axis)

@@ -4,6 +4,7 @@ use Rattle.std.specs.Option.{unwrap_or, option_or}
 use Rattle.serde_json.specs.Data.{Data}
 use Rattle.serde_json.specs.Find.{get}
 use Rattle.fx_elements.specs.Axes.{axes, axis_index, tops}
+use Rattle.fx_elements.specs.Elements.{axis_name}
 use Rattle.fx_elements.specs.Spelling.{cut_at}
 use Rattle.fx_elements.specs.Values.{value_on, values_of}
 use Rattle.fx_elements.specs.declared.axis.Axis.{Axis}
@@ -16,17 +17,6 @@ use Rattle.fx_walk.specs.Scalars.{text_of}
 use Rattle.fx_traffic.specs.Texts.{text_that}
 
 -- ---- an axis
-
-abbrev pub axis_name : Axis → List ℕ
-axis_name Source = codes "sourceIPv4Address"
-axis_name Destination = codes "destinationIPv4Address"
-axis_name Protocol = codes "protocolIdentifier"
-axis_name SourcePort = codes "sourceTransportPort"
-axis_name DestinationPort = codes "destinationTransportPort"
-axis_name ClassOfService = codes "ipClassOfService"
-axis_name Version = codes "ipVersion"
-axis_name Source6 = codes "sourceIPv6Address"
-axis_name Destination6 = codes "destinationIPv6Address"
 
 -- the values from one end to the other
 abbrev pub span : Option ℕ → Option ℕ → Option Range

@@ -2,18 +2,19 @@
 ghost use Rattle.std.specs.Prelude.{◌≡◌, IfOk, IfSome};
 ghost use Rattle.serde_json.specs.View.{view};
 ghost use Rattle.serde_json.specs.Find.{get};
+ghost use Rattle.fx_elements.specs.Elements.{axis_name};
 ghost use Rattle.fx_elements.specs.Values.{value_on, values_of};
 ghost use Rattle.fx_elements.specs.declared.element.Element.TheVariants as element;
 ghost use Rattle.fx_boxes.specs.Boxes.{IsRegion};
 ghost use Rattle.fx_walk.specs.Pointer.{pointer};
 ghost use Rattle.fx_walk.specs.Walk.{Reads, optional, row_faults};
-ghost use Rattle.fx_traffic.specs.Regions.{IsOn, all_on, axis_name, region_faults, region_rows, region_of, span, values_faults, values_given, values_in, values_on, whole};
+ghost use Rattle.fx_traffic.specs.Regions.{IsOn, all_on, region_faults, region_rows, region_of, span, values_faults, values_given, values_in, values_on, whole};
 
 use fx_base::{Fault, refusals};
 use fx_boxes::{Fields, Region};
 use fx_elements::{
-    AXES, Axis, EVERY_AXIS, Element, Range, TOPS, read_on, read_value, split_at_byte, top,
-    values_fit, width,
+    AXES, AXIS_NAMES, Axis, EVERY_AXIS, Element, Range, TOPS, read_on, read_value, split_at_byte,
+    top, values_fit, width,
 };
 use fx_walk::{DocumentPath, object_of, refusal};
 use serde_json::Value;
@@ -101,26 +102,6 @@ fn values_at(
     }
 }
 
-/// The names of the members that give the values on the axes, which are those of the information elements (RFC 7012).
-const NAMES: [&str; AXES] = [
-    "sourceIPv4Address",
-    "destinationIPv4Address",
-    "protocolIdentifier",
-    "sourceTransportPort",
-    "destinationTransportPort",
-    "ipClassOfService",
-    "ipVersion",
-    "sourceIPv6Address",
-    "destinationIPv6Address",
-];
-
-/// Returns the name of the member that gives the values on an axis.
-fn axis_name(axis: Axis) -> &'static str
-    ensures { result.now ≡ axis_name axis }
-{
-    NAMES[axis.index()]
-}
-
 /// Reads the values on the axis from an object's optional member, by default all values.
 fn axis_member(
     alloc: Global,
@@ -133,7 +114,7 @@ fn axis_member(
         (values_given axis (get (axis_name axis) (view object.now))) result }
     ensures bound { IfOk result (IsOn axis) }
 {
-    let name = axis_name(axis);
+    let name = axis.name();
     match object.get(name) {
         Some(value) => values_at(alloc, &DocumentPath::Member(path, name), value, axis),
         None => Ok(all_on(axis)),
@@ -178,6 +159,6 @@ pub fn read_region(alloc: Global, path: &DocumentPath<'_>, value: &Value) -> Res
     ensures { Reads (region_faults (pointer path.now) (view value.now)) (region_of (view value.now))
         result }
 {
-    object_of(alloc, path, value, &NAMES)?;
+    object_of(alloc, path, value, &AXIS_NAMES)?;
     region_in(alloc, path, value)
 }

@@ -3,7 +3,7 @@ use Rattle.fx_audit.proofs.Audits.{audit_unread}
 use Rattle.fx_checker.proofs.Documents.{documents_done, exit_with}
 use Rattle.fx_audit.proofs.Texts.{audit_text}
 use Rattle.fx_audit.proofs.audit_command.audit_explained.Goals as goal
-use Rattle.fx_checker.proofs.Texts.{told_as}
+use Rattle.fx_checker.proofs.Texts.{reported_as}
 
 pub returns-clause-ok : goal.returns-clause-ok
 returns-clause-ok g c =
@@ -15,4 +15,4 @@ returns-in_err-documents-clause-err g c =
 
 pub returns-clause-answers : goal.returns-clause-answers
 returns-clause-answers g c =
-    (told_as _ _ _ _ c.audit.result (audit_text c.in_ok-documents.documents.plan c.in_ok-documents.documents.traffic c.args.limit) c.audit.ensures.answers.0, c.audit.ensures.answers.1)
+    (reported_as _ _ _ _ c.audit.result (audit_text c.in_ok-documents.documents.plan c.in_ok-documents.documents.traffic c.args.limit) c.audit.ensures.answers.0, c.audit.ensures.answers.1)

@@ -2,7 +2,7 @@ use Rattle.std.proofs.Common.{inr}
 use Rattle.fx_audit.proofs.Commands.{bundle_done, bundle_refused, no_bundle}
 use Rattle.fx_audit.proofs.Texts.{bundle_text}
 use Rattle.fx_audit.proofs.bundle_command.bundle_explained.Goals as goal
-use Rattle.fx_checker.proofs.Texts.{told_as}
+use Rattle.fx_checker.proofs.Texts.{reported_as}
 
 pub returns-in_default-clause-err : goal.returns-in_default-clause-err
 returns-in_default-clause-err g c =
@@ -17,4 +17,4 @@ returns-clause-err g c =
     bundle_refused (g.B.Source.left c.args.bundle.now) c.in_ok-octets.octets.items c.as_slice.result.now c.in-Some.bundle.command _ _ _ _ _ c.answer_bundle.result c.in_ok-octets.ensures.all c.as_slice.ensures.value c.in-Some.ensures.some c.answer_bundle.ensures.err
 
 pub returns-clause-answers : goal.returns-clause-answers
-returns-clause-answers g c = (told_as _ _ _ _ c.answer_bundle.result (bundle_text c.in-Some.bundle.command _ _ _) c.answer_bundle.ensures.answers.0, c.answer_bundle.ensures.answers.1)
+returns-clause-answers g c = (reported_as _ _ _ _ c.answer_bundle.result (bundle_text c.in-Some.bundle.command _ _ _) c.answer_bundle.ensures.answers.0, c.answer_bundle.ensures.answers.1)

@@ -3,7 +3,7 @@ use Rattle.fx_checker.proofs.Documents.{documents_done, documents_refused, docum
 use Rattle.fx_audit.proofs.Texts.{confirm_text}
 use Rattle.fx_audit.proofs.confirm_command.confirm_explained.Goals as goal
 use Rattle.fx_checker.proofs.Faultless.{documents_faultless, network_faultless}
-use Rattle.fx_checker.proofs.Texts.{told_as}
+use Rattle.fx_checker.proofs.Texts.{reported_as}
 
 pub returns-clause-ok : goal.returns-clause-ok
 returns-clause-ok g c =
@@ -19,7 +19,7 @@ returns-in_err-documents-clause-err g c =
 
 pub returns-clause-answers : goal.returns-clause-answers
 returns-clause-answers g c =
-    (told_as _ _ _ _ c.confirm_lines.result (confirm_text c.in_ok-documents.documents.plan c.in_ok-documents.documents.traffic c.args.refutation.now) c.confirm_lines.ensures.answers.0, c.confirm_lines.ensures.answers.1)
+    (reported_as _ _ _ _ c.confirm_lines.result (confirm_text c.in_ok-documents.documents.plan c.in_ok-documents.documents.traffic c.args.refutation.now) c.confirm_lines.ensures.answers.0, c.confirm_lines.ensures.answers.1)
 
 pub returns-clause-order : goal.returns-clause-order
 returns-clause-order g c = network_faultless (g.N.Source.left c.args.network.now) c.in_ok-documents.documents.plan _ c.in_ok-documents.ensures.network

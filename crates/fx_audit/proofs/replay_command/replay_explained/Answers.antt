@@ -3,7 +3,7 @@ use Rattle.fx_checker.proofs.Documents.{documents_done_yes, documents_refused, d
 use Rattle.fx_audit.proofs.Texts.{replay_text}
 use Rattle.fx_audit.proofs.replay_command.replay_explained.Goals as goal
 use Rattle.fx_checker.proofs.Faultless.{documents_faultless, network_faultless}
-use Rattle.fx_checker.proofs.Texts.{yes_told_as}
+use Rattle.fx_checker.proofs.Texts.{yes_reported_as}
 
 pub returns-clause-ok : goal.returns-clause-ok
 returns-clause-ok g c =
@@ -19,7 +19,7 @@ returns-in_err-documents-clause-err g c =
 
 pub returns-clause-answers : goal.returns-clause-answers
 returns-clause-answers g c =
-    (yes_told_as _ _ _ _ c.replay_lines.result (replay_text c.in_ok-documents.documents.plan c.in_ok-documents.documents.traffic c.args.run.now) c.replay_lines.ensures.ok, c.replay_lines.ensures.quiet)
+    (yes_reported_as _ _ _ _ c.replay_lines.result (replay_text c.in_ok-documents.documents.plan c.in_ok-documents.documents.traffic c.args.run.now) c.replay_lines.ensures.ok, c.replay_lines.ensures.quiet)
 
 pub returns-clause-order : goal.returns-clause-order
 returns-clause-order g c = network_faultless (g.N.Source.left c.args.network.now) c.in_ok-documents.documents.plan _ c.in_ok-documents.ensures.network

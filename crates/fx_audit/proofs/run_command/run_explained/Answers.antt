@@ -3,7 +3,7 @@ use Rattle.fx_checker.proofs.Documents.{exit_with}
 use Rattle.fx_audit.proofs.Metering.{run_done, run_refused, run_unread}
 use Rattle.fx_audit.proofs.run_command.run_explained.Goals as goal
 use Rattle.fx_checker.proofs.Faultless.{documents_faultless}
-use Rattle.fx_checker.proofs.Texts.{yes_told_as}
+use Rattle.fx_checker.proofs.Texts.{yes_reported_as}
 
 pub returns-clause-ok : goal.returns-clause-ok
 returns-clause-ok g c =
@@ -23,4 +23,4 @@ returns-clause-untouched g c =
 
 pub returns-clause-answers : goal.returns-clause-answers
 returns-clause-answers g c =
-    (yes_told_as _ _ _ _ c.run_capture.result (λ text is. (refl, (is.totals, is.skipped.other, is.skipped.malformed, is.text_is))) c.run_capture.ensures.ok, c.run_capture.ensures.quiet)
+    (yes_reported_as _ _ _ _ c.run_capture.result (λ text is. (refl, (is.totals, is.skipped.other, is.skipped.malformed, is.text_is))) c.run_capture.ensures.ok, c.run_capture.ensures.quiet)

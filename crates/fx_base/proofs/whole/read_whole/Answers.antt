@@ -6,7 +6,7 @@ use Rattle.std.specs.Io.KnownBytes.{prepend_known}
 use Rattle.fx_base.proofs.Asked.{asked_so_often, asked_then}
 use Rattle.fx_base.proofs.Held.{prepend_nil}
 use Rattle.fx_base.proofs.Reading.{read_more}
-use Rattle.fx_base.proofs.PieceByPiece.{stays_untold, all_held, read_to_end, held_at_most}
+use Rattle.fx_base.proofs.PieceByPiece.{stays_opaque, all_held, read_to_end, held_at_most}
 use Rattle.fx_base.specs.Limits.{call_limit}
 use Rattle.fx_base.specs.Pieces.{Pieces}
 use Rattle.fx_base.proofs.whole.read_whole.Goals as goal
@@ -32,7 +32,7 @@ returns-in_err-advance g c =
     record {
       all = rw p.1 tt;
       end = rw p.1 tt;
-      untold = stays_untold held piece (left c.args.source.now) (left c.pieces.source) (left c.advance.new.source) c.pieces.invariant.text c.advance.ensures.octets;
+      opaque = stays_opaque held piece (left c.args.source.now) (left c.pieces.source) (left c.advance.new.source) c.pieces.invariant.text c.advance.ensures.octets;
       err = rw (p.1, p.2) (inr (
         c.in_err-advance.ensures.err.0,
         elim c.in_err-advance.ensures.err.2 [
@@ -52,7 +52,7 @@ returns-in_err-extend_from_slice g c =
     record {
       all = rw p.1 tt;
       end = rw p.1 tt;
-      untold = stays_untold c.pieces.octets.items c.advance.new.self.piece (left c.args.source.now) (left c.pieces.source) (left c.advance.new.source) c.pieces.invariant.text c.advance.ensures.octets;
+      opaque = stays_opaque c.pieces.octets.items c.advance.new.self.piece (left c.args.source.now) (left c.pieces.source) (left c.advance.new.source) c.pieces.invariant.text c.advance.ensures.octets;
       err = rw p.1 (inl p.2);
     }
 
@@ -84,6 +84,6 @@ returns g c =
     record {
       all = all_held held piece (left c.args.source.now) (left c.pieces.source) (left c.advance.new.source) c.pieces.invariant.text c.advance.ensures.octets end;
       end = read_to_end held piece (left c.args.source.now) (left c.pieces.source) (left c.advance.new.source) c.pieces.invariant.text c.advance.ensures.octets end;
-      untold = stays_untold held piece (left c.args.source.now) (left c.pieces.source) (left c.advance.new.source) c.pieces.invariant.text c.advance.ensures.octets;
+      opaque = stays_opaque held piece (left c.args.source.now) (left c.pieces.source) (left c.advance.new.source) c.pieces.invariant.text c.advance.ensures.octets;
       err = tt;
     }

@@ -14,7 +14,7 @@ pub returns-in_err-checker : goal.returns-in_err-checker
 returns-in_err-checker g c =
     let p = err_from_is_err_and c.from_residual.result c.from_residual.ensures.1 in
     let memory = c.in_err-checker.ensures.err in
-    rw (p.1, p.2) (record { once = tt; modulo = tt; certificate = tt; ok = tt; err = inl (memory, refl); accepts = λ text told is. inl (memory, refl); numbers = from_memory c.args.lines.now _ memory })
+    rw (p.1, p.2) (record { once = tt; modulo = tt; certificate = tt; ok = tt; err = inl (memory, refl); accepts = λ text reported is. inl (memory, refl); numbers = from_memory c.args.lines.now _ memory })
 
 pub returns : goal.returns
 returns g c =

@@ -3,7 +3,7 @@ use Rattle.fx_checker.proofs.Checks.{or_unanswered}
 use Rattle.fx_checker.proofs.Documents.{documents_done, documents_refused, documents_unread, exit_with}
 use Rattle.fx_checker.proofs.check_command.check_explained.Goals as goal
 use Rattle.fx_checker.proofs.Faultless.{documents_faultless, network_faultless}
-use Rattle.fx_checker.proofs.Texts.{check_text, told_as}
+use Rattle.fx_checker.proofs.Texts.{check_text, reported_as}
 
 pub returns-clause-ok : goal.returns-clause-ok
 returns-clause-ok g c =
@@ -19,7 +19,7 @@ returns-in_err-documents-clause-err g c =
 
 pub returns-clause-answers : goal.returns-clause-answers
 returns-clause-answers g c =
-    (told_as _ _ _ _ c.check_lines.result (check_text c.in_ok-documents.documents.plan c.in_ok-documents.documents.traffic c.args.certificate.now) c.check_lines.ensures.answers.0, c.check_lines.ensures.answers.1)
+    (reported_as _ _ _ _ c.check_lines.result (check_text c.in_ok-documents.documents.plan c.in_ok-documents.documents.traffic c.args.certificate.now) c.check_lines.ensures.answers.0, c.check_lines.ensures.answers.1)
 
 pub returns-clause-order : goal.returns-clause-order
 returns-clause-order g c = network_faultless (g.N.Source.left c.args.network.now) c.in_ok-documents.documents.plan _ c.in_ok-documents.ensures.network

@@ -18,7 +18,7 @@ loop-place-preserved c =
     let lt : at.place < length at.selections = let less = c.loop-place-test.true in omega (arith, less, within, at.auto.selections) in
     elim c.if-not-is_apart.branch [
       | then-not-is_apart w ↦
-          let counts = λ (apart : IsApart region x.selection). let told : c.is_apart.result ≡ true = c.is_apart.ensures.1 (subst (IsApart region) same apart) in let told_not = w.if-not-is_apart.true in absurd cc in
+          let counts = λ (apart : IsApart region x.selection). let reported : c.is_apart.result ≡ true = c.is_apart.ensures.1 (subst (IsApart region) same apart) in let reported_not = w.if-not-is_apart.true in absurd cc in
           subst (λ (n : ℕ). IsParted region old c.if-not-is_apart.selections n (at.place + 1)) (sym w.kept-is) (subst (λ (xs : List PathSelection). IsParted region old xs (at.kept + 1) (at.place + 1)) (sym w.selections-is) (kept_more region old at.selections at.kept at.place x lt c.index-selections-place.is at.invariant w.swap.new.self w.swap.ensures.after counts))
       | else-not-is_apart w ↦
           let apart = subst (IsApart region) (sym same) (c.is_apart.ensures.0 w.if-not-is_apart.false) in

@@ -21,9 +21,9 @@ returns-then-not-all_have_come-clause-err c =
         one = rw (← c.requires.net_is) here;
         number = f.0;
         text =
-            (let told : IsTextPlace c.cycle.result.place (stuck_text c.as_slice-then-not-all_have_come.result.now (stuck_places c.as_slice-then-not-all_have_come-2.result.now)) = f.1 in
+            (let reported : IsTextPlace c.cycle.result.place (stuck_text c.as_slice-then-not-all_have_come.result.now (stuck_places c.as_slice-then-not-all_have_come-2.result.now)) = f.1 in
             subst (λ (flags : List Bool). IsTextPlace c.cycle.result.place (stuck_text c.args.network.now.devices (stuck_places flags))) c.as_slice-then-not-all_have_come-2.ensures.value
-            (subst (λ (devices : List NetworkDevice). IsTextPlace c.cycle.result.place (stuck_text devices (stuck_places c.as_slice-then-not-all_have_come-2.result.now))) c.as_slice-then-not-all_have_come.ensures told));
+            (subst (λ (devices : List NetworkDevice). IsTextPlace c.cycle.result.place (stuck_text devices (stuck_places c.as_slice-then-not-all_have_come-2.result.now))) c.as_slice-then-not-all_have_come.ensures reported));
       })
     ]
 

@@ -20,12 +20,12 @@ pub returns-then-cost_of-ge-OVER_LIMIT-clause-none : goal.returns-then-cost_of-g
 returns-then-cost_of-ge-OVER_LIMIT-clause-none c =
     let net = c.args.tables.now.net in
     let p = c.args.packet.now in
-    let told = c.least_steps-told.result in
+    let fate_costs = c.least_steps-fate_costs.result in
     let fate = c.least_unwanted_fate-fate.result in
-    let tells = subst (λ (cs : List Crossing). Tells told (PacketComes net p.fields cs)) c.path_of-path.ensures c.least_steps-told.ensures.tells in
-    let least = subst (λ (b : Bool). CostsLeast told (wanted_fate b) fate) c.exempts.ensures c.least_unwanted_fate-fate.ensures.least in
-    let over : over_limit ≤ cost_of told fate = omega arith in
-    none_within told _ tells _ fate least over
+    let tells = subst (λ (cs : List Crossing). Tells fate_costs (PacketComes net p.fields cs)) c.path_of-path.ensures c.least_steps-fate_costs.ensures.tells in
+    let least = subst (λ (b : Bool). CostsLeast fate_costs (wanted_fate b) fate) c.exempts.ensures c.least_unwanted_fate-fate.ensures.least in
+    let over : over_limit ≤ cost_of fate_costs fate = omega arith in
+    none_within fate_costs _ tells _ fate least over
 
 pub returns-clause-found : goal.returns-clause-found
 returns-clause-found c =
@@ -39,16 +39,16 @@ pub returns-clause-least : goal.returns-clause-least
 returns-clause-least c =
     let net = c.args.tables.now.net in
     let p = c.args.packet.now in
-    let told = c.least_steps-told.result in
+    let fate_costs = c.least_steps-fate_costs.result in
     let fate = c.least_unwanted_fate-fate.result in
-    let tells = subst (λ (cs : List Crossing). Tells told (PacketComes net p.fields cs)) c.path_of-path.ensures c.least_steps-told.ensures.tells in
-    let least = subst (λ (b : Bool). CostsLeast told (wanted_fate b) fate) c.exempts.ensures c.least_unwanted_fate-fate.ensures.least in
+    let tells = subst (λ (cs : List Crossing). Tells fate_costs (PacketComes net p.fields cs)) c.path_of-path.ensures c.least_steps-fate_costs.ensures.tells in
+    let least = subst (λ (b : Bool). CostsLeast fate_costs (wanted_fate b) fate) c.exempts.ensures c.least_unwanted_fate-fate.ensures.least in
     let rows = c.in_ok-rows.rows in
-    let size : length c.least_steps-told.new.rows ≡ length rows.items = c.least_steps-told.ensures.size ∙ ap length c.as_mut_slice.ensures.value in
-    let filled = all_changed rows.len rows.items c.least_steps-told.new.rows size rows.ok.0 in
-    let number : length c.in_ok-steps.steps.items ≡ cost_of told fate =
+    let size : length c.least_steps-fate_costs.new.rows ≡ length rows.items = c.least_steps-fate_costs.ensures.size ∙ ap length c.as_mut_slice.ensures.value in
+    let filled = all_changed rows.len rows.items c.least_steps-fate_costs.new.rows size rows.ok.0 in
+    let number : length c.in_ok-steps.steps.items ≡ cost_of fate_costs fate =
     c.in_ok-steps.ensures.number
     ∙ ap (λ (table : CostTable). cost_of (path_costs table net c.args.tables.now.numbering p.fields c.path_of-path.result.now) fate) (c.as_slice.ensures.value ∙ filled)
-    ∙ ap (λ (k : Costs). cost_of k fate) (sym c.least_steps-told.ensures.costs) in
+    ∙ ap (λ (k : Costs). cost_of k fate) (sym c.least_steps-fate_costs.ensures.costs) in
     λ f n unwanted comes.
-    subst (λ m. m ≤ n) (sym number) (least_of_all told _ tells _ fate least f n unwanted comes)
+    subst (λ m. m ≤ n) (sym number) (least_of_all fate_costs _ tells _ fate least f n unwanted comes)

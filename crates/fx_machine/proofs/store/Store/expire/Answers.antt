@@ -11,7 +11,7 @@ use Rattle.fx_machine.specs.Comings.{coming_of}
 use Rattle.fx_machine.proofs.StepOutcomes.{expire_is, expired, choices_left, choices_used}
 use Rattle.fx_machine.proofs.store.Store.expire.Goals as goal
 
--- the links that are chosen, told of the network's tables
+-- the links that are chosen, reported of the network's tables
 chosen : (net : Net) (place : ℕ) (xs : List Exporter) (ps : List ℕ) (choices : List (Option ℕ)) (o : Option Chosen) → xs ≡ net.exporters → ps ≡ named_by (slice_get net.holders place) → chosen_from [] (at_places xs ps) choices ≡ o → chosen_from [] (at_places net.exporters (named_by (slice_get net.holders place))) choices ≡ o
 chosen net place xs ps choices o ex ep h =
     ap₂ (λ (a : List Exporter) (b : List ℕ). chosen_from [] (at_places a b) choices) (sym ex) (sym ep) ∙ h

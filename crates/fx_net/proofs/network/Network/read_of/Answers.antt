@@ -33,7 +33,7 @@ pub returns-in_err-advance-clause-err : goal.returns-in_err-advance-clause-err
 returns-in_err-advance-clause-err g c =
     refused_exit c.from_residual.result c.in_err-advance.field-0.0
     (λ (e : Fault). RefusesAction c.args.self.now c.args.capture.now c.advance.new.self c.args.line (action.NextOf c.args.class c.args.path) e)
-    c.from_residual.ensures c.in_err-advance.ensures.told (capture_refused refl c.in_err-advance.ensures.advances)
+    c.from_residual.ensures c.in_err-advance.ensures.reported (capture_refused refl c.in_err-advance.ensures.advances)
 
 pub returns-then-not-is_in-clause-err : goal.returns-then-not-is_in-clause-err
 returns-then-not-is_in-clause-err g c =

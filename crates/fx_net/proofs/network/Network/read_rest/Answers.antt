@@ -2,16 +2,16 @@ use Rattle.std.proofs.Common.{◌⊎◌, inr, ◌∙◌, ap}
 use Rattle.fx_base.specs.declared.fault.Fault.{Fault}
 use Rattle.fx_net.specs.declared.stop.Stop.{Stop}
 use Rattle.fx_net.specs.Running.{RunningNetwork, FailsOutside, RefusesClose, capture_cut, fault_of}
-use Rattle.fx_net.proofs.Exits.{told_exit, exit_with, close_refused}
+use Rattle.fx_net.proofs.Exits.{reported_exit, exit_with, close_refused}
 use Rattle.fx_net.proofs.Frames.{at_end_of, at_frame_of}
 use Rattle.fx_net.proofs.FramesRead.{reads_more, goes_more}
 use Rattle.fx_net.proofs.network.Network.read_rest.Goals as goal
 
 pub returns-in_err-advance-clause-err : goal.returns-in_err-advance-clause-err
 returns-in_err-advance-clause-err g c =
-    told_exit c.from_residual.result c.in_err-advance.field-0.0
+    reported_exit c.from_residual.result c.in_err-advance.field-0.0
     (λ (e : Fault). FailsOutside (g.L.Links.failed c.loop-met.links) e ⊎ RefusesClose c.args.self.now c.args.capture.now c.advance.new.self e)
-    c.from_residual.ensures c.in_err-advance.ensures.told
+    c.from_residual.ensures c.in_err-advance.ensures.reported
     (inr (capture_cut c.loop-met.capture c.loop-met.invariant.gone c.in_err-advance.ensures.advances))
 
 pub loop-met-preserved : goal.loop-met-preserved

@@ -6,7 +6,7 @@ abbrev pub invariant-records : goal.invariant-records
 invariant-records g l = record {
   going : l.self.stopped ≡ None;
   ahead : HadAhead l.fn.self l.self (λ a. a);
-  untold : l.fn.self.left ≡ None → l.self.left ≡ None;
+  opaque : l.fn.self.left ≡ None → l.self.left ≡ None;
   format : l.self.format ≡ l.fn.self.format;
   asks : CallsForFrames l.fn.self l.self;
   gains : GainsFrames 0 l.fn.self l.self;

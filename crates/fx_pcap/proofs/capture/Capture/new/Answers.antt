@@ -4,8 +4,8 @@ use Rattle.std.specs.Io.KnownBytes.{prepend_known}
 use Rattle.fx_base.proofs.Held.{prepend_nil}
 use Rattle.fx_base.specs.Window.{Held, octets_of}
 use Rattle.fx_pcap.specs.Records.{format_of}
-use Rattle.fx_pcap.proofs.Whole.{format_long, refused, headed, told_behind}
-use Rattle.fx_base.proofs.Reading.{untold_behind}
+use Rattle.fx_pcap.proofs.Whole.{format_long, refused, headed, reported_behind}
+use Rattle.fx_base.proofs.Reading.{opaque_after}
 use Rattle.fx_pcap.proofs.Asking.{asks_opened, gains_opened}
 use Rattle.fx_pcap.proofs.capture.Capture.new.Goals as goal
 
@@ -29,4 +29,4 @@ returns-clause-ok g c =
     let made : c.in_ok-window.window.asked ≡ g.R.Source.calls c.args.source = ap (λ (x : Held). x.asked) c.in_ok-window.ensures.ok in
     let before : length c.in_ok-window.window.held ≡ 0 = ap (λ (x : Held). length x.held) c.in_ok-window.ensures.ok in
     let few : w.calls ≤ length w.held = omega (arith, c.in-Ok.ensures.spent.1 long, none, before) in
-    record { format = λ rest behind. headed w.held rest w.left source c.in_ok-format.format all read behind; rest = told_behind w.held w.left source all long; untold = λ none. untold_behind [] w.held (drop 24 w.held) source w.left (all ∙ sym (prepend_nil source)) (prepend_nil source ∙ none); place = refl; skipped = refl; going = refl; asks = asks_opened c.in_ok-window.window w (g.R.Source.calls c.args.source) none made c.in-Ok.ensures.asked; gains = gains_opened w.held w.left source w.calls all few }
+    record { format = λ rest behind. headed w.held rest w.left source c.in_ok-format.format all read behind; rest = reported_behind w.held w.left source all long; opaque = λ none. opaque_after [] w.held (drop 24 w.held) source w.left (all ∙ sym (prepend_nil source)) (prepend_nil source ∙ none); place = refl; skipped = refl; going = refl; asks = asks_opened c.in_ok-window.window w (g.R.Source.calls c.args.source) none made c.in-Ok.ensures.asked; gains = gains_opened w.held w.left source w.calls all few }

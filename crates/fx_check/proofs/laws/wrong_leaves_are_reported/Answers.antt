@@ -1,5 +1,5 @@
 use Rattle.fx_check.proofs.SoundLeaves.{leaf_wrong, never_wrong}
-use Rattle.fx_check.proofs.laws.wrong_leaves_are_told.Goals as goal
+use Rattle.fx_check.proofs.laws.wrong_leaves_are_reported.Goals as goal
 
 pub returns-clause-counted : goal.returns-clause-counted
 returns-clause-counted c net target region leaf number is_net is_region e = leaf_wrong net is_net target region leaf number is_region e
