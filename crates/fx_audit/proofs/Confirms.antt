@@ -19,24 +19,31 @@ use Rattle.fx_checker.proofs.Refusals.{IsPassedOn, IsRefusedWhy, answered_no, re
 -- ---- a refusal as it is printed
 
 pub same_number : (e : Fault) → (printed_refusal e).number ≡ e.number
-same_number e = elim (e.number == 501) as (λ t. (if t then fault_at e.number places.None else e).number ≡ e.number) [ true ↦ refl | false ↦ refl ]
+same_number e = elim (e.number == 501) as (λ t. (if t then fault_at e.number places.None else e).number ≡ e.number)
+    [ true ↦ refl | false ↦ refl ]
 
-same_but_for_form : (e : Fault) → (t : Bool) → (e.number == 501) ≡ t → (RefutesNothing e.number → ⊥) → (if t then fault_at e.number places.None else e) ≡ e
-same_but_for_form e true is otherwise = absurd (otherwise (subst (λ (n : ℕ). RefutesNothing n) (sym (eqb-true e.number 501 is)) (omega arith, omega arith)))
+same_but_for_form : (e : Fault) → (t : Bool) → (e.number == 501) ≡ t → (RefutesNothing e.number → ⊥)
+    → (if t then fault_at e.number places.None else e) ≡ e
+same_but_for_form e true is otherwise =
+    absurd (otherwise (subst (λ (n : ℕ). RefutesNothing n) (sym (eqb-true e.number 501 is)) (omega arith, omega arith)))
 same_but_for_form e false is otherwise = refl
 
 -- one that isn't answered is passed on as it is
-pub passed_as_it_is : (fault : Fault) (failed : Bool) (result : Result Answer Fault) → IfErr result (IsPassedOn 501 505 (printed_refusal fault) failed) → IfErr result (IsPassedOn 501 505 fault failed)
+pub passed_as_it_is : (fault : Fault) (failed : Bool) (result : Result Answer Fault)
+    → IfErr result (IsPassedOn 501 505 (printed_refusal fault) failed) → IfErr result (IsPassedOn 501 505 fault failed)
 passed_as_it_is fault failed (Ok a) h = tt
 passed_as_it_is fault failed (Err e) (inr w) = inr w
 passed_as_it_is fault failed (Err e) (inl (is, otherwise)) =
-    let not_here : RefutesNothing fault.number → ⊥ = λ within. otherwise (subst (λ (n : ℕ). RefutesNothing n) (sym (same_number fault)) within) in
+    let not_here : RefutesNothing fault.number → ⊥ =
+    λ within. otherwise (subst (λ (n : ℕ). RefutesNothing n) (sym (same_number fault)) within) in
     let same : printed_refusal fault ≡ fault = same_but_for_form fault (fault.number == 501) refl not_here in
     inl (subst (λ (f : Fault). e ≡ f) same is, not_here)
 
 -- ---- the answers
 
-no_of : (network : NetworkDocument) (classes : List Class) (old new : Lines) (fault : Fault) → IsRefusedWhy (IsRefusedRefutation network classes old) old new fault → RefutesNothing (printed_refusal fault).number → IsNo network classes old (no_line (printed_refusal fault))
+no_of : (network : NetworkDocument) (classes : List Class) (old new : Lines) (fault : Fault)
+    → IsRefusedWhy (IsRefusedRefutation network classes old) old new fault
+    → RefutesNothing (printed_refusal fault).number → IsNo network classes old (no_line (printed_refusal fault))
 no_of network classes old new fault why printed =
     let means : RefutesNothing fault.number = subst (λ (n : ℕ). RefutesNothing n) (same_number fault) printed in
     record {
@@ -46,13 +53,21 @@ no_of network classes old new fault why printed =
       text_is = refl;
     }
 
-pub refutation_answered : (network : NetworkDocument) (classes : List Class) (old new : Lines) (fault : Fault) (before after : Option (List ℕ)) (result : Result Answer Fault) → IsRefusedWhy (IsRefusedRefutation network classes old) old new fault
-    → IfOk result (λ a. (a ≡ No) × RefutesNothing (printed_refusal fault).number × Writes before after (no_line (printed_refusal fault))) → IfOk result (λ a. Prints (IsConfirmedIn network classes old a) before after)
+pub refutation_answered : (network : NetworkDocument) (classes : List Class) (old new : Lines) (fault : Fault)
+    (before after : Option (List ℕ)) (result : Result Answer Fault)
+    → IsRefusedWhy (IsRefusedRefutation network classes old) old new fault
+    → IfOk result (λ a. (a ≡ No) × RefutesNothing (printed_refusal fault).number
+    × Writes before after (no_line (printed_refusal fault)))
+    → IfOk result (λ a. Prints (IsConfirmedIn network classes old a) before after)
 refutation_answered network classes old new fault before after result why h =
-    answered_no (IsConfirmedIn network classes old) 501 505 (printed_refusal fault) before after result (no_of network classes old new fault why) h
+    answered_no (IsConfirmedIn network classes old) 501 505 (printed_refusal fault) before after result
+    (no_of network classes old new fault why) h
 
-pub refuted_answered : (network : NetworkDocument) (classes : List Class) (lines : Lines) (ran plain : Totals) (before after : Option (List ℕ)) (result : Result Answer Fault) → IsRefuted network classes lines ran plain → IfOk result (λ a. (a ≡ Yes) × Writes before after (refuted_text ran plain))
+pub refuted_answered : (network : NetworkDocument) (classes : List Class) (lines : Lines) (ran plain : Totals)
+    (before after : Option (List ℕ)) (result : Result Answer Fault) → IsRefuted network classes lines ran plain
+    → IfOk result (λ a. (a ≡ Yes) × Writes before after (refuted_text ran plain))
     → IfOk result (λ a. Prints (IsConfirmedIn network classes lines a) before after)
 refuted_answered network classes lines ran plain before after (Ok a) refuted h =
-    subst (λ (x : Answer). Prints (IsConfirmedIn network classes lines x) before after) (sym h.0) (refuted_text ran plain, record { ran = ran; plain = plain; refuted = refuted; text_is = refl }, h.1)
+    subst (λ (x : Answer). Prints (IsConfirmedIn network classes lines x) before after) (sym h.0)
+    (refuted_text ran plain, record { ran = ran; plain = plain; refuted = refuted; text_is = refl }, h.1)
 refuted_answered network classes lines ran plain before after (Err e) refuted h = tt

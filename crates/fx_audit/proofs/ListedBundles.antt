@@ -39,41 +39,55 @@ end_listed : (n : ℕ) (gs : List Goal) → RefusalListed (at_end n gs)
 end_listed n [] = nothing
 end_listed n (g ∷ gs) = refuses _ refl
 
-goes_on_listed : (n : ℕ) (ls : List Line) (next : List Goal → Option Refusal) (r : Result (List Goal) ℕ) → ((k : ℕ) → r ≡ Err k → IsCheckFault (at_line k n)) → ((left : List Goal) → RefusalListed (next left))
+goes_on_listed : (n : ℕ) (ls : List Line) (next : List Goal → Option Refusal) (r : Result (List Goal) ℕ)
+    → ((k : ℕ) → r ≡ Err k → IsCheckFault (at_line k n)) → ((left : List Goal) → RefusalListed (next left))
     → RefusalListed (goes_on n ls next r)
-goes_on_listed n ls next (Err number) one all = refuses (refusal_at number n ls) (check_fault_listed (at_line number n) (one number refl))
+goes_on_listed n ls next (Err number) one all =
+    refuses (refusal_at number n ls) (check_fault_listed (at_line number n) (one number refl))
 goes_on_listed n ls next (Ok left) one all = all left
 
-lines_listed : (net : Net) (n made : ℕ) (gs : List Goal) (ls : List Line) → RefusalListed (first_refusal (judge_of net) n made gs ls)
+lines_listed : (net : Net) (n made : ℕ) (gs : List Goal) (ls : List Line)
+    → RefusalListed (first_refusal (judge_of net) n made gs ls)
 lines_listed net n made gs [] = end_listed n gs
 lines_listed net n made gs (l ∷ ls) =
-    goes_on_listed (next_number n) ls (λ left. first_refusal (judge_of net) (next_number n) (made_after made (reading_of l)) left ls) (after_reading (judge_of net) made gs (reading_of l))
-    (λ k is. line_fault net made gs (reading_of l) k (next_number n) is) (λ left. lines_listed net (next_number n) (made_after made (reading_of l)) left ls)
+    goes_on_listed (next_number n) ls (λ left. first_refusal (judge_of net) (next_number n)
+    (made_after made (reading_of l)) left ls) (after_reading (judge_of net) made gs (reading_of l))
+    (λ k is. line_fault net made gs (reading_of l) k (next_number n) is)
+    (λ left. lines_listed net (next_number n) (made_after made (reading_of l)) left ls)
 
 fault_listed : (e : Fault) (o : Option Refusal) → RefusalListed o → IsFaultOf e o → is_refusal_number e.number ≡ true
 fault_listed e None all is = absurd is
 fault_listed e (Some r) (refuses s listed) is = subst (λ (f : Fault). is_refusal_number f.number ≡ true) (sym is) listed
 
-pub certificate_text_listed : (network : NetworkDocument) (classes : List Class) (lines : Lines) (e : Fault) → IsRefusedText network classes lines e → is_refusal_number e.number ≡ true
+pub certificate_text_listed : (network : NetworkDocument) (classes : List Class) (lines : Lines) (e : Fault)
+    → IsRefusedText network classes lines e → is_refusal_number e.number ≡ true
 certificate_text_listed network classes lines e (octets, left, is) =
-    fault_listed e (first_refusal (judge_of (net_of network)) lines.number 0 (whole (targets_of classes)) (text_lines octets)) (lines_listed (net_of network) lines.number 0 (whole (targets_of classes)) (text_lines octets)) is
+    fault_listed e (first_refusal (judge_of (net_of network)) lines.number 0 (whole (targets_of classes))
+    (text_lines octets)) (lines_listed (net_of network) lines.number 0 (whole (targets_of classes))
+    (text_lines octets)) is
 
-pub check_refusal_listed : (network_octets traffic_octets : List ℕ) (lines : Lines) (e : Fault) → IsRefusedCheck network_octets traffic_octets lines e → is_refusal_number e.number ≡ true
+pub check_refusal_listed : (network_octets traffic_octets : List ℕ) (lines : Lines) (e : Fault)
+    → IsRefusedCheck network_octets traffic_octets lines e → is_refusal_number e.number ≡ true
 check_refusal_listed network_octets traffic_octets lines e is =
-    refused_in_listed (λ network classes. IsRefusedCertificate network classes lines e) network_octets traffic_octets e (λ network classes refused. certificate_text_listed network classes lines e refused.0) is
+    refused_in_listed (λ network classes. IsRefusedCertificate network classes lines e) network_octets traffic_octets e
+    (λ network classes refused. certificate_text_listed network classes lines e refused.0) is
 
 -- ---- bundles
 
-pub command_refusal_listed : (command : Command) (network traffic : List ℕ) (lines : Lines) (e : Fault) → IsRefusedBy command network traffic lines e → is_refusal_number e.number ≡ true
+pub command_refusal_listed : (command : Command) (network traffic : List ℕ) (lines : Lines) (e : Fault)
+    → IsRefusedBy command network traffic lines e → is_refusal_number e.number ≡ true
 command_refusal_listed Replay network traffic lines e is = replay_refusal_listed network traffic lines e is
 command_refusal_listed Check network traffic lines e is = check_refusal_listed network traffic lines e is
 command_refusal_listed Confirm network traffic lines e is = confirm_refusal_listed network traffic lines e is
 command_refusal_listed Audit network traffic lines e is = documents_refusal_listed network traffic e is
 
-pub there_listed : (command : Command) (network traffic third : List ℕ) (e : Fault) → IsRefusedThere command network traffic third e → is_refusal_number e.number ≡ true
-there_listed command network traffic third e (inl is) = command_refusal_listed command network traffic (lines_in third) e is
+pub there_listed : (command : Command) (network traffic third : List ℕ) (e : Fault)
+    → IsRefusedThere command network traffic third e → is_refusal_number e.number ≡ true
+there_listed command network traffic third e (inl is) =
+    command_refusal_listed command network traffic (lines_in third) e is
 there_listed command network traffic third e (inr (is, endless)) = ap (λ (f : Fault). is_refusal_number f.number) is
 
 pub bundle_refusal_listed : (octets : List ℕ) (e : Fault) → IsRefusedBundle octets e → is_refusal_number e.number ≡ true
 bundle_refusal_listed octets e (inl (is, none)) = ap (λ (f : Fault). is_refusal_number f.number) is
-bundle_refusal_listed octets e (inr (command, network, traffic, third, bundle, there)) = there_listed command network traffic third e there
+bundle_refusal_listed octets e (inr (command, network, traffic, third, bundle, there)) =
+    there_listed command network traffic third e there

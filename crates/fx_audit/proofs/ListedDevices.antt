@@ -99,9 +99,11 @@ processes_listed earlier = object_listed (selection_process_rows earlier) (
 )
 
 elements_listed : (element : Element) (key : Bool) (up : List ℕ) → AreListed (element_faults element key up)
-elements_listed element key up = both_listed (if_listed (is_total_count element) total_counter up refl) (if_listed (key && not (is_on_axis element)) key_without_axis up refl)
+elements_listed element key up = both_listed (if_listed (is_total_count element) total_counter up refl)
+    (if_listed (key && not (is_on_axis element)) key_without_axis up refl)
 
-lengths_listed : (element : Element) (key : Bool) (o : Option ℕ) (up : List ℕ) → AreListed (length_faults element key o up)
+lengths_listed : (element : Element) (key : Bool) (o : Option ℕ) (up : List ℕ)
+    → AreListed (length_faults element key o up)
 lengths_listed element key None up = none
 lengths_listed element key (Some octets) up = both_listed (if_listed _ _ _ refl) (if_listed _ _ _ refl)
 
@@ -123,7 +125,8 @@ cache_fields_listed immediate earlier = object_listed (cache_field_rows immediat
               (
                 check_listed
                     (λ up d. fields.field_check (element_in d) (is_key_in immediate d) (length_in d) up)
-                    (λ up d. both_listed (elements_listed (element_in d) (is_key_in immediate d) up) (lengths_listed (element_in d) (is_key_in immediate d) (length_in d) up)),
+                    (λ up d. both_listed (elements_listed (element_in d) (is_key_in immediate d) up)
+                    (lengths_listed (element_in d) (is_key_in immediate d) (length_in d) up)),
                 tt,
               ),
             ),
@@ -135,7 +138,11 @@ cache_fields_listed immediate earlier = object_listed (cache_field_rows immediat
 )
 
 layouts_listed : (immediate : Bool) → FaultsListed (cache_layout_faults immediate)
-layouts_listed immediate = object_listed (cache_layout_rows immediate) (entries_listed 1 field_limit (codes "cacheField") (cache_field_faults immediate) (λ d. (cache_field_of immediate d).name) (cache_fields_listed immediate), (check_listed _ (λ up d. if_listed _ _ _ refl), tt))
+layouts_listed immediate = object_listed (cache_layout_rows immediate) (
+  entries_listed 1 field_limit (codes "cacheField") (cache_field_faults immediate)
+      (λ d. (cache_field_of immediate d).name) (cache_fields_listed immediate),
+  (check_listed _ (λ up d. if_listed _ _ _ refl), tt),
+)
 
 settings_listed : (immediate : Bool) → FaultsListed (settings_faults immediate)
 settings_listed immediate = object_listed (settings_rows immediate) (
@@ -200,7 +207,8 @@ exporters_listed earlier = object_listed (exporting_process_rows earlier) (
   (
     optional_listed _ _ (word_listed export_mode_named),
     (
-      entries_listed 1 entry_limit (codes "destination") destination_faults (λ d. (destination_of d).name) destinations_listed,
+      entries_listed 1 entry_limit (codes "destination") destination_faults (λ d. (destination_of d).name)
+          destinations_listed,
       (
         unread_listed _,
         tt,
@@ -223,7 +231,8 @@ key_fields_listed = object_listed key_field_rows (
       (
         optional_listed _ _ (whole_listed _ _),
         (
-          check_listed (λ up d. prefix_check (key_element_in d) (prefix_length_in d) up) (λ up d. prefixes_listed (key_element_in d) (prefix_length_in d) up),
+          check_listed (λ up d. prefix_check (key_element_in d) (prefix_length_in d) up)
+              (λ up d. prefixes_listed (key_element_in d) (prefix_length_in d) up),
           tt,
         ),
       ),
@@ -262,7 +271,8 @@ collectors_listed earlier = object_listed (collecting_process_rows earlier) (
       (
         entries_listed 0 entry_limit (codes "exportingProcess") name_once text_of name_once_listed,
         (
-          entries_listed 0 entry_limit (codes "once-audit:aggregation") aggregation_faults (λ d. (aggregation_of d).name) aggregations_listed,
+          entries_listed 0 entry_limit (codes "once-audit:aggregation") aggregation_faults
+              (λ d. (aggregation_of d).name) aggregations_listed,
           tt,
         ),
       ),
@@ -270,32 +280,46 @@ collectors_listed earlier = object_listed (collecting_process_rows earlier) (
   ),
 )
 
-exporting_listed : (exporters : List (List ℕ)) (up : List ℕ) (names : List (List ℕ)) → AreListed (exporting_references exporters up names)
+exporting_listed : (exporters : List (List ℕ)) (up : List ℕ) (names : List (List ℕ))
+    → AreListed (exporting_references exporters up names)
 exporting_listed exporters up names = references_listed _ (unknown_listed exporters) up (codes "exportingProcess") names
 
-all_references_listed : (processes caches exporters : List (List ℕ)) (up : List ℕ) (device : Device) → AreListed (references_among processes caches exporters up device)
+all_references_listed : (processes caches exporters : List (List ℕ)) (up : List ℕ) (device : Device)
+    → AreListed (references_among processes caches exporters up device)
 all_references_listed processes caches exporters up device =
-    both_listed (references_listed (point_references processes) (λ up point. references_listed _ (unknown_listed processes) up _ point.selection_processes) up _ device.observation_points)
-    (both_listed (references_listed (process_references caches) (λ up process. unknown_if_there_listed caches _ process.cache) up _ device.selection_processes)
-    (both_listed (references_listed (cache_references exporters) (λ up cache. exporting_listed exporters up cache.exporting_processes) up _ device.caches)
-    (references_listed (collecting_references exporters) (λ up process. both_listed (exporting_listed exporters up process.exporting_processes)
-    (references_listed (aggregation_references exporters) (λ up aggregation. exporting_listed exporters up aggregation.exporting_processes) up _ process.aggregations)) up _ device.collecting_processes)))
+    both_listed (references_listed (point_references processes)
+    (λ up point. references_listed _ (unknown_listed processes) up _ point.selection_processes) up _
+    device.observation_points)
+    (both_listed (references_listed (process_references caches)
+    (λ up process. unknown_if_there_listed caches _ process.cache) up _ device.selection_processes)
+    (both_listed (references_listed (cache_references exporters)
+    (λ up cache. exporting_listed exporters up cache.exporting_processes) up _ device.caches)
+    (references_listed (collecting_references exporters)
+    (λ up process. both_listed (exporting_listed exporters up process.exporting_processes)
+    (references_listed (aggregation_references exporters)
+    (λ up aggregation. exporting_listed exporters up aggregation.exporting_processes) up _ process.aggregations)) up
+    _ device.collecting_processes)))
 
 device_references_listed : (up : List ℕ) (device : Device) → AreListed (reference_faults up device)
 device_references_listed up device =
-    all_references_listed (map (λ x. x.name) device.selection_processes) (map (λ x. x.name) device.caches) (map (λ x. x.name) device.exporting_processes) up device
+    all_references_listed (map (λ x. x.name) device.selection_processes) (map (λ x. x.name) device.caches)
+    (map (λ x. x.name) device.exporting_processes) up device
 
 ipfix_listed : FaultsListed ipfix_faults
 ipfix_listed = object_listed ipfix_rows (
-  entries_listed 0 entry_limit (codes "observationPoint") observation_point_faults (λ d. (observation_point_of d).name) points_listed,
+  entries_listed 0 entry_limit (codes "observationPoint") observation_point_faults (λ d. (observation_point_of d).name)
+      points_listed,
   (
-    entries_listed 0 entry_limit (codes "selectionProcess") selection_process_faults (λ d. (selection_process_of d).name) processes_listed,
+    entries_listed 0 entry_limit (codes "selectionProcess") selection_process_faults
+        (λ d. (selection_process_of d).name) processes_listed,
     (
       entries_listed 0 entry_limit (codes "cache") cache_faults (λ d. (cache_of d).name) caches_listed,
       (
-        entries_listed 0 entry_limit (codes "exportingProcess") exporting_process_faults (λ d. (exporting_process_of d).name) exporters_listed,
+        entries_listed 0 entry_limit (codes "exportingProcess") exporting_process_faults
+            (λ d. (exporting_process_of d).name) exporters_listed,
         (
-          entries_listed 0 entry_limit (codes "collectingProcess") collecting_process_faults (λ d. (collecting_process_of d).name) collectors_listed,
+          entries_listed 0 entry_limit (codes "collectingProcess") collecting_process_faults
+              (λ d. (collecting_process_of d).name) collectors_listed,
           (
             check_listed (λ up d. reference_faults up (lists_of d)) (λ up d. device_references_listed up (lists_of d)),
             tt,
@@ -308,4 +332,5 @@ ipfix_listed = object_listed ipfix_rows (
 
 pub devices_listed : FaultsListed device_faults
 unfolding device_faults
-devices_listed = faults_listed device_faults (of_faults _ (open_object_listed (codes "ietf-ipfix-psamp") device_rows (required_listed _ _ ipfix_listed, tt)))
+devices_listed = faults_listed device_faults
+    (of_faults _ (open_object_listed (codes "ietf-ipfix-psamp") device_rows (required_listed _ _ ipfix_listed, tt)))

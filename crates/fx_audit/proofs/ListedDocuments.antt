@@ -37,7 +37,8 @@ use Rattle.fx_audit.proofs.ListedDevices.{devices_listed, key_fields_listed}
 -- ---- networks
 
 network_devices_listed : EntriesListed network_device_faults
-network_devices_listed earlier = object_listed (network_device_rows earlier) (required_listed _ _ (name_once_listed earlier), (required_listed _ _ devices_listed, tt))
+network_devices_listed earlier = object_listed (network_device_rows earlier)
+    (required_listed _ _ (name_once_listed earlier), (required_listed _ _ devices_listed, tt))
 
 link_listed : (devices : List NetworkDevice) (earlier : List NamedLink) → FaultsListed (link_faults devices earlier)
 link_listed devices earlier = object_listed (link_rows devices earlier) (
@@ -63,10 +64,12 @@ link_listed devices earlier = object_listed (link_rows devices earlier) (
   ),
 )
 
-links_listed : (devices : List NetworkDevice) (earlier : List NamedLink) (up : List ℕ) (i : ℕ) (ds : List Data) → AreListed (links_faults devices earlier up i ds)
+links_listed : (devices : List NetworkDevice) (earlier : List NamedLink) (up : List ℕ) (i : ℕ) (ds : List Data)
+    → AreListed (links_faults devices earlier up i ds)
 links_listed devices earlier up i [] = none
 links_listed devices earlier up i (d ∷ ds) =
-    both_listed (of_faults (link_faults devices earlier) (link_listed devices earlier) (nth up i) d) (links_listed devices (earlier ++ link_of d ∷ []) up (i + 1) ds)
+    both_listed (of_faults (link_faults devices earlier) (link_listed devices earlier) (nth up i) d)
+    (links_listed devices (earlier ++ link_of d ∷ []) up (i + 1) ds)
 
 reports_listed : (devices : List NetworkDevice) → FaultsListed (report_faults devices)
 reports_listed devices = object_listed (report_rows devices) (
@@ -88,12 +91,14 @@ reports_listed devices = object_listed (report_rows devices) (
 
 network_rows_listed : (devices : List NetworkDevice) → RowsListed (network_rows devices)
 network_rows_listed devices = (
-  required_entries_listed device_limit (codes "devices") network_device_faults (λ d. (network_device_of d).name) network_devices_listed,
+  required_entries_listed device_limit (codes "devices") network_device_faults (λ d. (network_device_of d).name)
+      network_devices_listed,
   (
     check_listed _ (λ up d. if_listed _ _ _ refl),
     (
       required_listed (codes "links") (list_faults 0 link_limit (λ up ds. links_faults devices [] up 0 ds))
-          (list_by_listed missing_member too_many_entries 0 link_limit (λ up ds. links_faults devices [] up 0 ds) refl refl (λ up ds. links_listed devices [] up 0 ds)),
+          (list_by_listed missing_member too_many_entries 0 link_limit (λ up ds. links_faults devices [] up 0 ds) refl
+          refl (λ up ds. links_listed devices [] up 0 ds)),
       (
         required_listed _ _ (reports_listed devices),
         tt,
@@ -103,18 +108,22 @@ network_rows_listed devices = (
 )
 
 networks_listed : (up : List ℕ) (d : Data) → AreListed (network_faults up d)
-networks_listed up d = of_faults (object_faults (network_rows (devices_of d))) (object_listed (network_rows (devices_of d)) (network_rows_listed (devices_of d))) up d
+networks_listed up d = of_faults (object_faults (network_rows (devices_of d)))
+    (object_listed (network_rows (devices_of d)) (network_rows_listed (devices_of d))) up d
 
 -- ---- traffic
 
 traffic_name_listed : FaultsListed traffic_texts.name_faults
-traffic_name_listed = faults_listed traffic_texts.name_faults (of_faults _ (text_that_listed traffic_value is_name refl))
+traffic_name_listed = faults_listed traffic_texts.name_faults
+    (of_faults _ (text_that_listed traffic_value is_name refl))
 
 crossing_devices_listed : (devices : List (List ℕ)) → FaultsListed (crossings.device_faults devices)
-crossing_devices_listed devices = faults_listed (crossings.device_faults devices) (λ up d. both_listed (of_faults traffic_texts.name_faults traffic_name_listed up d) (if_listed _ _ _ refl))
+crossing_devices_listed devices = faults_listed (crossings.device_faults devices)
+    (λ up d. both_listed (of_faults traffic_texts.name_faults traffic_name_listed up d) (if_listed _ _ _ refl))
 
 directions_listed : FaultsListed crossings.direction_faults
-directions_listed = faults_listed crossings.direction_faults (of_faults _ (text_that_listed traffic_value (λ text. is_some (crossings.inwards_in text)) refl))
+directions_listed = faults_listed crossings.direction_faults
+    (of_faults _ (text_that_listed traffic_value (λ text. is_some (crossings.inwards_in text)) refl))
 
 crossings_listed : (devices : List (List ℕ)) → FaultsListed (crossing_faults devices)
 crossings_listed devices = object_listed (crossing_rows devices) (
@@ -129,16 +138,22 @@ crossings_listed devices = object_listed (crossing_rows devices) (
 )
 
 -- a list in a declaration
-traffic_list_listed : (least most : ℕ) (faults : List ℕ → List Data → List FoundFault) → ((up : List ℕ) (ds : List Data) → AreListed (faults up ds)) → FaultsListed (traffic_lists.list_faults least most faults)
-traffic_list_listed least most faults all = faults_listed (traffic_lists.list_faults least most faults) (of_faults _ (list_by_listed no_path too_much_traffic least most faults refl refl all))
+traffic_list_listed : (least most : ℕ) (faults : List ℕ → List Data → List FoundFault)
+    → ((up : List ℕ) (ds : List Data) → AreListed (faults up ds))
+    → FaultsListed (traffic_lists.list_faults least most faults)
+traffic_list_listed least most faults all =
+    faults_listed (traffic_lists.list_faults least most faults)
+    (of_faults _ (list_by_listed no_path too_much_traffic least most faults refl refl all))
 
 paths_listed : (devices : List (List ℕ)) → FaultsListed (path_faults devices)
 paths_listed devices =
     traffic_list_listed 0 crossing_limit (λ up ds. items_faults (crossing_faults devices) up 0 ds)
-    (λ up ds. items_faults_listed (crossing_faults devices) (of_faults (crossing_faults devices) (crossings_listed devices)) up 0 ds)
+    (λ up ds. items_faults_listed (crossing_faults devices)
+    (of_faults (crossing_faults devices) (crossings_listed devices)) up 0 ds)
 
 values_listed : (axis : Axis) → FaultsListed (values_faults axis)
-values_listed axis = faults_listed (values_faults axis) (of_faults _ (text_that_listed traffic_value (λ text. is_some (values_on axis text)) refl))
+values_listed axis = faults_listed (values_faults axis)
+    (of_faults _ (text_that_listed traffic_value (λ text. is_some (values_on axis text)) refl))
 
 axes_listed : (xs : List Axis) → RowsListed (map (λ axis. optional (axis_name axis) (values_faults axis)) xs)
 axes_listed [] = tt
@@ -147,10 +162,12 @@ axes_listed (x ∷ xs) = (optional_listed (axis_name x) (values_faults x) (value
 all_paths_listed : (devices : List (List ℕ)) → FaultsListed (paths_faults devices)
 all_paths_listed devices =
     traffic_list_listed 1 path_limit (λ up ds. items_faults (path_faults devices) up 0 ds)
-    (λ up ds. items_faults_listed (path_faults devices) (of_faults (path_faults devices) (paths_listed devices)) up 0 ds)
+    (λ up ds. items_faults_listed (path_faults devices) (of_faults (path_faults devices) (paths_listed devices)) up 0
+    ds)
 
 class_names_listed : EntriesListed traffic_texts.name_once
-class_names_listed earlier = faults_listed (traffic_texts.name_once earlier) (of_faults _ (name_once_by_listed traffic_value class_twice refl refl earlier))
+class_names_listed earlier = faults_listed (traffic_texts.name_once earlier)
+    (of_faults _ (name_once_by_listed traffic_value class_twice refl refl earlier))
 
 classes_listed : (devices : List (List ℕ)) → EntriesListed (class_faults devices)
 classes_listed devices earlier = object_listed (class_rows devices earlier) (
@@ -175,23 +192,31 @@ list_of_classes_listed devices =
 traffic_listed : (devices : List (List ℕ)) (up : List ℕ) (d : Data) → AreListed (traffic_faults devices up d)
 unfolding traffic_faults
 traffic_listed devices up d =
-    of_faults (object_faults (traffic_rows devices)) (object_listed (traffic_rows devices) (required_listed (codes "classes") (list_of_classes_faults devices) (list_of_classes_listed devices), tt)) up d
+    of_faults (object_faults (traffic_rows devices))
+    (object_listed (traffic_rows devices) (
+      required_listed (codes "classes") (list_of_classes_faults devices)
+          (list_of_classes_listed devices),
+      tt,
+    )) up d
 
 -- ---- refusals
 
-first_listed : (fs : List FoundFault) (number : ℕ) (text : List ℕ) → AreListed fs → first fs ≡ Some (number, text) → is_refusal_number number ≡ true
+first_listed : (fs : List FoundFault) (number : ℕ) (text : List ℕ) → AreListed fs → first fs ≡ Some (number, text)
+    → is_refusal_number number ≡ true
 first_listed [] number text none is = absurd (true≢false (sym (ap is_some is)))
 first_listed (f ∷ fs) number text (more n up others is all) same =
     let one : n ≡ number = ap (λ (o : Option FoundFault). (unwrap_or o (n, up)).0) same in
     subst (λ (k : ℕ). is_refusal_number k ≡ true) one is
 
-found_listed : (number : ℕ) (place : Place) (fs : List FoundFault) → AreListed fs → is_found number place fs → is_refusal_number number ≡ true
+found_listed : (number : ℕ) (place : Place) (fs : List FoundFault) → AreListed fs → is_found number place fs
+    → is_refusal_number number ≡ true
 found_listed number (places.Text s) fs all is = first_listed fs number _ all is
 found_listed number places.None fs all is = absurd is
 found_listed number (places.Line l) fs all is = absurd is
 found_listed number (places.Octet o) fs all is = absurd is
 
-first_fault_listed : (faults : Data → List FoundFault) (octets : List ℕ) (e : Fault) → ((d : Data) → AreListed (faults d)) → IsFirstFault faults octets e → is_refusal_number e.number ≡ true
+first_fault_listed : (faults : Data → List FoundFault) (octets : List ℕ) (e : Fault)
+    → ((d : Data) → AreListed (faults d)) → IsFirstFault faults octets e → is_refusal_number e.number ≡ true
 first_fault_listed faults octets e all (inl (is, unread)) = ap (λ (f : Fault). is_refusal_number f.number) is
 first_fault_listed faults octets e all (inr (d, json, found)) = found_listed e.number e.place (faults d) (all d) found
 
@@ -199,10 +224,13 @@ plan_listed : (network : NetworkDocument) (e : Fault) → RefusesNetwork network
 plan_listed network e (inl (is, many)) = ap (λ (f : Fault). is_refusal_number f.number) is
 plan_listed network e (inr (few, cycle)) = ap is_refusal_number cycle.number
 
-pub network_refusal_listed : (octets : List ℕ) (e : Fault) → IsRefusedNetwork octets e → is_refusal_number e.number ≡ true
+pub network_refusal_listed : (octets : List ℕ) (e : Fault) → IsRefusedNetwork octets e → is_refusal_number e.number
+    ≡ true
 network_refusal_listed octets e (by_walk is) = first_fault_listed (network_faults []) octets e (networks_listed []) is
 network_refusal_listed octets e (by_plan network document refuses) = plan_listed network e refuses
 
-pub documents_refusal_listed : (network_octets traffic_octets : List ℕ) (e : Fault) → IsRefusedByDocuments network_octets traffic_octets e → is_refusal_number e.number ≡ true
+pub documents_refusal_listed : (network_octets traffic_octets : List ℕ) (e : Fault)
+    → IsRefusedByDocuments network_octets traffic_octets e → is_refusal_number e.number ≡ true
 documents_refusal_listed network_octets traffic_octets e (inl is) = network_refusal_listed network_octets e is
-documents_refusal_listed network_octets traffic_octets e (inr (network, document, is)) = first_fault_listed _ traffic_octets e (traffic_listed _ []) is
+documents_refusal_listed network_octets traffic_octets e (inr (network, document, is)) =
+    first_fault_listed _ traffic_octets e (traffic_listed _ []) is

@@ -17,7 +17,8 @@ use Rattle.fx_walk.specs.Scalars.{empty_faults, name_faults, text_faults, text_t
 
 pub data AreListed : List FoundFault → Type 0 where
   none : AreListed []
-  more : (number : ℕ) (up : List ℕ) (fs : List FoundFault) → is_refusal_number number ≡ true → AreListed fs → AreListed ((number, up) ∷ fs)
+  more : (number : ℕ) (up : List ℕ) (fs : List FoundFault) → is_refusal_number number ≡ true → AreListed fs
+      → AreListed ((number, up) ∷ fs)
 
 abbrev pub AllListed : (List ℕ → Data → List FoundFault) → Type 0
 AllListed faults = (up : List ℕ) (d : Data) → AreListed (faults up d)
@@ -47,11 +48,13 @@ both_listed {b = b} (more number up fs is all) y = more number up (fs ++ b) is (
 one_fault : (number : ℕ) (up : List ℕ) → is_refusal_number number ≡ true → AreListed ((number, up) ∷ [])
 one_fault number up is = more number up [] is none
 
-pub if_listed : (test : Bool) (number : ℕ) (up : List ℕ) → is_refusal_number number ≡ true → AreListed (fault_if test number up)
+pub if_listed : (test : Bool) (number : ℕ) (up : List ℕ) → is_refusal_number number ≡ true
+    → AreListed (fault_if test number up)
 if_listed true number up is = one_fault number up is
 if_listed false number up is = none
 
-pub kind_listed : {X : Type 0} (o : Option X) (faults : X → List FoundFault) (up : List ℕ) → ((x : X) → AreListed (faults x)) → AreListed (of_kind o faults up)
+pub kind_listed : {X : Type 0} (o : Option X) (faults : X → List FoundFault) (up : List ℕ)
+    → ((x : X) → AreListed (faults x)) → AreListed (of_kind o faults up)
 kind_listed None faults up all = one_fault wrong_kind up refl
 kind_listed (Some x) faults up all = all x
 
@@ -67,26 +70,35 @@ others_listed : (may_stand : List ℕ → Bool) (up : List ℕ) (ms : Members) �
 others_listed may_stand up ms = unlisted_members up (filter (λ k. not (may_stand k)) (names ms))
 
 pub object_listed : (rows : List Row) → RowsListed rows → FaultsListed (object_faults rows)
-object_listed rows all = faults_listed (object_faults rows) (λ up d. kind_listed (as_object d) _ up (λ ms. both_listed (others_listed _ up ms) (rows_listed rows all up d)))
+object_listed rows all = faults_listed (object_faults rows)
+    (λ up d. kind_listed (as_object d) _ up (λ ms. both_listed (others_listed _ up ms) (rows_listed rows all up d)))
 
-pub open_object_listed : (home : List ℕ) (rows : List Row) → RowsListed rows → FaultsListed (open_object_faults home rows)
-open_object_listed home rows all = faults_listed (open_object_faults home rows) (λ up d. kind_listed (as_object d) _ up (λ ms. both_listed (others_listed _ up ms) (rows_listed rows all up d)))
+pub open_object_listed : (home : List ℕ) (rows : List Row) → RowsListed rows
+    → FaultsListed (open_object_faults home rows)
+open_object_listed home rows all = faults_listed (open_object_faults home rows)
+    (λ up d. kind_listed (as_object d) _ up (λ ms. both_listed (others_listed _ up ms) (rows_listed rows all up d)))
 
 -- ---- members
 
-there_listed : (faults : List ℕ → Data → List FoundFault) → AllListed faults → (up name : List ℕ) (o : Option Data) → AreListed (faults_if_there faults up name o)
+there_listed : (faults : List ℕ → Data → List FoundFault) → AllListed faults → (up name : List ℕ) (o : Option Data)
+    → AreListed (faults_if_there faults up name o)
 there_listed faults all up name None = none
 there_listed faults all up name (Some d) = all (below up name) d
 
-missing_listed : (faults : List ℕ → Data → List FoundFault) → AllListed faults → (up name : List ℕ) (o : Option Data) → AreListed (faults_or_missing faults up name o)
+missing_listed : (faults : List ℕ → Data → List FoundFault) → AllListed faults → (up name : List ℕ) (o : Option Data)
+    → AreListed (faults_or_missing faults up name o)
 missing_listed faults all up name None = one_fault missing_member up refl
 missing_listed faults all up name (Some d) = all (below up name) d
 
-pub optional_listed : (name : List ℕ) (faults : List ℕ → Data → List FoundFault) → FaultsListed faults → RowListed (optional name faults)
-optional_listed name faults all = row_listed (optional name faults) (λ up d. there_listed faults (of_faults faults all) up name (get name d))
+pub optional_listed : (name : List ℕ) (faults : List ℕ → Data → List FoundFault) → FaultsListed faults
+    → RowListed (optional name faults)
+optional_listed name faults all = row_listed (optional name faults)
+    (λ up d. there_listed faults (of_faults faults all) up name (get name d))
 
-pub required_listed : (name : List ℕ) (faults : List ℕ → Data → List FoundFault) → FaultsListed faults → RowListed (required_row name faults)
-required_listed name faults all = row_listed (required_row name faults) (λ up d. missing_listed faults (of_faults faults all) up name (get name d))
+pub required_listed : (name : List ℕ) (faults : List ℕ → Data → List FoundFault) → FaultsListed faults
+    → RowListed (required_row name faults)
+required_listed name faults all = row_listed (required_row name faults)
+    (λ up d. missing_listed faults (of_faults faults all) up name (get name d))
 
 pub unread_listed : (names : List (List ℕ)) → RowListed (unread names)
 unread_listed names = row_listed (unread names) (λ up d. none)
@@ -108,21 +120,25 @@ abbrev pub NumbersListed : List (List ℕ × ℕ) → Type 0
 NumbersListed [] = ⊤
 NumbersListed (r ∷ rows) = (is_refusal_number r.1 ≡ true) × NumbersListed rows
 
-chosen_listed : (b : Bool) (number : ℕ) (up : List ℕ) (fs : List FoundFault) → is_refusal_number number ≡ true → AreListed fs → AreListed (cond b ((number, up) ∷ fs) fs)
+chosen_listed : (b : Bool) (number : ℕ) (up : List ℕ) (fs : List FoundFault) → is_refusal_number number ≡ true
+    → AreListed fs → AreListed (cond b ((number, up) ∷ fs) fs)
 chosen_listed true number up fs is all = more number up fs is all
 chosen_listed false number up fs is all = all
 
 numbered_listed : (rows : List (List ℕ × ℕ)) → NumbersListed rows → AllListed (numbered_faults rows)
 numbered_listed [] all up d = none
-numbered_listed (r ∷ rows) all up d = chosen_listed (is_some (get r.0 d)) r.1 (below up r.0) (numbered_faults rows up d) all.0 (numbered_listed rows all.1 up d)
+numbered_listed (r ∷ rows) all up d = chosen_listed (is_some (get r.0 d)) r.1 (below up r.0) (numbered_faults rows up d)
+    all.0 (numbered_listed rows all.1 up d)
 
 pub none_of_listed : (rows : List (List ℕ × ℕ)) → NumbersListed rows → RowListed (none_of rows)
 none_of_listed rows all = row_listed (none_of rows) (numbered_listed rows all)
 
 -- ---- values without parts
 
-pub text_that_listed : (number : ℕ) (test : List ℕ → Bool) → is_refusal_number number ≡ true → FaultsListed (text_that number test)
-text_that_listed number test is = faults_listed (text_that number test) (λ up d. kind_listed (as_str d) _ up (λ text. if_listed _ _ _ is))
+pub text_that_listed : (number : ℕ) (test : List ℕ → Bool) → is_refusal_number number ≡ true
+    → FaultsListed (text_that number test)
+text_that_listed number test is = faults_listed (text_that number test)
+    (λ up d. kind_listed (as_str d) _ up (λ text. if_listed _ _ _ is))
 
 pub text_listed : FaultsListed text_faults
 text_listed = faults_listed text_faults (λ up d. kind_listed (as_str d) _ up (λ text. none))
@@ -132,7 +148,8 @@ whole_in_listed low high up None = one_fault bad_value up refl
 whole_in_listed low high up (Some n) = if_listed _ _ _ refl
 
 pub whole_listed : (low high : ℕ) → FaultsListed (whole_faults low high)
-whole_listed low high = faults_listed (whole_faults low high) (λ up d. kind_listed (as_number d) _ up (λ n. whole_in_listed low high up (as_u64 n)))
+whole_listed low high = faults_listed (whole_faults low high)
+    (λ up d. kind_listed (as_number d) _ up (λ n. whole_in_listed low high up (as_u64 n)))
 
 pub empty_listed : FaultsListed empty_faults
 empty_listed = faults_listed empty_faults (λ up d. if_listed _ _ _ refl)
@@ -141,11 +158,13 @@ pub name_listed : FaultsListed name_faults
 name_listed = faults_listed name_faults (λ up d. kind_listed (as_str d) _ up (λ text. if_listed _ _ _ refl))
 
 pub word_listed : {X : Type 0} (named : List ℕ → Option X) → FaultsListed (word_faults named)
-word_listed named = faults_listed (word_faults named) (λ up d. kind_listed (as_str d) _ up (λ text. if_listed _ _ _ refl))
+word_listed named = faults_listed (word_faults named)
+    (λ up d. kind_listed (as_str d) _ up (λ text. if_listed _ _ _ refl))
 
 -- ---- lists
 
-length_listed : (few many least most : ℕ) (up : List ℕ) (n : ℕ) (rest : List FoundFault) → is_refusal_number few ≡ true → is_refusal_number many ≡ true → AreListed rest
+length_listed : (few many least most : ℕ) (up : List ℕ) (n : ℕ) (rest : List FoundFault) → is_refusal_number few ≡ true
+    → is_refusal_number many ≡ true → AreListed rest
     → AreListed (by_length few many least most up n rest)
 length_listed few many least most up n rest few_is many_is all = go (nat_lt most n) (nat_lt n least)
   where
@@ -154,60 +173,89 @@ length_listed few many least most up n rest few_is many_is all = go (nat_lt most
     go false true = one_fault few up few_is
     go false false = all
 
-pub list_by_listed : (few many least most : ℕ) (faults : List ℕ → List Data → List FoundFault) → is_refusal_number few ≡ true → is_refusal_number many ≡ true
-    → ((up : List ℕ) (ds : List Data) → AreListed (faults up ds)) → FaultsListed (list_faults_by few many least most faults)
-list_by_listed few many least most faults few_is many_is all = faults_listed (list_faults_by few many least most faults) (λ up d.
-    kind_listed (items_in d) _ up (λ ds. length_listed few many least most up (length ds) (faults up ds) few_is many_is (all up ds)))
+pub list_by_listed : (few many least most : ℕ) (faults : List ℕ → List Data → List FoundFault) → is_refusal_number few
+    ≡ true → is_refusal_number many ≡ true
+    → ((up : List ℕ) (ds : List Data) → AreListed (faults up ds))
+    → FaultsListed (list_faults_by few many least most faults)
+list_by_listed few many least most faults few_is many_is all =
+    faults_listed (list_faults_by few many least most faults) (λ up d.
+    kind_listed (items_in d) _ up (λ ds. length_listed few many least most up (length ds) (faults up ds) few_is many_is
+    (all up ds)))
 
-given_list_listed : (least most : ℕ) (faults : List ℕ → List Data → List FoundFault) → ((up : List ℕ) (ds : List Data) → AreListed (faults up ds)) → (up name : List ℕ) (o : Option Data)
+given_list_listed : (least most : ℕ) (faults : List ℕ → List Data → List FoundFault)
+    → ((up : List ℕ) (ds : List Data) → AreListed (faults up ds)) → (up name : List ℕ) (o : Option Data)
     → AreListed (faults_of_list least most faults up name o)
 given_list_listed least most faults all up name None = if_listed _ _ _ refl
-given_list_listed least most faults all up name (Some d) = of_faults _ (list_by_listed missing_member too_many_entries least most faults refl refl all) (below up name) d
+given_list_listed least most faults all up name (Some d) =
+    of_faults _ (list_by_listed missing_member too_many_entries least most faults refl refl all) (below up name) d
 
-pub list_row_listed : (least most : ℕ) (name : List ℕ) (faults : List ℕ → List Data → List FoundFault) → ((up : List ℕ) (ds : List Data) → AreListed (faults up ds)) → RowListed (list_row least most name faults)
-list_row_listed least most name faults all = row_listed (list_row least most name faults) (λ up d. given_list_listed least most faults all up name (get name d))
+pub list_row_listed : (least most : ℕ) (name : List ℕ) (faults : List ℕ → List Data → List FoundFault)
+    → ((up : List ℕ) (ds : List Data) → AreListed (faults up ds)) → RowListed (list_row least most name faults)
+list_row_listed least most name faults all =
+    row_listed (list_row least most name faults) (λ up d. given_list_listed least most faults all up name (get name d))
 
-pub items_faults_listed : {X : Type 0} (faults : List ℕ → X → List FoundFault) → ((up : List ℕ) (x : X) → AreListed (faults up x)) → (up : List ℕ) (i : ℕ) (xs : List X) → AreListed (items_faults faults up i xs)
+pub items_faults_listed : {X : Type 0} (faults : List ℕ → X → List FoundFault)
+    → ((up : List ℕ) (x : X) → AreListed (faults up x)) → (up : List ℕ) (i : ℕ) (xs : List X)
+    → AreListed (items_faults faults up i xs)
 items_faults_listed faults all up i [] = none
-items_faults_listed faults all up i (x ∷ xs) = both_listed (all (nth up i) x) (items_faults_listed faults all up (i + 1) xs)
+items_faults_listed faults all up i (x ∷ xs) =
+    both_listed (all (nth up i) x) (items_faults_listed faults all up (i + 1) xs)
 
-pub items_listed : (least most : ℕ) (name : List ℕ) (faults : List ℕ → Data → List FoundFault) → FaultsListed faults → RowListed (items least most name faults)
-items_listed least most name faults all = list_row_listed least most name _ (λ up ds. items_faults_listed faults (of_faults faults all) up 0 ds)
+pub items_listed : (least most : ℕ) (name : List ℕ) (faults : List ℕ → Data → List FoundFault) → FaultsListed faults
+    → RowListed (items least most name faults)
+items_listed least most name faults all =
+    list_row_listed least most name _ (λ up ds. items_faults_listed faults (of_faults faults all) up 0 ds)
 
 -- faults of an entry behind others of these names
 abbrev pub EntriesListed : (List (List ℕ) → List ℕ → Data → List FoundFault) → Type 0
 EntriesListed faults = (earlier : List (List ℕ)) → FaultsListed (faults earlier)
 
-pub entries_faults_listed : (faults : List (List ℕ) → List ℕ → Data → List FoundFault) (name : Data → List ℕ) → EntriesListed faults → (earlier : List (List ℕ)) (up : List ℕ) (i : ℕ) (ds : List Data)
+pub entries_faults_listed : (faults : List (List ℕ) → List ℕ → Data → List FoundFault) (name : Data → List ℕ)
+    → EntriesListed faults → (earlier : List (List ℕ)) (up : List ℕ) (i : ℕ) (ds : List Data)
     → AreListed (entries_faults faults name earlier up i ds)
 entries_faults_listed faults name all earlier up i [] = none
 entries_faults_listed faults name all earlier up i (d ∷ ds) =
-    both_listed (of_faults (faults earlier) (all earlier) (nth up i) d) (entries_faults_listed faults name all (earlier ++ name d ∷ []) up (i + 1) ds)
+    both_listed (of_faults (faults earlier) (all earlier) (nth up i) d)
+    (entries_faults_listed faults name all (earlier ++ name d ∷ []) up (i + 1) ds)
 
-pub entries_listed : (least most : ℕ) (name : List ℕ) (faults : List (List ℕ) → List ℕ → Data → List FoundFault) (name_in : Data → List ℕ) → EntriesListed faults → RowListed (entries least most name faults name_in)
-entries_listed least most name faults name_in all = list_row_listed least most name _ (λ up ds. entries_faults_listed faults name_in all [] up 0 ds)
+pub entries_listed : (least most : ℕ) (name : List ℕ) (faults : List (List ℕ) → List ℕ → Data → List FoundFault)
+    (name_in : Data → List ℕ) → EntriesListed faults → RowListed (entries least most name faults name_in)
+entries_listed least most name faults name_in all =
+    list_row_listed least most name _ (λ up ds. entries_faults_listed faults name_in all [] up 0 ds)
 
-pub required_items_listed : (most : ℕ) (name : List ℕ) (faults : List ℕ → Data → List FoundFault) → FaultsListed faults → RowListed (required_items most name faults)
-required_items_listed most name faults all = required_listed name _ (list_by_listed missing_member too_many_entries 0 most _ refl refl (λ up ds. items_faults_listed faults (of_faults faults all) up 0 ds))
+pub required_items_listed : (most : ℕ) (name : List ℕ) (faults : List ℕ → Data → List FoundFault) → FaultsListed faults
+    → RowListed (required_items most name faults)
+required_items_listed most name faults all =
+    required_listed name _ (list_by_listed missing_member too_many_entries 0 most _ refl refl
+    (λ up ds. items_faults_listed faults (of_faults faults all) up 0 ds))
 
-pub required_entries_listed : (most : ℕ) (name : List ℕ) (faults : List (List ℕ) → List ℕ → Data → List FoundFault) (name_in : Data → List ℕ) → EntriesListed faults → RowListed (required_entries most name faults name_in)
-required_entries_listed most name faults name_in all = required_listed name _ (list_by_listed missing_member too_many_entries 0 most _ refl refl (λ up ds. entries_faults_listed faults name_in all [] up 0 ds))
+pub required_entries_listed : (most : ℕ) (name : List ℕ) (faults : List (List ℕ) → List ℕ → Data → List FoundFault)
+    (name_in : Data → List ℕ) → EntriesListed faults → RowListed (required_entries most name faults name_in)
+required_entries_listed most name faults name_in all =
+    required_listed name _ (list_by_listed missing_member too_many_entries 0 most _ refl refl
+    (λ up ds. entries_faults_listed faults name_in all [] up 0 ds))
 
-pub name_once_by_listed : (wrong twice : ℕ) → is_refusal_number wrong ≡ true → is_refusal_number twice ≡ true → EntriesListed (name_once_by wrong twice)
+pub name_once_by_listed : (wrong twice : ℕ) → is_refusal_number wrong ≡ true → is_refusal_number twice ≡ true
+    → EntriesListed (name_once_by wrong twice)
 name_once_by_listed wrong twice wrong_is twice_is earlier =
-    faults_listed (name_once_by wrong twice earlier) (λ up d. both_listed (of_faults _ (text_that_listed wrong _ wrong_is) up d) (if_listed _ _ _ twice_is))
+    faults_listed (name_once_by wrong twice earlier)
+    (λ up d. both_listed (of_faults _ (text_that_listed wrong _ wrong_is) up d) (if_listed _ _ _ twice_is))
 
 pub name_once_listed : EntriesListed name_once
-name_once_listed earlier = faults_listed (name_once earlier) (of_faults _ (name_once_by_listed bad_value name_twice refl refl earlier))
+name_once_listed earlier = faults_listed (name_once earlier)
+    (of_faults _ (name_once_by_listed bad_value name_twice refl refl earlier))
 
 -- ---- references
 
 pub unknown_listed : (known : List (List ℕ)) (up name : List ℕ) → AreListed (unknown known up name)
 unknown_listed known up name = if_listed _ _ _ refl
 
-pub unknown_if_there_listed : (known : List (List ℕ)) (up : List ℕ) (o : Option (List ℕ)) → AreListed (unknown_if_there known up o)
+pub unknown_if_there_listed : (known : List (List ℕ)) (up : List ℕ) (o : Option (List ℕ))
+    → AreListed (unknown_if_there known up o)
 unknown_if_there_listed known up None = none
 unknown_if_there_listed known up (Some name) = unknown_listed known up name
 
-pub references_listed : {X : Type 0} (faults : List ℕ → X → List FoundFault) → ((up : List ℕ) (x : X) → AreListed (faults up x)) → (up name : List ℕ) (xs : List X) → AreListed (member_references faults up name xs)
+pub references_listed : {X : Type 0} (faults : List ℕ → X → List FoundFault)
+    → ((up : List ℕ) (x : X) → AreListed (faults up x)) → (up name : List ℕ) (xs : List X)
+    → AreListed (member_references faults up name xs)
 references_listed faults all up name xs = items_faults_listed faults all (below up name) 0 xs

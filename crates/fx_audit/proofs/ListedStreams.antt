@@ -52,12 +52,14 @@ turn turns k place octets (refusal why) = fails k place (faults.Malformed why)
 turn turns k place octets (complete m) = taken turns k place octets m.octets (message_read k m)
 
 taken_listed : (turns : ℕ) (k : Known) (place : ℕ) (octets : List ℕ) (n : ℕ) (r : Result Known StreamFault)
-    → ((next : Known) (at : ℕ) (rest : List ℕ) → SessionListed (read_in turns next at rest)) → SessionListed (taken turns k place octets n r)
+    → ((next : Known) (at : ℕ) (rest : List ℕ) → SessionListed (read_in turns next at rest))
+    → SessionListed (taken turns k place octets n r)
 taken_listed turns k place octets n (Ok next) all = all next (place_after place n) (drop n octets)
 taken_listed turns k place octets n (Err fault) all = failed k place fault
 
 turn_listed : (turns : ℕ) (k : Known) (place : ℕ) (octets : List ℕ) (f : Front)
-    → ((next : Known) (at : ℕ) (rest : List ℕ) → SessionListed (read_in turns next at rest)) → SessionListed (turn turns k place octets f)
+    → ((next : Known) (at : ℕ) (rest : List ℕ) → SessionListed (read_in turns next at rest))
+    → SessionListed (turn turns k place octets f)
 turn_listed turns k place octets needs_more all = waiting k place octets
 turn_listed turns k place octets (refusal why) all = failed k place (faults.Malformed why)
 turn_listed turns k place octets (complete m) all = taken_listed turns k place octets m.octets (message_read k m) all
@@ -77,7 +79,8 @@ stream_read_listed octets = all_read_listed start.known start.place octets
 -- ---- the fault that it answers
 
 memory_or_listed : (test : Bool) (place number : ℕ) → is_refusal_number number ≡ true
-    → is_refusal_number (cond test (fault_at want_of_memory places.None) (fault_at number (places.Octet place))).number ≡ true
+    → is_refusal_number (cond test (fault_at want_of_memory places.None) (fault_at number (places.Octet place))).number
+    ≡ true
 memory_or_listed true place number is = refl
 memory_or_listed false place number is = is
 
@@ -88,15 +91,20 @@ AnswerListed (Err e) = is_refusal_number e.number ≡ true
 
 answer_listed : (st : SessionState) → SessionListed st → AnswerListed (answer_of st.place st.fault)
 answer_listed st (waiting k place octets) = tt
-answer_listed st (failed k place fault) = memory_or_listed (number_of fault == want_of_memory) place (number_of fault) (stream_number_listed fault)
+answer_listed st (failed k place fault) =
+    memory_or_listed (number_of fault == want_of_memory) place (number_of fault) (stream_number_listed fault)
 
-pub session_refusal_listed : (st : SessionState) (e : Fault) → SessionListed st → IsRefusedStream st e → is_refusal_number e.number ≡ true
+pub session_refusal_listed : (st : SessionState) (e : Fault) → SessionListed st → IsRefusedStream st e
+    → is_refusal_number e.number ≡ true
 session_refusal_listed st e all (inl answers) = subst AnswerListed answers (answer_listed st all)
 session_refusal_listed st e all (inr (none, rest, is)) = ap (λ (f : Fault). is_refusal_number f.number) is
 
-pub stream_refusal_listed : (octets : List ℕ) (e : Fault) → IsRefusedStream (stream_read octets) e → is_refusal_number e.number ≡ true
+pub stream_refusal_listed : (octets : List ℕ) (e : Fault) → IsRefusedStream (stream_read octets) e
+    → is_refusal_number e.number ≡ true
 stream_refusal_listed octets e is = session_refusal_listed (stream_read octets) e (stream_read_listed octets) is
 
-pub collect_refusal_listed : (network_octets stream_octets : List ℕ) (e : Fault) → IsRefusedCollect network_octets stream_octets e → is_refusal_number e.number ≡ true
+pub collect_refusal_listed : (network_octets stream_octets : List ℕ) (e : Fault)
+    → IsRefusedCollect network_octets stream_octets e → is_refusal_number e.number ≡ true
 collect_refusal_listed network_octets stream_octets e (inl document) = network_refusal_listed network_octets e document
-collect_refusal_listed network_octets stream_octets e (inr (network, network_is, stream)) = stream_refusal_listed stream_octets e stream
+collect_refusal_listed network_octets stream_octets e (inr (network, network_is, stream)) =
+    stream_refusal_listed stream_octets e stream

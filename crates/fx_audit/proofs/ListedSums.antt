@@ -12,7 +12,8 @@ use Rattle.fx_audit.proofs.ListedDocuments.{network_refusal_listed}
 number_listed : (number known : ℕ) → number ≡ known → is_refusal_number known ≡ true → is_refusal_number number ≡ true
 number_listed number known same is = subst (λ (n : ℕ). is_refusal_number n ≡ true) (sym same) is
 
-pub sum_refusal_listed : (network : List ℕ) (lines : Lines) (e : Fault) → IsRefusedSum network lines e → is_refusal_number e.number ≡ true
+pub sum_refusal_listed : (network : List ℕ) (lines : Lines) (e : Fault) → IsRefusedSum network lines e
+    → is_refusal_number e.number ≡ true
 sum_refusal_listed network lines e (inl refused) = network_refusal_listed network e refused
 sum_refusal_listed network lines e (inr (document, is, (octets, left, same))) =
     elim (texts_refused (no_sum (net_of document).report_layout) (lines.number, text_lines octets) e same) [

@@ -11,7 +11,9 @@ use Rattle.fx_checker.specs.Documents.{IsNetworkDocument, IsRefusedNetwork}
 use Rattle.fx_audit.specs.Sums.{IsRefusedSum, IsRefusedTotals}
 
 -- the network's document is
-pub sum_unread : (left : Option (List ℕ)) (lines : Lines) (e : Fault) (M N F W : Type 0) → M ⊎ (N ⊎ MayHaveLeft left (λ n. IsRefusedNetwork n e)) → M ⊎ (N ⊎ (F ⊎ (W ⊎ MayHaveLeft left (λ n. IsRefusedSum n lines e))))
+pub sum_unread : (left : Option (List ℕ)) (lines : Lines) (e : Fault) (M N F W : Type 0) → M
+    ⊎ (N ⊎ MayHaveLeft left (λ n. IsRefusedNetwork n e)) → M
+    ⊎ (N ⊎ (F ⊎ (W ⊎ MayHaveLeft left (λ n. IsRefusedSum n lines e))))
 sum_unread left lines e M N F W h =
     elim h [
       | inl m ↦ inl m
@@ -20,8 +22,10 @@ sum_unread left lines e M N F W h =
     ]
 
 -- a line is
-pub sum_refused : (left : Option (List ℕ)) (network : NetworkDocument) (layout : Layout) (lines : Lines) (M N F W : Fault → Type 0) (result : Result Answer Fault) → layout ≡ (net_of network).report_layout
-    → MayHaveLeft left (λ n. IsNetworkDocument n network) → IfErr result (λ e. M e ⊎ (F e ⊎ (W e ⊎ IsRefusedTotals layout lines e)))
+pub sum_refused : (left : Option (List ℕ)) (network : NetworkDocument) (layout : Layout) (lines : Lines)
+    (M N F W : Fault → Type 0) (result : Result Answer Fault) → layout ≡ (net_of network).report_layout
+    → MayHaveLeft left (λ n. IsNetworkDocument n network)
+    → IfErr result (λ e. M e ⊎ (F e ⊎ (W e ⊎ IsRefusedTotals layout lines e)))
     → IfErr result (λ e. M e ⊎ (N e ⊎ (F e ⊎ (W e ⊎ MayHaveLeft left (λ n. IsRefusedSum n lines e)))))
 sum_refused left network layout lines M N F W (Ok a) same n h = tt
 sum_refused left network layout lines M N F W (Err e) same n h =
@@ -29,5 +33,6 @@ sum_refused left network layout lines M N F W (Err e) same n h =
       | inl m ↦ inl m
       | inr (inl f) ↦ inr (inr (inl f))
       | inr (inr (inl w)) ↦ inr (inr (inr (inl w)))
-      | inr (inr (inr r)) ↦ inr (inr (inr (inr (n.0, n.1, inr (network, n.2, subst (λ (l : Layout). IsRefusedTotals l lines e) same r)))))
+      | inr (inr (inr r)) ↦
+          inr (inr (inr (inr (n.0, n.1, inr (network, n.2, subst (λ (l : Layout). IsRefusedTotals l lines e) same r)))))
     ]

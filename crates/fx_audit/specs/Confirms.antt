@@ -40,16 +40,18 @@ pub record IsInOrder (t sorted : Totals) : Type 0 where
   pub layout_is : sorted.layout ≡ t.layout
   pub unassigned : sorted.unassigned ≡ t.unassigned
 
--- the text is a refutation that refutes; `ran` and `plain` are the totals of its run and the plain sums, in ascending order
-pub record IsRefuted (network : NetworkDocument) (classes : List Class) (lines : Lines) (ran plain : Totals) : Type 0 where
-  pub refutation : Refutation
-  pub said : MayReadRefutation lines (Ok refutation)
-  pub refutes : Refutes (net_of network) classes refutation
-  pub ran_found : Totals
-  pub plain_found : Totals
-  pub totals : AreTotals (net_of network) classes refutation ran_found plain_found
-  pub ran_in_order : IsInOrder ran_found ran
-  pub plain_in_order : IsInOrder plain_found plain
+-- the text is a refutation that refutes; `ran` and `plain` are the totals of its run and the plain sums, in ascending
+-- order
+pub record IsRefuted (network : NetworkDocument) (classes : List Class) (lines : Lines) (ran plain : Totals) : Type 0
+  where
+    pub refutation : Refutation
+    pub said : MayReadRefutation lines (Ok refutation)
+    pub refutes : Refutes (net_of network) classes refutation
+    pub ran_found : Totals
+    pub plain_found : Totals
+    pub totals : AreTotals (net_of network) classes refutation ran_found plain_found
+    pub ran_in_order : IsInOrder ran_found ran
+    pub plain_in_order : IsInOrder plain_found plain
 
 -- the refutation refutes, and both totals are printed
 pub record IsYes (network : NetworkDocument) (classes : List Class) (lines : Lines) (text : List ℕ) : Type 0 where

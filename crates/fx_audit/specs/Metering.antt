@@ -33,7 +33,8 @@ pub record IsMeteredText (tallied : Totals) (other malformed : ℕ) (text : List
 -- calls made of that source
 
 -- the capture's reader starts after the file header; the run yields these totals and these numbers of skipped frames
-pub record IsRun (network : NetworkDocument) (classes : List Class) (left : Option (List ℕ)) (asked : ℕ) (from last : Lines) (before after : Put) (totals : Totals) (skipped : Skipped) : Type 0 where
+pub record IsRun (network : NetworkDocument) (classes : List Class) (left : Option (List ℕ)) (asked : ℕ)
+    (from last : Lines) (before after : Put) (totals : Totals) (skipped : Skipped) : Type 0 where
   pub at : CaptureState
   pub to : CaptureState
   pub opened : IsOpened left asked at
@@ -41,27 +42,32 @@ pub record IsRun (network : NetworkDocument) (classes : List Class) (left : Opti
   pub skipped_is : skipped ≡ to.skipped
 
 -- the text that the run prints
-pub record IsMeteredIn (network : NetworkDocument) (classes : List Class) (left : Option (List ℕ)) (asked : ℕ) (from last : Lines) (before after : Put) (text : List ℕ) : Type 0 where
+pub record IsMeteredIn (network : NetworkDocument) (classes : List Class) (left : Option (List ℕ)) (asked : ℕ)
+    (from last : Lines) (before after : Put) (text : List ℕ) : Type 0 where
   pub totals : Totals
   pub skipped : Skipped
   pub ran : IsRun network classes left asked from last before after totals skipped
   pub text_is : IsMeteredText totals skipped.other skipped.malformed text
 
--- the state of the capture agrees with some state of its source: whether the last call failed, and the number of calls made
+-- the state of the capture agrees with some state of its source: whether the last call failed, and the number of calls
+-- made
 abbrev pub IsStateOfSource : {C : Type 0} → (C → ℕ) → (C → Bool) → CaptureState → Type 0
 IsStateOfSource {C} calls failed to = (last : C) × (failed last ≡ to.failed) × (calls last ≡ to.asked)
 
 -- the capture can't be opened, because of its source or its file header; or the run over it is refused and leaves the
 -- capture in a state that satisfies the predicate
-abbrev pub IsRefusedOver : NetworkDocument → List Class → Option (List ℕ) → ℕ → Type 0 → (CaptureState → Type 0) → Lines → Lines → Put → Fault → Type 0
+abbrev pub IsRefusedOver : NetworkDocument → List Class → Option (List ℕ) → ℕ → Type 0 → (CaptureState → Type 0) → Lines
+    → Lines → Put → Fault → Type 0
 IsRefusedOver network classes left asked unread HoldsAtEnd from last before e =
     IsRefusedCapture left unread e
-    ⊎ ((at : CaptureState) × (to : CaptureState) × IsOpened left asked at × RefusesRun (begun network classes) at to from last before e × HoldsAtEnd to)
+    ⊎ ((at : CaptureState) × (to : CaptureState) × IsOpened left asked at
+    × RefusesRun (begun network classes) at to from last before e × HoldsAtEnd to)
 
 -- ---- the same in the network and traffic that two documents declare
 
 -- The text that the run prints; the run is a complete run of the abstract network over the capture's packets.
-pub record IsMetered (network_octets traffic_octets : List ℕ) (left : Option (List ℕ)) (asked : ℕ) (from last : Lines) (before after : Put) (text : List ℕ) : Type 0 where
+pub record IsMetered (network_octets traffic_octets : List ℕ) (left : Option (List ℕ)) (asked : ℕ) (from last : Lines)
+    (before after : Put) (text : List ℕ) : Type 0 where
   pub network : NetworkDocument
   pub classes : List Class
   pub network_is : IsNetworkDocument network_octets network
@@ -70,6 +76,8 @@ pub record IsMetered (network_octets traffic_octets : List ℕ) (left : Option (
   pub complete : IsRunOf network classes metered.ran.at metered.ran.to from last before after metered.totals
 
 -- the first refusal: that of the documents, then that of the capture's file header, then that of the run
-abbrev pub IsRefusedMetering : List ℕ → List ℕ → Option (List ℕ) → ℕ → Type 0 → (CaptureState → Type 0) → Lines → Lines → Put → Fault → Type 0
+abbrev pub IsRefusedMetering : List ℕ → List ℕ → Option (List ℕ) → ℕ → Type 0 → (CaptureState → Type 0) → Lines → Lines
+    → Put → Fault → Type 0
 IsRefusedMetering network_octets traffic_octets left asked unread HoldsAtEnd from last before e =
-    IsRefusedIn (λ network classes. IsRefusedOver network classes left asked unread HoldsAtEnd from last before e) network_octets traffic_octets e
+    IsRefusedIn (λ network classes. IsRefusedOver network classes left asked unread HoldsAtEnd from last before e)
+    network_octets traffic_octets e

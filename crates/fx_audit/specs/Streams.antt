@@ -18,7 +18,8 @@ stream_read octets = after_piece start octets
 abbrev pub EndsWithMessage : SessionState → Type 0
 EndsWithMessage st = (st.fault ≡ None) × (st.rest ≡ [])
 
--- why a stream is refused: its first refused message has this fault, or, if no message is refused, the stream ends inside one
+-- why a stream is refused: its first refused message has this fault, or, if no message is refused, the stream ends
+-- inside one
 abbrev pub IsRefusedStream : SessionState → Fault → Type 0
 IsRefusedStream st e =
     (answer_of st.place st.fault ≡ Err e)
@@ -31,7 +32,8 @@ pub record IsTotalsText (tallied : Totals) (gaps skipped : ℕ) (text : List ℕ
   pub ascending : KeysAscend totals.entries
   pub layout_is : totals.layout ≡ tallied.layout
   pub unassigned : totals.unassigned ≡ tallied.unassigned
-  pub text_is : text ≡ totals_text totals ++ (number_line (codes "gaps ") gaps ++ number_line (codes "skipped ") skipped)
+  pub text_is : text ≡ totals_text totals
+      ++ (number_line (codes "gaps ") gaps ++ number_line (codes "skipped ") skipped)
 
 -- the text of what a session knows of a stream: its records are tallied under a layout's keys
 abbrev pub IsStreamText : Layout → Known → List ℕ → Type 0

@@ -39,4 +39,5 @@ IsRefusedTotals layout lines e = MayGive (sum_of_texts (no_sum layout)) lines (E
 abbrev pub IsRefusedSum : List ℕ → Lines → Fault → Type 0
 IsRefusedSum network_octets lines e =
     IsRefusedNetwork network_octets e
-    ⊎ ((network : NetworkDocument) × IsNetworkDocument network_octets network × IsRefusedTotals (net_of network).report_layout lines e)
+    ⊎ ((network : NetworkDocument) × IsNetworkDocument network_octets network
+    × IsRefusedTotals (net_of network).report_layout lines e)

@@ -33,11 +33,13 @@ IsReplayText answer text = (answer ≡ Yes) × ((layout : Layout) × (s : State)
 
 -- collecting prints a stream's totals, and the numbers of gaps and skipped records
 abbrev pub IsCollectText : Answer → List ℕ → Type 0
-IsCollectText answer text = (answer ≡ Yes) × ((totals : Totals) × (gaps : ℕ) × (skipped : ℕ) × IsTotalsText totals gaps skipped text)
+IsCollectText answer text = (answer ≡ Yes)
+    × ((totals : Totals) × (gaps : ℕ) × (skipped : ℕ) × IsTotalsText totals gaps skipped text)
 
 -- a run prints its totals, and the numbers of skipped frames of its capture
 abbrev pub IsRunText : Answer → List ℕ → Type 0
-IsRunText answer text = (answer ≡ Yes) × ((totals : Totals) × (other : ℕ) × (malformed : ℕ) × IsMeteredText totals other malformed text)
+IsRunText answer text = (answer ≡ Yes) × ((totals : Totals) × (other : ℕ) × (malformed : ℕ)
+    × IsMeteredText totals other malformed text)
 
 -- a sum prints totals, and the notes beside them
 abbrev pub IsSumText : Answer → List ℕ → Type 0
@@ -57,4 +59,5 @@ IsAuditText Unknown text = text ≡ unknown_line
 
 -- a bundle's command is a replay, a check, a confirmation or an audit
 abbrev pub IsBundleText : Answer → List ℕ → Type 0
-IsBundleText answer text = IsReplayText answer text ⊎ (IsCheckText answer text ⊎ (IsConfirmText answer text ⊎ IsAuditText answer text))
+IsBundleText answer text = IsReplayText answer text
+    ⊎ (IsCheckText answer text ⊎ (IsConfirmText answer text ⊎ IsAuditText answer text))

@@ -20,8 +20,8 @@ pub struct PacketAt<'a> {
     pub skipped: Skipped,
 }
 
-/// A receiver of what a command knows when it answers or refuses: besides its documents and the refusal of a certificate,
-/// a refutation, a run, a stream or a bundle.
+/// A receiver of what a command knows when it answers or refuses: besides its documents and the refusal of a
+/// certificate, a refutation, a run, a stream or a bundle.
 pub trait Explainer: CheckExplainer {
     /// Receives the refutation that an audit found or a confirmation confirmed.
     fn on_refutation(&mut self, documents: &AcceptedDocuments, refutation: &Refutation);

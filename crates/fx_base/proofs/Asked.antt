@@ -6,13 +6,15 @@ use Rattle.fx_base.specs.Lines.{Lines, CallsForLines}
 
 -- after some calls, and then more
 pub asked_then : (a b c m n : ℕ) → IsAsked a m b → IsAsked b n c → IsAsked a (m + n) c
-asked_then a b c m zero first next = subst (λ k. IsAsked a k c) (let e : m ≡ m + zero = omega arith in e) (subst (IsAsked a m) (sym next) first)
+asked_then a b c m zero first next = subst (λ k. IsAsked a k c) (let e : m ≡ m + zero = omega arith in e)
+    (subst (IsAsked a m) (sym next) first)
 asked_then a b c zero (suc n) first next =
     let same : zero + suc n ≡ suc n = omega arith in
     subst (λ k. IsAsked a k c) (sym same) (subst (λ x. IsAsked x (suc n) c) first next)
 asked_then a b c (suc m) (suc n) first next =
     let more : a + suc m + suc n ≡ a + suc (m + suc n) = omega arith in
-    let all : c ≡ (a + suc (m + suc n)) % 2 ^ 64 = next ∙ ap (λ x. (x + suc n) % 2 ^ 64) first ∙ mod-add-mod (a + suc m) (2 ^ 64) (suc n) ∙ ap (λ k. k % 2 ^ 64) more in
+    let all : c ≡ (a + suc (m + suc n)) % 2 ^ 64 = next ∙ ap (λ x. (x + suc n) % 2 ^ 64) first
+    ∙ mod-add-mod (a + suc m) (2 ^ 64) (suc n) ∙ ap (λ k. k % 2 ^ 64) more in
     let same : suc m + suc n ≡ suc (m + suc n) = omega arith in
     subst (λ k. IsAsked a k c) (sym same) all
 

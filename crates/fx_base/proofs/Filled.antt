@@ -14,10 +14,20 @@ use Rattle.fx_base.specs.declared.fault.Place.TheVariants as places
 -- what a window sees of its buffer
 abbrev pub seen : List ℕ → ℕ → ℕ → Option (List ℕ) → Bool → ℕ → ℕ → Held
 seen bytes start end left failed calls asked =
-    record { room = length bytes; held = slice_range bytes start end; left = left; failed = failed; calls = calls; asked = asked }
+    record {
+      room = length bytes;
+      held = slice_range bytes start end;
+      left = left;
+      failed = failed;
+      calls =
+          calls;
+      asked = asked;
+    }
 
-pub held_count : (bytes : List ℕ) (start end : ℕ) → end ≤ length bytes → length (slice_range bytes start end) ≡ end - start
-held_count bytes start end within = length-take-le (end - start) (drop start bytes) (omega (arith, length-drop start bytes, within))
+pub held_count : (bytes : List ℕ) (start end : ℕ) → end ≤ length bytes → length (slice_range bytes start end)
+    ≡ end - start
+held_count bytes start end within = length-take-le (end - start) (drop start bytes)
+    (omega (arith, length-drop start bytes, within))
 
 -- what filling it has to do
 abbrev pub Fills : Held → Held → ℕ → Result Unit Fault → Type 0
@@ -27,8 +37,10 @@ Fills old new want result = record {
   room : new.room ≡ old.room;
   enough : OnOk result (length new.held < want → IfSome new.left (λ left. left ≡ []));
   idle : want ≤ length old.held → new ≡ old;
-  fits : (length old.held ≤ length new.held) × (length new.held ≤ old.room) × (length old.held < length new.held → old.calls < new.calls);
-  spent : (new.calls + length old.held ≤ old.calls + length new.held + 1) × (want ≤ length new.held → new.calls + length old.held ≤ old.calls + length new.held);
+  fits : (length old.held ≤ length new.held) × (length new.held ≤ old.room)
+      × (length old.held < length new.held → old.calls < new.calls);
+  spent : (new.calls + length old.held ≤ old.calls + length new.held + 1)
+      × (want ≤ length new.held → new.calls + length old.held ≤ old.calls + length new.held);
   calls : (old.calls ≤ new.calls) × (new.calls ≤ call_limit);
   asked : IsAsked old.asked (new.calls - old.calls) new.asked;
   err : IfErr result (λ e. (e ≡ fault_at failed_read places.None) × HasFailed old new);
@@ -44,11 +56,14 @@ Gathers before n old after end new want result = record {
   spent : (new.calls + n ≤ old.calls + end + 1) × (want ≤ end → new.calls + n ≤ old.calls + end);
   calls : (old.calls ≤ new.calls) × (new.calls ≤ call_limit);
   asked : IsAsked old.asked (new.calls - old.calls) new.asked;
-  err : IfErr result (λ e. (e ≡ fault_at failed_read places.None) × ((new.failed ≡ true) ⊎ ((new.calls ≡ call_limit) × IfSome old.left (λ left. call_limit ≤ old.calls + length left))));
+  err : IfErr result (λ e. (e ≡ fault_at failed_read places.None)
+      × ((new.failed ≡ true) ⊎ ((new.calls ≡ call_limit)
+      × IfSome old.left (λ left. call_limit ≤ old.calls + length left))));
 }
 
 -- a window that holds as much as is wanted
-pub nothing_to_fill : (w : Held) (want : ℕ) → want ≤ length w.held → length w.held ≤ w.room → w.calls ≤ call_limit → Fills w w want (Ok tt)
+pub nothing_to_fill : (w : Held) (want : ℕ) → want ≤ length w.held → length w.held ≤ w.room → w.calls ≤ call_limit
+    → Fills w w want (Ok tt)
 nothing_to_fill w want all room calls = record {
   octets = refl;
   front = take_all (length w.held) w.held (omega arith);
@@ -62,20 +77,27 @@ nothing_to_fill w want all room calls = record {
   err = tt;
 }
 
-module _ (items before after : List ℕ) (start end last want : ℕ) (left left' : Option (List ℕ)) (failed failed' : Bool) (calls calls' asked asked' : ℕ) (result : Result Unit Fault) where
+module _ (items before after : List ℕ) (start end last want : ℕ) (left left' : Option (List ℕ)) (failed failed' : Bool)
+    (calls calls' asked asked' : ℕ) (result : Result Unit Fault) where
   abbrev old : Held
   old = seen items start end left failed calls asked
 
   abbrev new : List ℕ → Held
   new held = record { room = length after; held = held; left = left'; failed = failed'; calls = calls'; asked = asked' }
 
-  with_front : (held : List ℕ) → held ≡ take last after → IsWindow (length items) start end calls → end - start < want → take (end - start) before ≡ slice_range items start end → length before ≡ length items → length after ≡ length before → Gathers before (end - start) old after last (new held) want result → Fills old (new held) want result
+  with_front : (held : List ℕ) → held ≡ take last after → IsWindow (length items) start end calls → end - start < want
+      → take (end - start) before ≡ slice_range items start end → length before ≡ length items → length after
+      ≡ length before → Gathers before (end - start) old after last (new held) want result
+      → Fills old (new held) want result
   with_front held is_front is few moved size size' g =
       let count : length (slice_range items start end) ≡ end - start = held_count items start end is.end in
-      let count' : length held ≡ last = ap length is_front ∙ length-take-le last after (omega (arith, g.fits.1, size')) in
-      let kept : take (end - start) held ≡ slice_range items start end = ap (take (end - start)) is_front ∙ take-take (end - start) last after g.fits.0 ∙ g.front ∙ moved in
+      let count' : length held ≡ last = ap length is_front ∙ length-take-le last after (omega (arith, g.fits.1, size'))
+      in
+      let kept : take (end - start) held ≡ slice_range items start end = ap (take (end - start)) is_front
+      ∙ take-take (end - start) last after g.fits.0 ∙ g.front ∙ moved in
       record {
-        octets = ap (λ octets. prepend_known octets left') is_front ∙ g.octets ∙ ap (λ octets. prepend_known octets left) moved;
+        octets = ap (λ octets. prepend_known octets left') is_front ∙ g.octets
+            ∙ ap (λ octets. prepend_known octets left) moved;
         front = ap (λ n. take n held) count ∙ kept;
         room = size' ∙ size;
         enough = subst (λ n. OnOk result (n < want → IfSome left' (λ octets. octets ≡ []))) (sym count') g.enough;
@@ -87,5 +109,8 @@ module _ (items before after : List ℕ) (start end last want : ℕ) (left left'
         err = g.err;
       }
 
-  pub filled : IsWindow (length items) start end calls → end - start < want → take (end - start) before ≡ slice_range items start end → length before ≡ length items → length after ≡ length before → Gathers before (end - start) old after last (new (slice_range after 0 last)) want result → Fills old (seen after 0 last left' failed' calls' asked') want result
+  pub filled : IsWindow (length items) start end calls → end - start < want → take (end - start) before
+      ≡ slice_range items start end → length before ≡ length items → length after ≡ length before
+      → Gathers before (end - start) old after last (new (slice_range after 0 last)) want result
+      → Fills old (seen after 0 last left' failed' calls' asked') want result
   filled = with_front (slice_range after 0 last) (let all : last - 0 ≡ last = omega arith in ap (λ n. take n after) all)

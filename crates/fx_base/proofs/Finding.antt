@@ -33,7 +33,8 @@ Finds old new p = record {
   octets : octets_of new ≡ octets_of old;
   room : new.room ≡ ROOM;
   part : IsPart p new.held new.left;
-  smaller : 0 < p.taken → (call_limit - new.calls) * (ROOM + 1) + (length new.held - p.taken) < (call_limit - old.calls) * (ROOM + 1) + length old.held;
+  smaller : 0 < p.taken → (call_limit - new.calls) * (ROOM + 1) + (length new.held - p.taken)
+      < (call_limit - old.calls) * (ROOM + 1) + length old.held;
   spent : new.calls + length old.held ≤ old.calls + length new.held + calls_of_part p;
   calls : old.calls ≤ new.calls;
   asked : IsAsked old.asked (new.calls - old.calls) new.asked;
@@ -64,7 +65,8 @@ nothing_read w room = record {
   asked = none_since w.asked w.calls;
 }
 
-pub more_read : (old w new : Held) (result : Result Unit Fault) → IsReading old w → Fills w new (length w.held + 1) result → (length new.held ≡ length w.held → ⊥) → IsReading old new
+pub more_read : (old w new : Held) (result : Result Unit Fault) → IsReading old w
+    → Fills w new (length w.held + 1) result → (length new.held ≡ length w.held → ⊥) → IsReading old new
 more_read old w new result is fills other =
     let more : length w.held + 1 ≤ length new.held = omega (arith, fills.fits.0, other) in
     record {
@@ -75,10 +77,13 @@ more_read old w new result is fills other =
       few = λ _. fills.calls.1;
       calls = omega (arith, is.calls, fills.calls.0);
       gained = omega (arith, is.gained, fills.spent.1 more);
-      asked = asked_further old.asked w.asked new.asked old.calls w.calls new.calls is.calls fills.calls.0 is.asked fills.asked;
+      asked = asked_further old.asked w.asked new.asked old.calls w.calls new.calls is.calls fills.calls.0 is.asked
+          fills.asked;
     }
 
-fewer_left : (calls0 calls count0 rest : ℕ) → rest ≤ ROOM → calls0 ≤ calls → (calls0 < calls → calls ≤ call_limit) → (calls ≤ calls0 → rest < count0) → (call_limit - calls) * (ROOM + 1) + rest < (call_limit - calls0) * (ROOM + 1) + count0
+fewer_left : (calls0 calls count0 rest : ℕ) → rest ≤ ROOM → calls0 ≤ calls → (calls0 < calls → calls ≤ call_limit)
+    → (calls ≤ calls0 → rest < count0) → (call_limit - calls) * (ROOM + 1) + rest < (call_limit - calls0) * (ROOM + 1)
+    + count0
 fewer_left calls0 calls count0 rest within more few same =
     elim (cases_lt calls0 calls) [
       | inl lt ↦ omega (arith, within, lt, few lt)
@@ -93,7 +98,9 @@ no_more old w is le =
     ]
 
 -- a line feed ends it
-pub found : (old w : Held) (bytes : List ℕ) (n : ℕ) → IsReading old w → bytes ≡ w.held → length bytes ≤ w.room → (n ≡ line_len bytes) × (n < length bytes) → n ≤ line_length_limit → Finds old w (record { line = n; taken = n + 1 })
+pub found : (old w : Held) (bytes : List ℕ) (n : ℕ) → IsReading old w → bytes ≡ w.held → length bytes ≤ w.room
+    → (n ≡ line_len bytes) × (n < length bytes) → n ≤ line_length_limit
+    → Finds old w (record { line = n; taken = n + 1 })
 found old w bytes n is same room feed short =
     let size : length bytes ≡ length w.held = ap length same in
     record {
@@ -105,7 +112,8 @@ found old w bytes n is same room feed short =
         short = short;
         first = inl (feed.0, feed.1, refl);
       });
-      smaller = λ _. fewer_left old.calls w.calls (length old.held) (length w.held - (n + 1)) (omega (arith, size, room, is.room)) is.calls is.few (λ le. omega (arith, size, feed.1, no_more old w is le));
+      smaller = λ _. fewer_left old.calls w.calls (length old.held) (length w.held - (n + 1))
+          (omega (arith, size, room, is.room)) is.calls is.few (λ le. omega (arith, size, feed.1, no_more old w is le));
       spent = omega (arith, is.gained);
       calls = is.calls;
       asked = is.asked;
@@ -113,10 +121,13 @@ found old w bytes n is same room feed short =
     }
 
 -- all that is held is the last line
-pub found_last : (old w new : Held) (bytes : List ℕ) → IsReading old w → bytes ≡ w.held → length bytes ≤ w.room → line_len bytes ≡ length bytes → length bytes ≤ line_length_limit → Fills w new (length bytes + 1) (Ok tt) → length new.held ≡ length bytes → Finds old new (record { line = length bytes; taken = length bytes })
+pub found_last : (old w new : Held) (bytes : List ℕ) → IsReading old w → bytes ≡ w.held → length bytes ≤ w.room
+    → line_len bytes ≡ length bytes → length bytes ≤ line_length_limit → Fills w new (length bytes + 1) (Ok tt)
+    → length new.held ≡ length bytes → Finds old new (record { line = length bytes; taken = length bytes })
 found_last old w new bytes is same room none short fills all =
     let size : length bytes ≡ length w.held = ap length same in
-    let held : bytes ≡ new.held = same ∙ sym fills.front ∙ take_all (length w.held) new.held (omega (arith, size, all)) in
+    let held : bytes ≡ new.held = same ∙ sym fills.front ∙ take_all (length w.held) new.held (omega (arith, size, all))
+    in
     record {
       octets = fills.octets ∙ is.octets;
       room = fills.room ∙ is.room;
@@ -126,10 +137,13 @@ found_last old w new bytes is same room none short fills all =
         short = short;
         first = inr (none, refl, refl, fills.enough (omega (arith, all)));
       });
-      smaller = λ some. fewer_left old.calls new.calls (length old.held) (length new.held - length bytes) (omega (arith, all)) (omega (arith, is.calls, fills.calls.0)) (λ _. fills.calls.1) (λ le. omega (arith, all, some, size, no_more old w is (omega (arith, le, fills.calls.0))));
+      smaller = λ some. fewer_left old.calls new.calls (length old.held) (length new.held - length bytes)
+          (omega (arith, all)) (omega (arith, is.calls, fills.calls.0)) (λ _. fills.calls.1)
+          (λ le. omega (arith, all, some, size, no_more old w is (omega (arith, le, fills.calls.0))));
       spent = rw (le-ltb (length bytes) (length bytes) (omega arith)) (omega (arith, is.gained, fills.spent.0));
       calls = omega (arith, is.calls, fills.calls.0);
-      asked = asked_further old.asked w.asked new.asked old.calls w.calls new.calls is.calls fills.calls.0 is.asked fills.asked;
+      asked = asked_further old.asked w.asked new.asked old.calls w.calls new.calls is.calls fills.calls.0 is.asked
+          fills.asked;
       stop = tt;
     }
 
@@ -145,7 +159,8 @@ stops old w stop is why = record {
   stop = why;
 }
 
-pub stops_reading : (old w new : Held) (want : ℕ) (result : Result Unit Fault) (stop : LineStop) → IsReading old w → Fills w new want result → IsWhyNoLine stop old new → Stops old new stop
+pub stops_reading : (old w new : Held) (want : ℕ) (result : Result Unit Fault) (stop : LineStop) → IsReading old w
+    → Fills w new want result → IsWhyNoLine stop old new → Stops old new stop
 stops_reading old w new want result stop is fills why = record {
   octets = fills.octets ∙ is.octets;
   room = fills.room ∙ is.room;
@@ -153,6 +168,7 @@ stops_reading old w new want result stop is fills why = record {
   smaller = tt;
   spent = tt;
   calls = omega (arith, is.calls, fills.calls.0);
-  asked = asked_further old.asked w.asked new.asked old.calls w.calls new.calls is.calls fills.calls.0 is.asked fills.asked;
+  asked = asked_further old.asked w.asked new.asked old.calls w.calls new.calls is.calls fills.calls.0 is.asked
+      fills.asked;
   stop = why;
 }

@@ -15,7 +15,9 @@ at_once l = record {
   };
   gains = same l.left;
 } where
-  same : (o : Option (List ℕ)) → IfSome o (λ text. (rest : List ℕ) × (o ≡ Some rest) × (l.calls + (length rest - l.held) ≤ l.calls + (length text - l.held)))
+  same : (o : Option (List ℕ)) → IfSome o
+      (λ text. (rest : List ℕ) × (o ≡ Some rest)
+      × (l.calls + (length rest - l.held) ≤ l.calls + (length text - l.held)))
   same None = tt
   same (Some text) = (text, refl, omega arith)
 
@@ -25,15 +27,20 @@ to_line old new at ended = record {
   asks = at.asks;
   gains = gained old.left refl;
 } where
-  all : (text rest : List ℕ) → old.left ≡ Some text → new.left ≡ Some rest → GainsLines old new → new.calls + (length rest - new.held) ≤ old.calls + (length text - old.held)
+  all : (text rest : List ℕ) → old.left ≡ Some text → new.left ≡ Some rest → GainsLines old new → new.calls
+      + (length rest - new.held) ≤ old.calls + (length text - old.held)
   all text rest is left gains =
-      let le : new.calls + (length rest - new.held) ≤ old.calls + (length text - old.held) + (if new.ended then 0 else 1) = rw (is, left) at gains in
+      let le : new.calls + (length rest - new.held) ≤ old.calls + (length text - old.held)
+      + (if new.ended then 0 else 1) = rw (is, left) at gains in
       omega (arith, rw ended at le)
 
-  gained : (o : Option (List ℕ)) → old.left ≡ o → IfSome o (λ text. (rest : List ℕ) × (new.left ≡ Some rest) × (new.calls + (length rest - new.held) ≤ old.calls + (length text - old.held)))
+  gained : (o : Option (List ℕ)) → old.left ≡ o
+      → IfSome o (λ text. (rest : List ℕ) × (new.left ≡ Some rest)
+      × (new.calls + (length rest - new.held) ≤ old.calls + (length text - old.held)))
   gained None is = tt
   gained (Some text) is =
-      let reported : (0 < length text) × (new.line ≡ first_line text) × (new.ended ≡ line_ends text) × (new.left ≡ Some (after_line text)) = rw is at at.text in
+      let reported : (0 < length text) × (new.line ≡ first_line text) × (new.ended ≡ line_ends text)
+      × (new.left ≡ Some (after_line text)) = rw is at at.text in
       (after_line text, reported.3, all text (after_line text) is reported.3 at.gains)
 
 pub goes_then : (k l m : Lines) → GoesOnToLines k l → GoesOnToLines l m → GoesOnToLines k m
@@ -41,26 +48,38 @@ goes_then k l m first next = record {
   asks = asks_then k l m first.asks next.asks;
   gains = gained k.left first.gains;
 } where
-  behind : (text rest : List ℕ) → l.left ≡ Some rest → l.calls + (length rest - l.held) ≤ k.calls + (length text - k.held) → (last : List ℕ) × (m.left ≡ Some last) × (m.calls + (length last - m.held) ≤ k.calls + (length text - k.held))
+  behind : (text rest : List ℕ) → l.left ≡ Some rest → l.calls + (length rest - l.held) ≤ k.calls
+      + (length text - k.held) → (last : List ℕ) × (m.left ≡ Some last)
+      × (m.calls + (length last - m.held) ≤ k.calls + (length text - k.held))
   behind text rest is le =
-      let h : (last : List ℕ) × (m.left ≡ Some last) × (m.calls + (length last - m.held) ≤ l.calls + (length rest - l.held)) = rw is at next.gains in
+      let h : (last : List ℕ) × (m.left ≡ Some last)
+      × (m.calls + (length last - m.held) ≤ l.calls + (length rest - l.held)) = rw is at next.gains in
       (h.0, h.1, omega (arith, h.2, le))
 
-  gained : (o : Option (List ℕ)) → IfSome o (λ text. (rest : List ℕ) × (l.left ≡ Some rest) × (l.calls + (length rest - l.held) ≤ k.calls + (length text - k.held))) → IfSome o (λ text. (last : List ℕ) × (m.left ≡ Some last) × (m.calls + (length last - m.held) ≤ k.calls + (length text - k.held)))
+  gained : (o : Option (List ℕ)) → IfSome o
+      (λ text. (rest : List ℕ) × (l.left ≡ Some rest)
+      × (l.calls + (length rest - l.held) ≤ k.calls + (length text - k.held)))
+      → IfSome o (λ text. (last : List ℕ) × (m.left ≡ Some last)
+      × (m.calls + (length last - m.held) ≤ k.calls + (length text - k.held)))
   gained None h = tt
   gained (Some text) h = behind text h.0 h.1 h.2
 
 pub cut_off_behind : (k l m : Lines) → GoesOnToLines k l → IsTextCutOff l m → IsTextCutOff k m
 cut_off_behind k l m first (inl failed) = inl failed
-cut_off_behind k l m first (inr (all, asks, endless)) = inr (all, asks_then k l m first.asks asks, gained k.left first.gains) where
-  behind : (text rest : List ℕ) → l.left ≡ Some rest → l.calls + (length rest - l.held) ≤ k.calls + (length text - k.held) → call_limit ≤ k.calls + (length text - k.held)
-  behind text rest is le =
-      let h : call_limit ≤ l.calls + (length rest - l.held) = rw is at endless in
-      omega (arith, h, le)
+cut_off_behind k l m first (inr (all, asks, endless)) =
+    inr (all, asks_then k l m first.asks asks, gained k.left first.gains) where
+      behind : (text rest : List ℕ) → l.left ≡ Some rest → l.calls + (length rest - l.held) ≤ k.calls
+          + (length text - k.held) → call_limit ≤ k.calls + (length text - k.held)
+      behind text rest is le =
+          let h : call_limit ≤ l.calls + (length rest - l.held) = rw is at endless in
+          omega (arith, h, le)
 
-  gained : (o : Option (List ℕ)) → IfSome o (λ text. (rest : List ℕ) × (l.left ≡ Some rest) × (l.calls + (length rest - l.held) ≤ k.calls + (length text - k.held))) → IfSome o (λ text. call_limit ≤ k.calls + (length text - k.held))
-  gained None h = tt
-  gained (Some text) h = behind text h.0 h.1 h.2
+      gained : (o : Option (List ℕ)) → IfSome o
+          (λ text. (rest : List ℕ) × (l.left ≡ Some rest)
+          × (l.calls + (length rest - l.held) ≤ k.calls + (length text - k.held)))
+          → IfSome o (λ text. call_limit ≤ k.calls + (length text - k.held))
+      gained None h = tt
+      gained (Some text) h = behind text h.0 h.1 h.2
 
 -- ---- what may be left
 
@@ -87,7 +106,9 @@ all_first text none =
 -- behind a line that none ended, nothing is left
 pub nothing_follows : (old new : Lines) → AtLine old new → new.ended ≡ false → MayFollow new []
 nothing_follows old new at ended = (reported old.left refl at.text, λ e. refl) where
-  reported : (o : Option (List ℕ)) → old.left ≡ o → IfSome o (λ text. (0 < length text) × (new.line ≡ first_line text) × (new.ended ≡ line_ends text) × (new.left ≡ Some (after_line text))) → MayBeLeft new.left []
+  reported : (o : Option (List ℕ)) → old.left ≡ o
+      → IfSome o (λ text. (0 < length text) × (new.line ≡ first_line text) × (new.ended ≡ line_ends text)
+      × (new.left ≡ Some (after_line text))) → MayBeLeft new.left []
   reported None is h = rw (at.opaque is) tt
   reported (Some text) is h = rw h.3 (sym (all_first text (sym h.2 ∙ ended)))
 

@@ -6,11 +6,13 @@ use Rattle.std.specs.Io.KnownBytes.{prepend_known}
 use Rattle.fx_base.specs.Device.{MayBeLeft, ReadsInto}
 
 -- a piece is held, and what is left behind it
-pub piece_held : (piece : List ℕ) (n room : ℕ) (old new : Option (List ℕ)) → ReadsInto old new room piece n → prepend_known piece new ≡ old
+pub piece_held : (piece : List ℕ) (n room : ℕ) (old new : Option (List ℕ)) → ReadsInto old new room piece n
+    → prepend_known piece new ≡ old
 piece_held piece n room None new r = rw r refl
 piece_held piece n room (Some octets) new r = rw (r.octets_are, r.rest) (ap Some (take-append-drop n octets))
 
-pub no_piece : (piece : List ℕ) (n room : ℕ) (old new : Option (List ℕ)) → ReadsInto old new room piece n → n ≡ 0 → 1 ≤ room → IfSome old (λ left. left ≡ [])
+pub no_piece : (piece : List ℕ) (n room : ℕ) (old new : Option (List ℕ)) → ReadsInto old new room piece n → n ≡ 0 → 1
+    ≤ room → IfSome old (λ left. left ≡ [])
 no_piece piece n room None new r none some = tt
 no_piece piece n room (Some octets) new r none some = r.end none some
 
@@ -18,7 +20,8 @@ pub none_there : (n : ℕ) → nat_lt 0 n ≡ false → n ≡ 0
 none_there zero none = refl
 none_there (suc n) some = absurd (false≢true (sym some ∙ lt-ltb 0 (suc n) (omega arith)))
 
-module _ (held piece : List ℕ) (old now new : Option (List ℕ)) (before : prepend_known held now ≡ old) (read : prepend_known piece new ≡ now) where
+module _ (held piece : List ℕ) (old now new : Option (List ℕ)) (before : prepend_known held now ≡ old)
+    (read : prepend_known piece new ≡ now) where
   pub stays_opaque : old ≡ None → new ≡ None
   stays_opaque none = by new read where
     by : (o : Option (List ℕ)) → prepend_known piece o ≡ now → o ≡ None
@@ -40,7 +43,8 @@ module _ (held piece : List ℕ) (old now new : Option (List ℕ)) (before : pre
     last [] (Some rest) is = is
     last (b ∷ bs) (Some rest) is = absurd (cc)
 
-    by : (o : Option (List ℕ)) → IfSome o (λ left. left ≡ []) → prepend_known piece new ≡ o → IfSome (prepend_known held o) (λ _. new ≡ Some [])
+    by : (o : Option (List ℕ)) → IfSome o (λ left. left ≡ []) → prepend_known piece new ≡ o
+        → IfSome (prepend_known held o) (λ _. new ≡ Some [])
     by None end is = tt
     by (Some left) end is = last piece new (is ∙ ap Some end)
 

@@ -23,7 +23,8 @@ shown_low b h = elim (nat_lt b 32 || b == 127) as (λ t. cond t 63 b < 128) [ tr
 kept_cons : (b : ℕ) (bs : List ℕ) → 128 ≤ b → map shown bs ≡ bs → map shown (b ∷ bs) ≡ b ∷ bs
 kept_cons b bs high kept = rw (shown_high b high) (ap (λ (l : List ℕ). b ∷ l) kept)
 
-kept_either : (t : Bool) (xs ys : List ℕ) → map shown xs ≡ xs → map shown ys ≡ ys → map shown (cond t xs ys) ≡ cond t xs ys
+kept_either : (t : Bool) (xs ys : List ℕ) → map shown xs ≡ xs → map shown ys ≡ ys → map shown (cond t xs ys)
+    ≡ cond t xs ys
 kept_either true xs ys p q = p
 kept_either false xs ys p q = q
 
@@ -31,13 +32,16 @@ encode_high : (c : ℕ) → 128 ≤ c → map shown (encode c) ≡ encode c
 unfolding encode
 encode_high c h =
     let last : map shown (next c ∷ []) ≡ next c ∷ [] = kept_cons (next c) [] (omega arith) refl in
-    let middle : map shown (next (c / 64) ∷ next c ∷ []) ≡ next (c / 64) ∷ next c ∷ [] = kept_cons (next (c / 64)) (next c ∷ []) (omega arith) last in
-    let after : map shown (next (c / 4096) ∷ next (c / 64) ∷ next c ∷ []) ≡ next (c / 4096) ∷ next (c / 64) ∷ next c ∷ [] = kept_cons (next (c / 4096)) (next (c / 64) ∷ next c ∷ []) (omega arith) middle in
+    let middle : map shown (next (c / 64) ∷ next c ∷ []) ≡ next (c / 64) ∷ next c ∷ [] =
+    kept_cons (next (c / 64)) (next c ∷ []) (omega arith) last in
+    let after : map shown (next (c / 4096) ∷ next (c / 64) ∷ next c ∷ []) ≡ next (c / 4096) ∷ next (c / 64) ∷ next c
+    ∷ [] = kept_cons (next (c / 4096)) (next (c / 64) ∷ next c ∷ []) (omega arith) middle in
     rw (le-ltb c 128 h) (
     kept_either
     (nat_lt c 2048)
     ((192 + c / 64) ∷ next c ∷ [])
-    (cond (nat_lt c 65536) ((224 + c / 4096) ∷ next (c / 64) ∷ next c ∷ []) ((240 + c / 262144) ∷ next (c / 4096) ∷ next (c / 64) ∷ next c ∷ []))
+    (cond (nat_lt c 65536) ((224 + c / 4096) ∷ next (c / 64) ∷ next c ∷ [])
+    ((240 + c / 262144) ∷ next (c / 4096) ∷ next (c / 64) ∷ next c ∷ []))
     (kept_cons (192 + c / 64) (next c ∷ []) (omega arith) last)
     (
     kept_either

@@ -5,12 +5,14 @@ use Rattle.fx_elements.specs.Axes.{Fields, axis_index}
 use Rattle.fx_elements.proofs.EveryAxis.{placed, on_axis, on_axes, index_below}
 use Rattle.fx_boxes.specs.Boxes.{Bounds, Holds, holds, is_between}
 
-between_is : (b : Bounds) (f : Fields) (k : ℕ) → is_between b f k ≡ true → (get_or b.low k 0 ≤ get_or f k 0) × (get_or f k 0 ≤ get_or b.high k 0)
+between_is : (b : Bounds) (f : Fields) (k : ℕ) → is_between b f k ≡ true → (get_or b.low k 0 ≤ get_or f k 0)
+    × (get_or f k 0 ≤ get_or b.high k 0)
 between_is b f k h =
     let parts = and_parts (nat_le (get_or b.low k 0) (get_or f k 0)) (nat_le (get_or f k 0) (get_or b.high k 0)) h in
     (leb-true _ _ parts.0, leb-true _ _ parts.1)
 
-is_between_if : (b : Bounds) (f : Fields) (k : ℕ) → (get_or b.low k 0 ≤ get_or f k 0) × (get_or f k 0 ≤ get_or b.high k 0) → is_between b f k ≡ true
+is_between_if : (b : Bounds) (f : Fields) (k : ℕ) → (get_or b.low k 0 ≤ get_or f k 0)
+    × (get_or f k 0 ≤ get_or b.high k 0) → is_between b f k ≡ true
 is_between_if b f k h = and_from _ _ (le-leb _ _ h.0) (le-leb _ _ h.1)
 
 -- the test says that the fields are in the region
@@ -21,7 +23,8 @@ holds_is b f h k lt =
 
 -- fields in the region pass the test
 pub holds_if : (b : Bounds) (f : Fields) → Holds b f → holds b f ≡ true
-holds_if b f h = on_axes (λ axis. is_between b f (axis_index axis)) (λ axis. is_between_if b f (axis_index axis) (h (axis_index axis) (index_below axis)))
+holds_if b f h = on_axes (λ axis. is_between b f (axis_index axis))
+    (λ axis. is_between_if b f (axis_index axis) (h (axis_index axis) (index_below axis)))
 
 pub fields_read : (r : Bool) (b : Bounds) (f : Fields) → IsTrue r ↔ Holds b f → r ≡ holds b f
 fields_read true b f h = sym (holds_if b f (h.0 refl))

@@ -8,16 +8,19 @@ use Rattle.fx_elements.specs.Axes.{axis_count}
 use Rattle.fx_boxes.specs.Boxes.{Bounds, Holds, IsStrictlyInside, below_part, above_part}
 
 -- where the value at j becomes x, the value at k is x if k is j, and else what it was
-set_tells : (xs : List ℕ) (j x k : ℕ) → j < length xs → ((k ≡ j) × (get_or (set xs j x) k 0 ≡ x)) ⊎ ((k ≢ j) × (get_or (set xs j x) k 0 ≡ get_or xs k 0))
+set_tells : (xs : List ℕ) (j x k : ℕ) → j < length xs → ((k ≡ j) × (get_or (set xs j x) k 0 ≡ x))
+    ⊎ ((k ≢ j) × (get_or (set xs j x) k 0 ≡ get_or xs k 0))
 set_tells xs j x k len = elim (eqb_tells k j) [
   | inl same ↦ inl (same.1, get_or-set_at xs j k x 0 same.1 len)
   | inr other ↦ inr (other.1, get_or-set_other xs j k x 0 other.1)
 ]
 
-pub below_is : (b : Bounds) (j at : ℕ) → j < axis_count → j < length b.high → IsStrictlyInside b j at → (f : List ℕ) → Holds (below_part b j at) f ↔ (Holds b f × (get_or f j 0 < at))
+pub below_is : (b : Bounds) (j at : ℕ) → j < axis_count → j < length b.high → IsStrictlyInside b j at → (f : List ℕ)
+    → Holds (below_part b j at) f ↔ (Holds b f × (get_or f j 0 < at))
 below_is b j at lt len inside f = (
   λ h.
-      let here : get_or f j 0 < at = omega (arith, (h j lt).1, get_or-set_at b.high j j (at - 1) 0 refl len, inside.0) in (
+      let here : get_or f j 0 < at = omega (arith, (h j lt).1, get_or-set_at b.high j j (at - 1) 0 refl len, inside.0)
+      in (
         λ k less. (
           (h k less).0,
           elim (set_tells b.high j (at - 1) k len) [
@@ -36,7 +39,8 @@ below_is b j at lt len inside f = (
   ),
 )
 
-pub above_is : (b : Bounds) (j at : ℕ) → j < axis_count → j < length b.low → IsStrictlyInside b j at → (f : List ℕ) → Holds (above_part b j at) f ↔ (Holds b f × (at ≤ get_or f j 0))
+pub above_is : (b : Bounds) (j at : ℕ) → j < axis_count → j < length b.low → IsStrictlyInside b j at → (f : List ℕ)
+    → Holds (above_part b j at) f ↔ (Holds b f × (at ≤ get_or f j 0))
 above_is b j at lt len inside f = (
   λ h.
       let here : at ≤ get_or f j 0 = omega (arith, (h j lt).0, get_or-set_at b.low j j at 0 refl len) in (

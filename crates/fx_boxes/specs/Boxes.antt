@@ -14,11 +14,13 @@ pub record Bounds : Type 0 where
 
 -- low and high values on each axis, in order, and none above the greatest
 abbrev pub IsRegion : Bounds → Type 0
-IsRegion b = (k : ℕ) → k < axis_count → (slice_index b.low k ≤ slice_index b.high k) × (slice_index b.high k ≤ slice_index tops k)
+IsRegion b = (k : ℕ) → k < axis_count → (slice_index b.low k ≤ slice_index b.high k)
+    × (slice_index b.high k ≤ slice_index tops k)
 
 -- the fields are in the region
 abbrev pub Holds : Bounds → Fields → Type 0
-Holds b f = (k : ℕ) → k < axis_count → (slice_index b.low k ≤ slice_index f k) × (slice_index f k ≤ slice_index b.high k)
+Holds b f = (k : ℕ) → k < axis_count → (slice_index b.low k ≤ slice_index f k)
+    × (slice_index f k ≤ slice_index b.high k)
 
 -- the value at index k is from its low to its high
 abbrev pub is_between : Bounds → Fields → ℕ → Bool

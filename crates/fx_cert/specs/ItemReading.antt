@@ -19,7 +19,8 @@ unfoldable pub class_of : List ℕ → Option Item
 class_of text = do
   a ← cut_at 32 text
   b ← cut_at 32 a.1
-  if bytes_eq b.0 (codes "path") then (number_of largest a.0 >>= λ class. number_of largest b.1 >>= λ path. Some (Class class path)) else None
+  if bytes_eq b.0 (codes "path") then (number_of largest a.0 >>= λ class. number_of largest b.1 >>= λ path.
+      Some (Class class path)) else None
 
 -- the item whose text follows the word `S`
 unfoldable pub split_of : List ℕ → Option Item

@@ -26,18 +26,26 @@ use Rattle.fx_check.proofs.Trees.{on, verdict, right_only, right_all}
 is_line : (l : Line) (i : Item) → reading_of l ≡ says i → (l ≡ item_line i) × IsWritable i
 is_line l i e = by_length (nat_lt 4096 (length l.0)) refl l.1 refl e where
   is_text : l.1 ≡ true → length l.0 ≤ 4096 → IsItemText l.0 i → (l ≡ item_line i) × IsWritable i
-  is_text ended short text = (ap₂ (λ (a : List ℕ) (b : Bool). let l : Line = (a, b) in l) text.1 ended, (text.0, rw (← text.1) short))
+  is_text ended short text = (
+    ap₂ (λ (a : List ℕ) (b : Bool). let l : Line = (a, b) in l) text.1 ended,
+    (text.0, rw (← text.1) short),
+  )
 
-  by_text : (o : Option Item) → item_of l.0 ≡ o → said o ≡ says i → l.1 ≡ true → length l.0 ≤ 4096 → (l ≡ item_line i) × IsWritable i
+  by_text : (o : Option Item) → item_of l.0 ≡ o → said o ≡ says i → l.1 ≡ true → length l.0 ≤ 4096 → (l ≡ item_line i)
+      × IsWritable i
   by_text None is e ended short = absurd cc
-  by_text (Some j) is e ended short = let same : j ≡ i = cc in is_text ended short (item_found l.0 i (is ∙ ap (λ x. Some x) same))
+  by_text (Some j) is e ended short = let same : j ≡ i = cc in
+      is_text ended short (item_found l.0 i (is ∙ ap (λ x. Some x) same))
 
-  by_length : (b : Bool) → nat_lt 4096 (length l.0) ≡ b → (f : Bool) → l.1 ≡ f → cond b long (cond f (said (item_of l.0)) cut) ≡ says i → (l ≡ item_line i) × IsWritable i
+  by_length : (b : Bool) → nat_lt 4096 (length l.0) ≡ b → (f : Bool) → l.1 ≡ f
+      → cond b long (cond f (said (item_of l.0)) cut) ≡ says i → (l ≡ item_line i) × IsWritable i
   by_length true is f ended e = absurd cc
   by_length false is false ended e = absurd cc
-  by_length false is true ended e = by_text (item_of l.0) refl e ended (let n = leb-false 4097 (length l.0) is in omega (arith, n))
+  by_length false is true ended e = by_text (item_of l.0) refl e ended
+      (let n = leb-false 4097 (length l.0) is in omega (arith, n))
 
-are_lines : (ls : List Line) (is : List Item) → map reading_of ls ≡ map says is → (ls ≡ map item_line is) × AllByRecursion IsWritable is
+are_lines : (ls : List Line) (is : List Item) → map reading_of ls ≡ map says is → (ls ≡ map item_line is)
+    × AllByRecursion IsWritable is
 are_lines [] [] e = (refl, tt)
 are_lines [] (i ∷ is) e = absurd cc
 are_lines (l ∷ ls) [] e = absurd cc
@@ -50,31 +58,46 @@ are_lines (l ∷ ls) (i ∷ is) e =
 
 say_items : (is : List Item) → AllByRecursion IsWritable is → map reading_of (map item_line is) ≡ map says is
 say_items [] h = refl
-say_items (i ∷ is) h = ap₂ (λ (x : LineReading) (xs : List LineReading). x ∷ xs) (line_says (item_text i) true i refl h.0.1 (h.0.0, refl)) (say_items is h.1)
+say_items (i ∷ is) h = ap₂ (λ (x : LineReading) (xs : List LineReading). x ∷ xs)
+    (line_says (item_text i) true i refl h.0.1 (h.0.0, refl)) (say_items is h.1)
 
 -- ---- no refusal is no fault
 
-no_fault : (judge : Judge) (n made : ℕ) (gs : List Goal) (ls : List Line) → first_refusal judge n made gs ls ≡ None → verdict judge made gs (map reading_of ls) ≡ None
+no_fault : (judge : Judge) (n made : ℕ) (gs : List Goal) (ls : List Line) → first_refusal judge n made gs ls ≡ None
+    → verdict judge made gs (map reading_of ls) ≡ None
 no_fault judge n made [] [] e = refl
 no_fault judge n made (g ∷ gs) [] e = absurd cc
-no_fault judge n made gs (l ∷ ls) e = go (λ left h. no_fault judge (next_number n) (made_after made (reading_of l)) left ls h) (after_reading judge made gs (reading_of l)) e where
-  go : ((left : List Goal) → first_refusal judge (next_number n) (made_after made (reading_of l)) left ls ≡ None → verdict judge (made_after made (reading_of l)) left (map reading_of ls) ≡ None)
-      → (r : Result (List Goal) ℕ) → goes_on (next_number n) ls (λ left. first_refusal judge (next_number n) (made_after made (reading_of l)) left ls) r ≡ None → on (λ left. verdict judge (made_after made (reading_of l)) left (map reading_of ls)) r ≡ None
-  go more (Ok left) e = more left e
-  go more (Err k) e = absurd cc
+no_fault judge n made gs (l ∷ ls) e = go
+    (λ left h. no_fault judge (next_number n) (made_after made (reading_of l)) left ls h)
+    (after_reading judge made gs (reading_of l)) e where
+      go : ((left : List Goal) → first_refusal judge (next_number n) (made_after made (reading_of l)) left ls ≡ None
+          → verdict judge (made_after made (reading_of l)) left (map reading_of ls) ≡ None)
+          → (r : Result (List Goal) ℕ) → goes_on (next_number n) ls
+          (λ left. first_refusal judge (next_number n) (made_after made (reading_of l)) left ls) r ≡ None
+          → on (λ left. verdict judge (made_after made (reading_of l)) left (map reading_of ls)) r ≡ None
+      go more (Ok left) e = more left e
+      go more (Err k) e = absurd cc
 
-no_refusal : (judge : Judge) (n made : ℕ) (gs : List Goal) (ls : List Line) → verdict judge made gs (map reading_of ls) ≡ None → first_refusal judge n made gs ls ≡ None
+no_refusal : (judge : Judge) (n made : ℕ) (gs : List Goal) (ls : List Line) → verdict judge made gs (map reading_of ls)
+    ≡ None → first_refusal judge n made gs ls ≡ None
 no_refusal judge n made [] [] e = refl
 no_refusal judge n made (g ∷ gs) [] e = absurd cc
-no_refusal judge n made gs (l ∷ ls) e = go (λ left h. no_refusal judge (next_number n) (made_after made (reading_of l)) left ls h) (after_reading judge made gs (reading_of l)) e where
-  go : ((left : List Goal) → verdict judge (made_after made (reading_of l)) left (map reading_of ls) ≡ None → first_refusal judge (next_number n) (made_after made (reading_of l)) left ls ≡ None)
-      → (r : Result (List Goal) ℕ) → on (λ left. verdict judge (made_after made (reading_of l)) left (map reading_of ls)) r ≡ None → goes_on (next_number n) ls (λ left. first_refusal judge (next_number n) (made_after made (reading_of l)) left ls) r ≡ None
-  go more (Ok left) e = more left e
-  go more (Err k) e = absurd cc
+no_refusal judge n made gs (l ∷ ls) e =
+    go (λ left h. no_refusal judge (next_number n) (made_after made (reading_of l)) left ls h)
+    (after_reading judge made gs (reading_of l)) e where
+      go : ((left : List Goal) → verdict judge (made_after made (reading_of l)) left (map reading_of ls) ≡ None
+          → first_refusal judge (next_number n) (made_after made (reading_of l)) left ls ≡ None)
+          → (r : Result (List Goal) ℕ) → on (λ left. verdict judge (made_after made (reading_of l)) left
+          (map reading_of ls)) r ≡ None → goes_on (next_number n) ls
+          (λ left. first_refusal judge (next_number n) (made_after made (reading_of l)) left ls) r ≡ None
+      go more (Ok left) e = more left e
+      go more (Err k) e = absurd cc
 
 -- ---- certificates
 
-pub certificate_only : (net : Net) (classes : List Class) (n : ℕ) (ls : List Line) → IsNetwork net → AreRegions (targets_of classes) → first_refusal (judge_of net) n 0 (whole (targets_of classes)) ls ≡ None → IsCertificate net classes ls
+pub certificate_only : (net : Net) (classes : List Class) (n : ℕ) (ls : List Line) → IsNetwork net
+    → AreRegions (targets_of classes) → first_refusal (judge_of net) n 0 (whole (targets_of classes)) ls ≡ None
+    → IsCertificate net classes ls
 certificate_only net classes n ls is_net rs e =
     let ts = targets_of classes in
     let right = right_only (judge_of net) ts (map reading_of ls) (no_fault (judge_of net) n 0 (whole ts) ls e) in
@@ -93,18 +116,25 @@ certificate_only net classes n ls is_net rs e =
       few = subst (λ xs. sizes xs ≤ line_limit) made.3 right.4;
     }
 
-pub certificate_all : (net : Net) (classes : List Class) (n : ℕ) (ls : List Line) → IsNetwork net → AreRegions (targets_of classes) → IsCertificate net classes ls → first_refusal (judge_of net) n 0 (whole (targets_of classes)) ls ≡ None
+pub certificate_all : (net : Net) (classes : List Class) (n : ℕ) (ls : List Line) → IsNetwork net
+    → AreRegions (targets_of classes) → IsCertificate net classes ls
+    → first_refusal (judge_of net) n 0 (whole (targets_of classes)) ls ≡ None
 certificate_all net classes n ls is_net rs c =
     let ts = targets_of classes in
     let xs = in_a_row c.trees in
     no_refusal (judge_of net) n 0 (whole ts) ls
-    (ap (verdict (judge_of net) 0 (whole ts)) (ap (map reading_of) c.lines_are ∙ say_items (certificate_items c.version ts xs) c.writable)
-    ∙ right_all (judge_of net) c.version ts xs (all_right net is_net c.version ts xs rs (sound_back net classes c.trees c.each c.sound) c.counted c.shallow) c.few)
+    (ap (verdict (judge_of net) 0 (whole ts))
+    (ap (map reading_of) c.lines_are ∙ say_items (certificate_items c.version ts xs) c.writable)
+    ∙ right_all (judge_of net) c.version ts xs
+    (all_right net is_net c.version ts xs rs (sound_back net classes c.trees c.each c.sound) c.counted c.shallow)
+    c.few)
 
 -- ---- the headline
 
-pub certified_once : (net : Net) (classes : List Class) (ls : List Line) → IsNetwork net → IsCertificate net classes ls → ExactlyOnce net classes
+pub certified_once : (net : Net) (classes : List Class) (ls : List Line) → IsNetwork net → IsCertificate net classes ls
+    → ExactlyOnce net classes
 certified_once net classes ls is_net c = headline.exactly_once net classes c.trees is_net c.sound
 
-pub certified_modulo : (net : Net) (classes : List Class) (ls : List Line) → IsNetwork net → IsCertificate net classes ls → OnceModulo net classes
+pub certified_modulo : (net : Net) (classes : List Class) (ls : List Line) → IsNetwork net
+    → IsCertificate net classes ls → OnceModulo net classes
 certified_modulo net classes ls is_net c = headline.once_modulo net classes c.trees is_net c.sound

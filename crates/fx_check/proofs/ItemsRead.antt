@@ -11,10 +11,13 @@ use Rattle.fx_check.specs.FirstRefusal.{malformed, says, said, cut, reading_of}
 not_long : (n : ℕ) → n ≤ 4096 → nat_lt 4096 n ≡ false
 not_long n le = lt-leb (suc 4096) n (omega arith)
 
-pub line_says : (bytes : List ℕ) (ended : Bool) (i : Item) → ended ≡ true → length bytes ≤ 4096 → IsItemText bytes i → reading_of (bytes, ended) ≡ says i
-line_says bytes ended i e short text = rw (not_long (length bytes) short, e) (ap said (reads bytes i (item_of bytes) refl text))
+pub line_says : (bytes : List ℕ) (ended : Bool) (i : Item) → ended ≡ true → length bytes ≤ 4096 → IsItemText bytes i
+    → reading_of (bytes, ended) ≡ says i
+line_says bytes ended i e short text = rw (not_long (length bytes) short, e)
+    (ap said (reads bytes i (item_of bytes) refl text))
 
-pub line_malformed : (bytes : List ℕ) (ended : Bool) → ended ≡ true → length bytes ≤ 4096 → ((i : Item) → IsItemText bytes i → ⊥) → reading_of (bytes, ended) ≡ malformed
+pub line_malformed : (bytes : List ℕ) (ended : Bool) → ended ≡ true → length bytes ≤ 4096
+    → ((i : Item) → IsItemText bytes i → ⊥) → reading_of (bytes, ended) ≡ malformed
 line_malformed bytes ended e short no_text = rw (not_long (length bytes) short, e) (go (item_of bytes) refl) where
   go : (o : Option Item) → item_of bytes ≡ o → said o ≡ malformed
   go None is = refl

@@ -17,7 +17,8 @@ Stands xs more ys others c x =
     ((entry_numbered xs c ≡ Some x) × (entry_numbered (ys ++ others) c ≡ entry_numbered ys c))
     ⊎ ((m : ℕ) × (entry_numbered more m ≡ Some x) × (entry_numbered (ys ++ others) c ≡ entry_numbered others m))
 
-stands : {A B : Type 0} (xs more : List A) (ys others : List B) (c : ℕ) (x : A) → length xs ≡ length ys → entry_numbered (xs ++ more) c ≡ Some x → Stands xs more ys others c x
+stands : {A B : Type 0} (xs more : List A) (ys others : List B) (c : ℕ) (x : A) → length xs ≡ length ys
+    → entry_numbered (xs ++ more) c ≡ Some x → Stands xs more ys others c x
 stands xs more ys others zero x same e = absurd cc
 stands [] more [] others (suc k) x same e = inr (suc k, e, refl)
 stands [] more (y ∷ ys) others (suc k) x same e = absurd cc
@@ -40,11 +41,13 @@ abbrev all_trees : (net : Net) (declarations : List (List Class)) → AllCertifi
 all_trees net [] h = []
 all_trees net (classes ∷ declarations) h = h.0.1.trees ++ all_trees net declarations h.1
 
-all_sound : (net : Net) (declarations : List (List Class)) (h : AllCertified net declarations) → Sound net (all_classes declarations) (all_trees net declarations h)
+all_sound : (net : Net) (declarations : List (List Class)) (h : AllCertified net declarations)
+    → Sound net (all_classes declarations) (all_trees net declarations h)
 all_sound net [] h zero m class path e f = absurd cc
 all_sound net [] h (suc c) m class path e f = absurd cc
 all_sound net (classes ∷ declarations) h c m class path e f =
-    elim (stands classes (all_classes declarations) h.0.1.trees (all_trees net declarations h.1) c class (as_many classes h.0.1.trees h.0.1.each) e) [
+    elim (stands classes (all_classes declarations) h.0.1.trees (all_trees net declarations h.1) c class
+    (as_many classes h.0.1.trees h.0.1.each) e) [
       | inl k ↦
           let t = h.0.1.sound c m class path k.0 f in
           (t.0, ap (λ o. entry_numbered (entries o) m) k.1 ∙ t.1, t.2)
@@ -53,8 +56,14 @@ all_sound net (classes ∷ declarations) h c m class path e f =
           (t.0, ap (λ o. entry_numbered (entries o) m) k.2 ∙ t.1, t.2)
     ]
 
-pub joined_once : (net : Net) (declarations : List (List Class)) → IsNetwork net → AllCertified net declarations → ExactlyOnce net (all_classes declarations)
-joined_once net declarations is_net h = headline.exactly_once net (all_classes declarations) (all_trees net declarations h) is_net (all_sound net declarations h)
+pub joined_once : (net : Net) (declarations : List (List Class)) → IsNetwork net → AllCertified net declarations
+    → ExactlyOnce net (all_classes declarations)
+joined_once net declarations is_net h =
+    headline.exactly_once net (all_classes declarations) (all_trees net declarations h) is_net
+    (all_sound net declarations h)
 
-pub joined_modulo : (net : Net) (declarations : List (List Class)) → IsNetwork net → AllCertified net declarations → OnceModulo net (all_classes declarations)
-joined_modulo net declarations is_net h = headline.once_modulo net (all_classes declarations) (all_trees net declarations h) is_net (all_sound net declarations h)
+pub joined_modulo : (net : Net) (declarations : List (List Class)) → IsNetwork net → AllCertified net declarations
+    → OnceModulo net (all_classes declarations)
+joined_modulo net declarations is_net h =
+    headline.once_modulo net (all_classes declarations) (all_trees net declarations h) is_net
+    (all_sound net declarations h)

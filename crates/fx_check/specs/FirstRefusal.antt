@@ -20,7 +20,8 @@ use Rattle.fx_check.specs.declared.line_fault.LineFault.TheVariants as faults
 
 -- ---- goals
 
--- what must still follow: the first line and then all of these targets, the line of a target, the tree of a region at this
+-- what must still follow: the first line and then all of these targets, the line of a target, the tree of a region at
+-- this
 -- depth in this version, or the last line
 pub data Goal : Type 0 where
   header : List Target → Goal
@@ -79,7 +80,8 @@ after judge made (header ts ∷ gs) _ = Err faults.Header
 after judge made (opening t ∷ gs) (item.Class c m) = if c == t.class && m == t.path then Ok gs else Err faults.Place
 after judge made (opening t ∷ gs) _ = Err faults.Place
 after judge made (tree v t b d ∷ gs) (item.Leaf crossing point process) =
-    if t.exempt then Err faults.Place else leaf_answer made (judge t b (Some (record { crossing = crossing; point = point; process = process }))) gs
+    if t.exempt then Err faults.Place else leaf_answer made
+    (judge t b (Some (record { crossing = crossing; point = point; process = process }))) gs
 after judge made (tree v t b d ∷ gs) item.Never =
     if may_say_never v t then leaf_answer made (judge t b None) gs else Err faults.Place
 after judge made (tree v t b d ∷ gs) (item.Split a at) =
@@ -170,4 +172,5 @@ goes_on n ls next (Ok left) = next left
 abbrev pub first_refusal : Judge → ℕ → ℕ → List Goal → List Line → Option Refusal
 first_refusal judge n made gs [] = at_end n gs
 first_refusal judge n made gs (l ∷ ls) =
-    goes_on (next_number n) ls (λ left. first_refusal judge (next_number n) (made_after made (reading_of l)) left ls) (after_reading judge made gs (reading_of l))
+    goes_on (next_number n) ls (λ left. first_refusal judge (next_number n) (made_after made (reading_of l)) left ls)
+    (after_reading judge made gs (reading_of l))

@@ -52,4 +52,5 @@ pub record OtherIsSound (net : Net) (path : List Crossing) (region : Bounds) (le
 -- no leaf is sound, for the reason with this number; or, for 410, another leaf is sound
 abbrev pub IsWrong : Net → List Crossing → Bounds → Counted → ℕ → Type 0
 IsWrong net path region leaf number =
-    NoneIsSound net path region (fault_at number places.None) ⊎ ((number ≡ counted_elsewhere) × OtherIsSound net path region leaf)
+    NoneIsSound net path region (fault_at number places.None)
+    ⊎ ((number ≡ counted_elsewhere) × OtherIsSound net path region leaf)

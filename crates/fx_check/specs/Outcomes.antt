@@ -16,7 +16,9 @@ use Rattle.fx_check.specs.FirstRefusal.{Goal, Refusal, whole, first_refusal}
 -- the reader continues after the refused line, unless the reader itself refused a line that is too long
 abbrev pub StandsBehind : Lines → Refusal → Type 0
 StandsBehind lines r =
-    ((r.fault.number ≡ long_line) × (lines.stopped ≡ Some r.fault)) ⊎ ((lines.stopped ≡ None) × (lines.number ≡ r.last) × MayHaveLeft lines.left (λ text. text_lines text ≡ r.behind))
+    ((r.fault.number ≡ long_line) × (lines.stopped ≡ Some r.fault))
+    ⊎ ((lines.stopped ≡ None) × (lines.number ≡ r.last)
+    × MayHaveLeft lines.left (λ text. text_lines text ≡ r.behind))
 
 abbrev pub IsRefusal : Fault → Lines → Option Refusal → Type 0
 IsRefusal e lines None = ⊥
@@ -25,7 +27,8 @@ IsRefusal e lines (Some r) = (e ≡ r.fault) × StandsBehind lines r
 -- a text that the reader may have left has no refusal as a certificate for the targets
 abbrev pub MayBeAccepted : Net → List Target → Lines → Type 0
 MayBeAccepted net targets lines =
-    MayHaveLeft lines.left (λ text. first_refusal (judge_of net) lines.number 0 (whole targets) (text_lines text) ≡ None)
+    MayHaveLeft lines.left (λ text. first_refusal (judge_of net) lines.number 0 (whole targets) (text_lines text)
+    ≡ None)
 
 -- a text that the reader may have left is a certificate for the classes
 abbrev pub MayBeCertificate : Net → List Class → Lines → Type 0
@@ -34,20 +37,24 @@ MayBeCertificate net classes lines = MayHaveLeft lines.left (λ text. IsCertific
 -- a text that the reader may have left has this fault as its first refusal, and the reader continues after it
 abbrev pub MayBeRefused : Net → List Target → Lines → Lines → Fault → Type 0
 MayBeRefused net targets old new e =
-    MayHaveLeft old.left (λ text. IsRefusal e new (first_refusal (judge_of net) old.number 0 (whole targets) (text_lines text)))
+    MayHaveLeft old.left (λ text. IsRefusal e new
+    (first_refusal (judge_of net) old.number 0 (whole targets) (text_lines text)))
 
 -- given the text of a certificate, the check fails only out of memory, before it reads a line, or as its reader fails
 abbrev pub Accepts : Net → List Class → Lines → Lines → Fault → Type 0
 Accepts net classes old new e =
-    (text : List ℕ) → old.left ≡ Some text → IsCertificate net classes (text_lines text) → ((e ≡ fault_at want_of_memory places.None) × (new ≡ old)) ⊎ Fails old new e
+    (text : List ℕ) → old.left ≡ Some text → IsCertificate net classes (text_lines text)
+    → ((e ≡ fault_at want_of_memory places.None) × (new ≡ old)) ⊎ Fails old new e
 
 -- ---- during a check
 
--- for every possible rest, its first refusal with these remaining goals is that of a text that may have been left at first
+-- for every possible rest, its first refusal with these remaining goals is that of a text that may have been left at
+-- first
 abbrev pub Continues : Judge → Lines → List Goal → Lines → ℕ → List Goal → Type 0
 Continues judge first all now made gs =
     (rest : List ℕ) → MayBeLeft now.left rest
-    → MayHaveLeft first.left (λ text. first_refusal judge first.number 0 all (text_lines text) ≡ first_refusal judge now.number made gs (text_lines rest))
+    → MayHaveLeft first.left (λ text. first_refusal judge first.number 0 all (text_lines text)
+    ≡ first_refusal judge now.number made gs (text_lines rest))
 
 -- ---- numbers
 

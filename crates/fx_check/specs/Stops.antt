@@ -12,7 +12,8 @@ use Rattle.fx_check.specs.Judging.{Judge, judge_of}
 use Rattle.fx_check.specs.Outcomes.{Continues}
 use Rattle.fx_check.specs.Remaining.{goals}
 
--- a checker: its network, the targets of its certificate, what must still follow, and the number of split and leaf lines so far
+-- a checker: its network, the targets of its certificate, what must still follow, and the number of split and leaf
+-- lines so far
 pub record CheckerState : Type 0 where
   pub net : Net
   pub targets : List Target
@@ -31,7 +32,8 @@ abbrev pub IsDue : List Goal → Due → Type 0
 IsDue [] due.Nothing = Unit {0}
 IsDue (header ts ∷ gs) due.Header = Unit {0}
 IsDue (opening t ∷ gs) (due.Target target) = target.now ≡ t
-IsDue (tree v t b d ∷ gs) (due.Tree version target region depth) = (version ≡ v) × (target.now ≡ t) × (region.now ≡ b) × (depth ≡ d)
+IsDue (tree v t b d ∷ gs) (due.Tree version target region depth) = (version ≡ v) × (target.now ≡ t) × (region.now ≡ b)
+    × (depth ≡ d)
 IsDue (close ∷ gs) due.End = Unit {0}
 IsDue _ _ = ⊥
 
@@ -40,11 +42,14 @@ pub data StopsAt (judge : Judge) (made : ℕ) (gs : List Goal) (now new : Lines)
   -- the reader itself returns a fault
   reader : RefusesText now new e → StopsAt judge made gs now new e
   -- the reader's current line is refused
-  line : (number : ℕ) → AtLine now new → after_reading judge made gs (reading_of (new.line, new.ended)) ≡ Err number → e ≡ at_line number new.number → StopsAt judge made gs now new e
+  line : (number : ℕ) → AtLine now new → after_reading judge made gs (reading_of (new.line, new.ended)) ≡ Err number → e
+      ≡ at_line number new.number → StopsAt judge made gs now new e
   -- the text ends too early
-  early : AtTextEnd now new → at_end new.number gs ≡ Some (record { fault = e; last = new.number; behind = [] }) → StopsAt judge made gs now new e
+  early : AtTextEnd now new → at_end new.number gs ≡ Some (record { fault = e; last = new.number; behind = [] })
+      → StopsAt judge made gs now new e
 
--- a checker that began at the line after `first` stops with the reader at `new`: its remaining goals are those that it had
+-- a checker that began at the line after `first` stops with the reader at `new`: its remaining goals are those that it
+-- had
 -- when it requested the line at which it stopped
 pub record IsStop (first new : Lines) (c : CheckerState) (e : Fault) : Type 0 where
   pub now : Lines

@@ -16,7 +16,8 @@ pub use checker::Checker;
 pub use checking::{check, check_watched};
 pub use due::Due;
 pub use laws::{
-    certificates_are_accepted, certificates_count_once, certificates_join, wrong_leaves_are_reported,
+    certificates_are_accepted, certificates_count_once, certificates_join,
+    wrong_leaves_are_reported,
 };
 pub use tables::tables_of;
 pub use watch::{CheckWatch, Unwatched};

@@ -22,7 +22,8 @@ use Rattle.fx_checker.proofs.Refusals.{IsPassedOn, IsRefusedWhy, answered_no, re
 -- ---- numbers
 
 -- what isn't answered no
-unanswered : (lines : Lines) (fault : Fault) → IsReportedBy lines fault → (MeansNo fault.number → ⊥) → IsUnanswered lines fault
+unanswered : (lines : Lines) (fault : Fault) → IsReportedBy lines fault → (MeansNo fault.number → ⊥)
+    → IsUnanswered lines fault
 unanswered lines fault (inl stopped) other = inl stopped
 unanswered lines fault (inr kind) other = inr (go fault kind other) where
   go : (f : Fault) → IsCheckFault f → (MeansNo f.number → ⊥) → IsNoAnswer f
@@ -32,7 +33,8 @@ unanswered lines fault (inr kind) other = inr (go fault kind other) where
   go f (of_check.wrong number line is) other = absurd (other is)
 
 -- what is answered no stands at a line
-place_of_no : (lines : Lines) (fault : Fault) → IsReportedBy lines fault → MeansNo fault.number → (lines.stopped ≡ Some fault) ⊎ ((line : ℕ) × (fault.place ≡ places.Line line))
+place_of_no : (lines : Lines) (fault : Fault) → IsReportedBy lines fault → MeansNo fault.number
+    → (lines.stopped ≡ Some fault) ⊎ ((line : ℕ) × (fault.place ≡ places.Line line))
 place_of_no lines fault (inl stopped) means = inl stopped
 place_of_no lines fault (inr kind) means = inr (go fault kind means) where
   go : (f : Fault) → IsCheckFault f → MeansNo f.number → (line : ℕ) × (f.place ≡ places.Line line)
@@ -49,41 +51,64 @@ from_write lines e is = inr (subst IsNoAnswer (sym is) write_failed)
 -- why a certificate is refused
 abbrev IsCertificateRefused : NetworkDocument → List Class → Lines → Lines → Fault → Type 0
 IsCertificateRefused network classes old new fault =
-    ((fault ≡ fault_at 900 places.None) × (new ≡ old)) ⊎ (Fails old new fault ⊎ MayBeRefused (net_of network) (targets_of classes) old new fault)
+    ((fault ≡ fault_at 900 places.None) × (new ≡ old))
+    ⊎ (Fails old new fault ⊎ MayBeRefused (net_of network) (targets_of classes) old new fault)
 
 is_fault_of : (first : Option Refusal) (new : Lines) (fault : Fault) → IsRefusal fault new first → IsFaultOf fault first
 is_fault_of None new fault h = absurd h
 is_fault_of (Some r) new fault h = h.0
 
-refused_why : (network : NetworkDocument) (classes : List Class) (old new : Lines) (fault : Fault) → IsCertificateRefused network classes old new fault → IsRefusedWhy (IsRefusedText network classes old) old new fault
+refused_why : (network : NetworkDocument) (classes : List Class) (old new : Lines) (fault : Fault)
+    → IsCertificateRefused network classes old new fault
+    → IsRefusedWhy (IsRefusedText network classes old) old new fault
 refused_why network classes old new fault (inl m) = inl m.0
 refused_why network classes old new fault (inr (inl f)) = inr (inl f)
 refused_why network classes old new fault (inr (inr (text, left, h))) =
-    inr (inr (text, left, is_fault_of (first_refusal (judge_of (net_of network)) old.number 0 (whole (targets_of classes)) (text_lines text)) new fault h))
+    inr (inr (
+      text,
+      left,
+      is_fault_of (first_refusal (judge_of (net_of network)) old.number 0
+          (whole (targets_of classes)) (text_lines text)) new fault h,
+    ))
 
-no_of : (network : NetworkDocument) (classes : List Class) (old new : Lines) (fault : Fault) → IsCertificateRefused network classes old new fault → IsReportedBy old fault → MeansNo fault.number → IsNo network classes old (no_line fault)
+no_of : (network : NetworkDocument) (classes : List Class) (old new : Lines) (fault : Fault)
+    → IsCertificateRefused network classes old new fault → IsReportedBy old fault → MeansNo fault.number
+    → IsNo network classes old (no_line fault)
 no_of network classes old new fault why reported means = record {
   fault = fault;
   means_no = means;
   place = place_of_no old fault reported means;
-  refused = refused_by (IsRefusedText network classes old) 401 415 old new fault (omega arith) (refused_why network classes old new fault why) means;
+  refused = refused_by (IsRefusedText network classes old) 401 415 old new fault (omega arith)
+      (refused_why network classes old new fault why) means;
   text_is = refl;
 }
 
-pub certificate_answered : (network : NetworkDocument) (classes : List Class) (old new : Lines) (fault : Fault) (before after : Option (List ℕ)) (result : Result Answer Fault) → IsCertificateRefused network classes old new fault → IsReportedBy old fault
-    → IfOk result (λ a. (a ≡ No) × MeansNo fault.number × Writes before after (no_line fault)) → IfOk result (λ a. Prints (IsAnswered network classes old a) before after)
+pub certificate_answered : (network : NetworkDocument) (classes : List Class) (old new : Lines) (fault : Fault)
+    (before after : Option (List ℕ)) (result : Result Answer Fault) → IsCertificateRefused network classes old new fault
+    → IsReportedBy old fault
+    → IfOk result (λ a. (a ≡ No) × MeansNo fault.number × Writes before after (no_line fault))
+    → IfOk result (λ a. Prints (IsAnswered network classes old a) before after)
 certificate_answered network classes old new fault before after result why reported h =
-    answered_no (IsAnswered network classes old) 401 415 fault before after result (no_of network classes old new fault why reported) h
+    answered_no (IsAnswered network classes old) 401 415 fault before after result
+    (no_of network classes old new fault why reported) h
 
-pub certificate_refused : (network : NetworkDocument) (classes : List Class) (old new : Lines) (fault : Fault) (failed : Bool) (result : Result Answer Fault) → IsCertificateRefused network classes old new fault → IfErr result (IsPassedOn 401 415 fault failed)
-    → IfErr result (λ e. (e ≡ fault_at 900 places.None) ⊎ (Fails old new e ⊎ (IsWriteFault failed e ⊎ IsRefusedCertificate network classes old e)))
-certificate_refused network classes old new fault failed result why h = refused_otherwise (IsRefusedText network classes old) 401 415 old new fault failed result (refused_why network classes old new fault why) h
+pub certificate_refused : (network : NetworkDocument) (classes : List Class) (old new : Lines) (fault : Fault)
+    (failed : Bool) (result : Result Answer Fault) → IsCertificateRefused network classes old new fault
+    → IfErr result (IsPassedOn 401 415 fault failed)
+    → IfErr result (λ e. (e ≡ fault_at 900 places.None)
+    ⊎ (Fails old new e ⊎ (IsWriteFault failed e ⊎ IsRefusedCertificate network classes old e)))
+certificate_refused network classes old new fault failed result why h =
+    refused_otherwise (IsRefusedText network classes old) 401 415 old new fault failed result
+    (refused_why network classes old new fault why) h
 
-pub passed_unanswered : (lines : Lines) (fault : Fault) (failed : Bool) (result : Result Answer Fault) → IsReportedBy lines fault → IfErr result (IsPassedOn 401 415 fault failed) → IfErr result (IsUnanswered lines)
+pub passed_unanswered : (lines : Lines) (fault : Fault) (failed : Bool) (result : Result Answer Fault)
+    → IsReportedBy lines fault → IfErr result (IsPassedOn 401 415 fault failed) → IfErr result (IsUnanswered lines)
 passed_unanswered lines fault failed (Ok a) reported h = tt
 passed_unanswered lines fault failed (Err e) reported (inr w) = from_write lines e w.0
-passed_unanswered lines fault failed (Err e) reported (inl k) = subst (IsUnanswered lines) (sym k.0) (unanswered lines fault reported k.1)
+passed_unanswered lines fault failed (Err e) reported (inl k) =
+    subst (IsUnanswered lines) (sym k.0) (unanswered lines fault reported k.1)
 
-pub or_unanswered : (P : Type 0) (lines : Lines) (result : Result Answer Fault) → IfErr result (IsUnanswered lines) → IfErr result (λ e. P ⊎ IsUnanswered lines e)
+pub or_unanswered : (P : Type 0) (lines : Lines) (result : Result Answer Fault) → IfErr result (IsUnanswered lines)
+    → IfErr result (λ e. P ⊎ IsUnanswered lines e)
 or_unanswered P lines (Ok a) h = tt
 or_unanswered P lines (Err e) h = inr h

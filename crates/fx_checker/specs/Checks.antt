@@ -43,9 +43,11 @@ IsFaultOf e (Some r) = e ≡ r.fault
 -- the first refusal of a certificate for these classes in a network, for a text that the reader may have left
 abbrev pub IsRefusedText : NetworkDocument → List Class → Lines → Fault → Type 0
 IsRefusedText network classes lines e =
-    MayHaveLeft lines.left (λ text. IsFaultOf e (first_refusal (judge_of (net_of network)) lines.number 0 (whole (targets_of classes)) (text_lines text)))
+    MayHaveLeft lines.left (λ text. IsFaultOf e
+    (first_refusal (judge_of (net_of network)) lines.number 0 (whole (targets_of classes)) (text_lines text)))
 
--- each packet is counted exactly once, and also once modulo 2 to the 64, however large the sums are; the certificate shows
+-- each packet is counted exactly once, and also once modulo 2 to the 64, however large the sums are; the certificate
+-- shows
 -- it, and no line of it is refused
 pub record IsYes (network : NetworkDocument) (classes : List Class) (lines : Lines) (text : List ℕ) : Type 0 where
   pub once : ExactlyOnce (net_of network) classes
@@ -54,7 +56,8 @@ pub record IsYes (network : NetworkDocument) (classes : List Class) (lines : Lin
   pub accepted : MayBeAccepted (net_of network) (targets_of classes) lines
   pub text_is : text ≡ yes_line
 
--- the certificate is refused at a line, with a number that means no; or the reader had already stopped with such a fault
+-- the certificate is refused at a line, with a number that means no; or the reader had already stopped with such a
+-- fault
 pub record IsNo (network : NetworkDocument) (classes : List Class) (lines : Lines) (text : List ℕ) : Type 0 where
   pub fault : Fault
   pub means_no : MeansNo fault.number
@@ -72,7 +75,8 @@ IsAnswered network classes lines Unknown text = ⊥
 abbrev pub IsRefusedCertificate : NetworkDocument → List Class → Lines → Fault → Type 0
 IsRefusedCertificate network classes lines e = IsRefusedText network classes lines e × (MeansNo e.number → ⊥)
 
--- the faults with which a check ends without an answer, once it has requested a line of the certificate: out of memory, a
+-- the faults with which a check ends without an answer, once it has requested a line of the certificate: out of memory,
+-- a
 -- failed read or write, or a line that is too long
 pub data IsNoAnswer : Fault → Type 0 where
   memory : IsNoAnswer (fault_at want_of_memory places.None)
@@ -88,11 +92,13 @@ IsUnanswered lines e = (lines.stopped ≡ Some e) ⊎ IsNoAnswer e
 
 -- the answer for a certificate in the network and traffic that two documents declare
 abbrev pub IsChecked : List ℕ → List ℕ → Lines → Answer → List ℕ → Type 0
-IsChecked network_octets traffic_octets lines answer text = InDocuments (λ network classes. IsAnswered network classes lines answer text) network_octets traffic_octets
+IsChecked network_octets traffic_octets lines answer text =
+    InDocuments (λ network classes. IsAnswered network classes lines answer text) network_octets traffic_octets
 
 -- the first refusal of a check that isn't an answer: that of the documents, otherwise that of the certificate
 abbrev pub IsRefusedCheck : List ℕ → List ℕ → Lines → Fault → Type 0
-IsRefusedCheck network_octets traffic_octets lines e = IsRefusedIn (λ network classes. IsRefusedCertificate network classes lines e) network_octets traffic_octets e
+IsRefusedCheck network_octets traffic_octets lines e =
+    IsRefusedIn (λ network classes. IsRefusedCertificate network classes lines e) network_octets traffic_octets e
 
 -- a check prints `yes` or `no`, according to its answer
 abbrev pub IsCheckText : Answer → List ℕ → Type 0

@@ -32,7 +32,8 @@ abbrev pub IsJson : List ℕ → Data → Type 0
 IsJson octets d = IsUtf8 octets × (read octets ≡ Some d)
 
 -- the octets are a document with this meaning and without faults
-pub record IsDocument {X : Type 0} (faults : Data → List FoundFault) (meaning : Data → X) (octets : List ℕ) (x : X) : Type 0 where
+pub record IsDocument {X : Type 0} (faults : Data → List FoundFault) (meaning : Data → X) (octets : List ℕ) (x : X) :
+    Type 0 where
   pub value : Data
   pub json : IsJson octets value
   pub faultless : faults value ≡ []
@@ -50,7 +51,8 @@ IsFirstFault faults octets e =
 
 -- a network has no more layouts than allowed, and its links form no cycle
 abbrev pub IsPlannable : NetworkDocument → Type 0
-IsPlannable network = (length (layouts_of (net_of network)) ≤ layout_limit) × ((process : ℕ) → IsStuck (net_of network) process → ⊥)
+IsPlannable network = (length (layouts_of (net_of network)) ≤ layout_limit)
+    × ((process : ℕ) → IsStuck (net_of network) process → ⊥)
 
 -- the octets are the document of a network
 pub record IsNetworkDocument (octets : List ℕ) (network : NetworkDocument) : Type 0 where
@@ -60,17 +62,20 @@ pub record IsNetworkDocument (octets : List ℕ) (network : NetworkDocument) : T
 -- the first fault of the document itself, otherwise the refusal of the network that it declares
 pub data IsRefusedNetwork (octets : List ℕ) (e : Fault) : Type 0 where
   by_walk : IsFirstFault (network_faults []) octets e → IsRefusedNetwork octets e
-  by_plan : (network : NetworkDocument) → IsDocument (network_faults []) network_of octets network → RefusesNetwork network e → IsRefusedNetwork octets e
+  by_plan : (network : NetworkDocument) → IsDocument (network_faults []) network_of octets network
+      → RefusesNetwork network e → IsRefusedNetwork octets e
 
 -- the octets declare the traffic that crosses this network
 abbrev pub IsTraffic : NetworkDocument → List ℕ → List Class → Type 0
-IsTraffic network octets classes = IsDocument (traffic_faults (device_names network) []) (traffic_of (device_names network)) octets classes
+IsTraffic network octets classes = IsDocument (traffic_faults (device_names network) [])
+    (traffic_of (device_names network)) octets classes
 
 -- the first fault of a command's two documents, of which the network's is read first
 abbrev pub IsRefusedByDocuments : List ℕ → List ℕ → Fault → Type 0
 IsRefusedByDocuments network_octets traffic_octets e =
     IsRefusedNetwork network_octets e
-    ⊎ ((network : NetworkDocument) × IsNetworkDocument network_octets network × IsFirstFault (traffic_faults (device_names network) []) traffic_octets e)
+    ⊎ ((network : NetworkDocument) × IsNetworkDocument network_octets network
+    × IsFirstFault (traffic_faults (device_names network) []) traffic_octets e)
 
 -- a predicate on octets that two sources may have left
 abbrev pub BothMayHaveLeft : Option (List ℕ) → Option (List ℕ) → (List ℕ → List ℕ → Type 0) → Type 0
@@ -81,20 +86,23 @@ abbrev pub IfNetworkRefused : Option (List ℕ) → Type 0 → Type 0
 IfNetworkRefused left P = IfSome left (λ n. (e : Fault) → IsRefusedNetwork n e → P)
 
 abbrev pub IfDocumentsRefused : Option (List ℕ) → Option (List ℕ) → Type 0 → Type 0
-IfDocumentsRefused left_n left_t P = IfSome left_n (λ n. IfSome left_t (λ t. (e : Fault) → IsRefusedByDocuments n t e → P))
+IfDocumentsRefused left_n left_t P = IfSome left_n
+    (λ n. IfSome left_t (λ t. (e : Fault) → IsRefusedByDocuments n t e → P))
 
 -- ---- the network and the traffic that two documents declare
 
 -- the predicate holds for the network and the traffic that the documents declare
-pub record InDocuments (P : NetworkDocument → List Class → Type 0) (network_octets traffic_octets : List ℕ) : Type 0 where
-  pub network : NetworkDocument
-  pub classes : List Class
-  pub network_is : IsNetworkDocument network_octets network
-  pub traffic_is : IsTraffic network traffic_octets classes
-  pub holds : P network classes
+pub record InDocuments (P : NetworkDocument → List Class → Type 0) (network_octets traffic_octets : List ℕ) : Type 0
+  where
+    pub network : NetworkDocument
+    pub classes : List Class
+    pub network_is : IsNetworkDocument network_octets network
+    pub traffic_is : IsTraffic network traffic_octets classes
+    pub holds : P network classes
 
 -- the first refusal: that of the documents, otherwise that of the network and traffic that they declare
 abbrev pub IsRefusedIn : (NetworkDocument → List Class → Type 0) → List ℕ → List ℕ → Fault → Type 0
 IsRefusedIn Refused network_octets traffic_octets e =
     IsRefusedByDocuments network_octets traffic_octets e
-    ⊎ ((network : NetworkDocument) × (classes : List Class) × IsNetworkDocument network_octets network × IsTraffic network traffic_octets classes × Refused network classes)
+    ⊎ ((network : NetworkDocument) × (classes : List Class) × IsNetworkDocument network_octets network
+    × IsTraffic network traffic_octets classes × Refused network classes)

@@ -30,7 +30,8 @@ status (Err fault) = refusal_status fault
 -- The program appends this text to its output and ends with this status; or it ends with 5 because that write failed.
 abbrev pub EndsWith : {S : Type 0} → (S → Option (List ℕ)) → (S → Bool) → List ℕ → ℕ → S → S → ℕ → Type 0
 EndsWith taken failed text wanted old new code =
-    ((code ≡ wanted) × Writes (taken old) (taken new) text × (failed old ≡ false → failed new ≡ false)) ⊎ ((code ≡ 5) × (failed new ≡ true))
+    ((code ≡ wanted) × Writes (taken old) (taken new) text × (failed old ≡ false → failed new ≡ false))
+    ⊎ ((code ≡ 5) × (failed new ≡ true))
 
 -- the exit statuses of the program
 abbrev pub IsExitStatus : ℕ → Type 0

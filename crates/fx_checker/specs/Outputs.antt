@@ -15,7 +15,8 @@ FailsQuietly failed old new result =
     OnOk result (KeepsGoing (failed old) (failed new)) × IfErr result (λ e. IsWriteFault (failed new) e ⊎ (new ≡ old))
 
 -- an answer comes with a text for that answer, a fault with no text
-abbrev pub AnswersWith : {S : Type 0} → (S → Option (List ℕ)) → (S → Bool) → (Answer → List ℕ → Type 0) → S → S → Result Answer Fault → Type 0
+abbrev pub AnswersWith : {S : Type 0} → (S → Option (List ℕ)) → (S → Bool) → (Answer → List ℕ → Type 0) → S → S
+    → Result Answer Fault → Type 0
 AnswersWith taken failed IsText old new result =
     IfOk result (λ answer. Prints (IsText answer) (taken old) (taken new)) × FailsQuietly failed old new result
 

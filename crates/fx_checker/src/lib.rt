@@ -1,5 +1,5 @@
-//! The checker: reads a network document, a traffic declaration and a certificate, checks the certificate and writes the
-//! answer.
+//! The checker: reads a network document, a traffic declaration and a certificate, checks the certificate and writes
+//! the answer.
 #![tactic(auto)]
 
 mod answer;

@@ -82,8 +82,8 @@ fn finish_check<R: AllocGlobal + Files, S: Sink>(
     finish(&answer, sink)
 }
 
-/// Writes how the program is called. Returns the exit status: 0 if the arguments request that, otherwise 6, and 5 if the
-/// text can't be written.
+/// Writes how the program is called. Returns the exit status: 0 if the arguments request that, otherwise 6, and 5 if
+/// the text can't be written.
 fn put_usage<S: Sink>(arguments: &[String], sink: &mut S) -> u8
     ensures ended { EndsWithSomeText S.taken S.failed
         (usage_status (is_help_request string_bytes arguments.now)) sink.old sink.new result }
@@ -96,11 +96,11 @@ fn put_usage<S: Sink>(arguments: &[String], sink: &mut S) -> u8
     }
 }
 
-/// Answers arguments, of which the first is the program's own name: checks the certificate if the others name three files,
-/// and otherwise writes how the program is called. Returns the exit status.
+/// Answers arguments, of which the first is the program's own name: checks the certificate if the others name three
+/// files, and otherwise writes how the program is called. Returns the exit status.
 ///
-/// The status is 0 for an answer of yes, or if help is requested, 1 for no, 2 for a refusal, 4 if out of memory, 5 if a device failed, and 6
-/// if the arguments are others.
+/// The status is 0 for an answer of yes, or if help is requested, 1 for no, 2 for a refusal, 4 if out of memory, 5 if a
+/// device failed, and 6 if the arguments are others.
 pub fn answer_arguments<R: AllocGlobal + Files, S: Sink>(
     rt: &R,
     arguments: &[String],

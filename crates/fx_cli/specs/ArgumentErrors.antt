@@ -20,4 +20,5 @@ argument_error_status _ = 6
 abbrev pub EndsWithoutCall : {S : Type 0} → (S → Option (List ℕ)) → (S → Bool) → List Text → S → S → ℕ → Type 0
 EndsWithoutCall taken failed arguments old new code =
     EndsWith taken failed memory_line 4 old new code
-    ⊎ ((kind : ErrorKind) × IsAmong kind (fault_of once_app arguments) × EndsWithSomeText taken failed (argument_error_status kind) old new code)
+    ⊎ ((kind : ErrorKind) × IsAmong kind (fault_of once_app arguments)
+    × EndsWithSomeText taken failed (argument_error_status kind) old new code)

@@ -13,37 +13,49 @@ is_last_flag word = bytes_eq word (codes "--")
 -- none of the arguments after the program's name, up to an index, is the option or `--`
 abbrev pub IsUnmarked : {A : Type 0} → Text → (A → Text) → List A → ℕ → Type 0
 IsUnmarked {A} flag text_of words end =
-    (place : ℕ) (word : A) → 1 ≤ place → place < end → slice_get words place ≡ Some word → (is_flag flag (text_of word) ≡ false) × (is_last_flag (text_of word) ≡ false)
+    (place : ℕ) (word : A) → 1 ≤ place → place < end → slice_get words place ≡ Some word
+    → (is_flag flag (text_of word) ≡ false) × (is_last_flag (text_of word) ≡ false)
 
 -- the index of an option: after the program's name, the first of its kind, and before any `--`
 abbrev pub IsFlagPlace : {A : Type 0} → Text → (A → Text) → List A → Option ℕ → Type 0
 IsFlagPlace {A} flag text_of words (Some place) =
-    IsUnmarked flag text_of words place × (1 ≤ place) × ((word : A) × (slice_get words place ≡ Some word) × (is_flag flag (text_of word) ≡ true))
+    IsUnmarked flag text_of words place × (1 ≤ place)
+    × ((word : A) × (slice_get words place ≡ Some word) × (is_flag flag (text_of word) ≡ true))
 IsFlagPlace {A} flag text_of words None =
-    (end : ℕ) × IsUnmarked flag text_of words end × ((length words ≤ end) ⊎ ((word : A) × (slice_get words end ≡ Some word) × (is_last_flag (text_of word) ≡ true)))
+    (end : ℕ) × IsUnmarked flag text_of words end
+    × ((length words ≤ end) ⊎ ((word : A) × (slice_get words end ≡ Some word)
+    × (is_last_flag (text_of word) ≡ true)))
 
--- the option is among the arguments, and its first occurrence is removed (`true`); or it isn't, and they are unchanged (`false`)
+-- the option is among the arguments, and its first occurrence is removed (`true`); or it isn't, and they are unchanged
+-- (`false`)
 abbrev pub RemovesFlag : {A : Type 0} → Text → (A → Text) → List A → List A → Bool → Type 0
-RemovesFlag {A} flag text_of old new true = (place : ℕ) × IsFlagPlace flag text_of old (Some place) × (new ≡ take place old ++ drop (place + 1) old)
+RemovesFlag {A} flag text_of old new true = (place : ℕ) × IsFlagPlace flag text_of old (Some place)
+    × (new ≡ take place old ++ drop (place + 1) old)
 RemovesFlag {A} flag text_of old new false = IsFlagPlace flag text_of old None × (new ≡ old)
 
 -- the argument at this index is the text (`true`); or it is another, or there is none (`false`)
 abbrev pub IsAt : {A : Type 0} → Text → (A → Text) → List A → ℕ → Bool → Type 0
-IsAt {A} text text_of words index true = (word : A) × (slice_get words index ≡ Some word) × (bytes_eq (text_of word) text ≡ true)
-IsAt {A} text text_of words index false = (word : A) → slice_get words index ≡ Some word → bytes_eq (text_of word) text ≡ false
+IsAt {A} text text_of words index true = (word : A) × (slice_get words index ≡ Some word)
+    × (bytes_eq (text_of word) text ≡ true)
+IsAt {A} text text_of words index false = (word : A) → slice_get words index ≡ Some word → bytes_eq (text_of word) text
+    ≡ false
 
--- the argument after this index is the value, and both are removed (`true`); or it isn't, and the arguments are unchanged (`false`)
+-- the argument after this index is the value, and both are removed (`true`); or it isn't, and the arguments are
+-- unchanged (`false`)
 abbrev pub RemovesBoth : {A : Type 0} → Text → (A → Text) → ℕ → List A → List A → Bool → Type 0
-RemovesBoth {A} value text_of place old new true = IsAt value text_of old (place + 1) true × (new ≡ remove (remove old (place + 1)) place)
+RemovesBoth {A} value text_of place old new true = IsAt value text_of old (place + 1) true
+    × (new ≡ remove (remove old (place + 1)) place)
 RemovesBoth {A} value text_of place old new false = IsAt value text_of old (place + 1) false × (new ≡ old)
 
--- the option is among the arguments and is followed by this value, and both are removed (`true`); or the option is absent or has
+-- the option is among the arguments and is followed by this value, and both are removed (`true`); or the option is
+-- absent or has
 -- another value, and the arguments are unchanged (`false`)
 abbrev pub RemovesOption : {A : Type 0} → Text → Text → (A → Text) → List A → List A → Bool → Type 0
 RemovesOption {A} flag value text_of old new true =
     (place : ℕ) × IsFlagPlace flag text_of old (Some place) × RemovesBoth value text_of place old new true
 RemovesOption {A} flag value text_of old new false =
-    (IsFlagPlace flag text_of old None × (new ≡ old)) ⊎ ((place : ℕ) × IsFlagPlace flag text_of old (Some place) × RemovesBoth value text_of place old new false)
+    (IsFlagPlace flag text_of old None × (new ≡ old))
+    ⊎ ((place : ℕ) × IsFlagPlace flag text_of old (Some place) × RemovesBoth value text_of place old new false)
 
 -- `--format json` is removed if it is among the arguments, then `--format=json`; `json` says whether either was present
 pub record RemovesFormat {A : Type 0} (text_of : A → Text) (given rest : List A) (json : Bool) : Type 0 where
@@ -55,7 +67,8 @@ pub record RemovesFormat {A : Type 0} (text_of : A → Text) (given rest : List 
   pub json_is : json ≡ (apart || joined)
 
 -- `--progress` is removed if it is among the arguments, then `--explain`, then the format
-pub record RemovesOptions {A : Type 0} (text_of : A → Text) (given rest : List A) (json explained progress : Bool) : Type 0 where
+pub record RemovesOptions {A : Type 0} (text_of : A → Text) (given rest : List A) (json explained progress : Bool) :
+    Type 0 where
   pub unmeasured : List A
   pub unexplained : List A
   pub progress_is : RemovesFlag (codes "--progress") text_of given unmeasured progress

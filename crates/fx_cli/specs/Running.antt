@@ -35,7 +35,8 @@ ForSomeDocuments P = (network : List ℕ) × (traffic : List ℕ) × P network t
 -- ---- what a command prints: the true answer for possible contents of its files
 
 abbrev pub IsReplayOutput : Answer → List ℕ → Type 0
-IsReplayOutput answer text = (answer ≡ Yes) × ForSomeTexts (λ network traffic lines. IsReplayed network traffic lines text)
+IsReplayOutput answer text = (answer ≡ Yes)
+    × ForSomeTexts (λ network traffic lines. IsReplayed network traffic lines text)
 
 abbrev pub IsCollectOutput : Answer → List ℕ → Type 0
 IsCollectOutput answer text = (answer ≡ Yes) × ForSomeDocuments (λ network stream. IsCollected network stream text)
@@ -57,7 +58,8 @@ pub record IsMeteredCapture (network traffic : List ℕ) (from : Lines) (text : 
   pub metered : IsMetered network traffic left asked from last before after text
 
 abbrev pub IsRunOutput : Answer → List ℕ → Type 0
-IsRunOutput answer text = (answer ≡ Yes) × ForSomeTexts (λ network traffic lines. IsMeteredCapture network traffic lines text)
+IsRunOutput answer text = (answer ≡ Yes)
+    × ForSomeTexts (λ network traffic lines. IsMeteredCapture network traffic lines text)
 
 -- for a network's document alone (`false`), or also for the document of its traffic (`true`)
 abbrev pub IsLintOutput : Bool → Answer → List ℕ → Type 0
@@ -65,7 +67,8 @@ IsLintOutput false answer text = (answer ≡ Yes) × ForSomeNetwork (λ network.
 IsLintOutput true answer text = (answer ≡ Yes) × ForSomeDocuments (λ network traffic. AreLinted network traffic text)
 
 abbrev pub IsSumOutput : Answer → List ℕ → Type 0
-IsSumOutput answer text = (answer ≡ Yes) × ForSomeNetwork (λ network. ((lines : Lines) × IsAtBeginning lines × IsSummed network lines text))
+IsSumOutput answer text = (answer ≡ Yes)
+    × ForSomeNetwork (λ network. ((lines : Lines) × IsAtBeginning lines × IsSummed network lines text))
 
 -- what the command of a bundle prints, for possible octets of standard input
 abbrev pub IsBundleOutput : Answer → List ℕ → Type 0
@@ -112,7 +115,8 @@ pub record IsCaptureRefusal (network traffic : List ℕ) (from : Lines) (e : Fau
 -- if the octets of the links go to files (`true`), a write to one of these may also have failed
 abbrev pub IsRunRefusal : Bool → Fault → Type 0
 IsRunRefusal false e = ForSomeTexts (λ network traffic lines. IsCaptureRefusal network traffic lines e)
-IsRunRefusal true e = (e ≡ fault_at failed_write places.None) ⊎ ForSomeTexts (λ network traffic lines. IsCaptureRefusal network traffic lines e)
+IsRunRefusal true e = (e ≡ fault_at failed_write places.None)
+    ⊎ ForSomeTexts (λ network traffic lines. IsCaptureRefusal network traffic lines e)
 
 -- for a network's document alone (`false`), or also for the document of its traffic (`true`)
 abbrev pub IsLintRefusal : Bool → Fault → Type 0
@@ -143,11 +147,15 @@ IsCallRefusal (Explain number) e = IsMemory e
 -- the same, with an explanation after that line
 abbrev pub HasFailedExplained : {S : Type 0} → (S → Option (List ℕ)) → (S → Bool) → S → Type 0
 HasFailedExplained {S} taken failed new =
-    (failed new ≡ true) ⊎ ((then : S) × (words : List ℕ) × (failed then ≡ true) × Writes (taken then) (taken new) (refusal_line (fault_at failed_write places.None) ++ words))
+    (failed new ≡ true) ⊎ ((then : S) × (words : List ℕ) × (failed then ≡ true)
+    × Writes (taken then) (taken new) (refusal_line (fault_at failed_write places.None) ++ words))
 
 -- The same, with an explanation after the answer's text or the line of the refusal.
-abbrev pub EndsExplained : (Answer → List ℕ → Type 0) → (Fault → Type 0) → Option (List ℕ) → Option (List ℕ) → Type 0 → Type 0 → ℕ → Type 0
+abbrev pub EndsExplained : (Answer → List ℕ → Type 0) → (Fault → Type 0) → Option (List ℕ) → Option (List ℕ) → Type 0
+    → Type 0 → ℕ → Type 0
 EndsExplained IsText IsRefused old new Going Failed code =
-    (Going × ((answer : Answer) × (text : List ℕ) × (words : List ℕ) × IsText answer text × Writes old new (text ++ words) × (code ≡ status (Ok answer))))
-    ⊎ ((Going × ((e : Fault) × (words : List ℕ) × IsRefused e × Writes old new (refusal_line e ++ words) × (code ≡ refusal_status e)))
+    (Going × ((answer : Answer) × (text : List ℕ) × (words : List ℕ) × IsText answer text
+    × Writes old new (text ++ words) × (code ≡ status (Ok answer))))
+    ⊎ ((Going × ((e : Fault) × (words : List ℕ) × IsRefused e × Writes old new (refusal_line e ++ words)
+    × (code ≡ refusal_status e)))
     ⊎ ((code ≡ 5) × Failed))

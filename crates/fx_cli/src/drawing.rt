@@ -103,8 +103,8 @@ fn explain_undrawn(
 }
 
 /// Draws the network in the first file, the traffic in the second, if one is given, and what the text in the third says
-/// of both, if one is given; of the traffic the paths of one class alone, if one is given. Opens all files before it reads
-/// the first.
+/// of both, if one is given; of the traffic the paths of one class alone, if one is given. Opens all files before it
+/// reads the first.
 ///
 /// Fails with 901 if a file can't be opened or read, and otherwise like [`put_drawing`].
 pub(crate) fn draw<R: AllocGlobal + Files, S: Sink>(

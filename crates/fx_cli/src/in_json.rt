@@ -163,8 +163,8 @@ fn call_in_json<R: AllocGlobal + Clock + Eprint + Files + RandomSource, S: Sink>
     put_buffered(rt, Some(call), &mut notes, &answer, &mut text, sink)
 }
 
-/// Answers arguments with a JSON object: the call that they name, or, if there are none after the program's own name, the
-/// bundle on standard input. Arguments that name no call are answered as text. Returns the exit status.
+/// Answers arguments with a JSON object: the call that they name, or, if there are none after the program's own name,
+/// the bundle on standard input. Arguments that name no call are answered as text. Returns the exit status.
 pub(crate) fn answer_in_json<
     R: AllocGlobal + Clock + Eprint + Files + Input + RandomSource,
     S: Sink,

@@ -191,8 +191,8 @@ fn or_help(
     Ok(arguments)
 }
 
-/// Answers arguments with their options: `--explain` adds sentences after the answer, `--format json` has the answer and
-/// these sentences in a JSON object, and `--progress` reports how far the command has come.
+/// Answers arguments with their options: `--explain` adds sentences after the answer, `--format json` has the answer
+/// and these sentences in a JSON object, and `--progress` reports how far the command has come.
 fn answer_given<R: AllocGlobal + Clock + Eprint + Files + Input + RandomSource, S: Sink>(
     rt: &R,
     mut arguments: Vec<String>,
@@ -270,7 +270,8 @@ fn flush<S: Sink>(sink: &mut S, code: u8) -> u8
 /// Runs the program: reads its arguments, answers on standard output, and returns its exit status.
 ///
 /// Without arguments it answers the bundle on standard input; if that is a terminal it writes its help. 0 is an answer
-/// of yes, or help that was asked for, 1 no, 3 unknown; 2 a refusal, 4 out of memory, 5 a device that failed, 6 arguments that don't parse.
+/// of yes, or help that was asked for, 1 no, 3 unknown; 2 a refusal, 4 out of memory, 5 a device that failed, 6
+/// arguments that don't parse.
 pub fn run<R: AllocGlobal + Clock + Env + Eprint + Files + Input + Print + RandomSource>(
     rt: &R,
     on_terminal: bool,

@@ -13,7 +13,9 @@ others xs = take (length xs - 1) (drop 1 xs)
 pub others_are : {A : Type 0} (x : A) (xs : List A) → others (x ∷ xs) ≡ xs
 others_are x xs = take_all (length (x ∷ xs) - 1) (drop 1 (x ∷ xs)) (omega (arith, length-drop 1 (x ∷ xs)))
 
-pub parts_first : (ps : Layout) (vs : List ℕ) (part : Part) (value : ℕ) → 1 ≤ length ps → 1 ≤ length vs → parts_text ps vs ≡ leading_text (get_or ps 0 part).axis (get_or ps 0 part).bits (get_or vs 0 value) ++ (space_before (others ps) ++ parts_text (others ps) (others vs))
+pub parts_first : (ps : Layout) (vs : List ℕ) (part : Part) (value : ℕ) → 1 ≤ length ps → 1 ≤ length vs
+    → parts_text ps vs ≡ leading_text (get_or ps 0 part).axis (get_or ps 0 part).bits (get_or vs 0 value)
+    ++ (space_before (others ps) ++ parts_text (others ps) (others vs))
 parts_first [] vs part value h k = absurd (omega (arith, h))
 parts_first (p ∷ ps) [] part value h k = absurd (omega (arith, k))
 parts_first (p ∷ ps) (v ∷ vs) part value h k = rw (others_are p ps, others_are v vs)
@@ -33,4 +35,5 @@ space_between (p ∷ ps) none is h = refl
 
 pub space_behind : (ps : Layout) (none : Bool) → none ≡ (length ps == 0) → none ≡ true → space_before ps ≡ []
 space_behind [] none is h = refl
-space_behind (p ∷ ps) none is h = let nil : length (p ∷ ps) ≡ 0 = eqb-true (length (p ∷ ps)) 0 (sym is ∙ h) in absurd (omega (arith, nil))
+space_behind (p ∷ ps) none is h = let nil : length (p ∷ ps) ≡ 0 = eqb-true (length (p ∷ ps)) 0 (sym is ∙ h) in
+    absurd (omega (arith, nil))

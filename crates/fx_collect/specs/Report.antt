@@ -17,7 +17,8 @@ space_before (part ∷ parts) = 32 ∷ []
 abbrev pub parts_text : Layout → List ℕ → List ℕ
 parts_text [] values = []
 parts_text (part ∷ parts) [] = []
-parts_text (part ∷ parts) (value ∷ values) = leading_text part.axis part.bits value ++ (space_before parts ++ parts_text parts values)
+parts_text (part ∷ parts) (value ∷ values) = leading_text part.axis part.bits value
+    ++ (space_before parts ++ parts_text parts values)
 
 -- the values of a key; a key without parts is `all`
 abbrev pub fields_text : Layout → List ℕ → List ℕ
@@ -26,7 +27,8 @@ fields_text (part ∷ parts) values = parts_text (part ∷ parts) values
 
 abbrev pub record_line : Record → List ℕ
 record_line r =
-    fields_text r.key.layout r.key.values ++ (codes " packets " ++ (decimal r.counts.packets ++ (codes " octets " ++ (decimal r.counts.octets ++ 10 ∷ []))))
+    fields_text r.key.layout r.key.values ++ (codes " packets "
+    ++ (decimal r.counts.packets ++ (codes " octets " ++ (decimal r.counts.octets ++ 10 ∷ []))))
 
 abbrev pub record_lines : List Record → List ℕ
 record_lines [] = []
@@ -37,7 +39,8 @@ abbrev pub number_line : List ℕ → ℕ → List ℕ
 number_line word n = word ++ (decimal n ++ 10 ∷ [])
 
 abbrev pub totals_text : Totals → List ℕ
-totals_text t = number_line (codes "keys ") (length t.entries) ++ (record_lines t.entries ++ number_line (codes "unassigned ") t.unassigned)
+totals_text t = number_line (codes "keys ") (length t.entries)
+    ++ (record_lines t.entries ++ number_line (codes "unassigned ") t.unassigned)
 
 -- the keys ascend: by the first value that differs
 abbrev pub KeysAscend : List Record → Type 0

@@ -12,7 +12,8 @@ use Rattle.fx_collect.specs.Totals.{IsTable, totals_of, totals_in}
 -- a property of the last state of each run
 abbrev pub AfterRuns : (Net → State → Type 0) → Type 0
 AfterRuns P =
-    (net : Net) (classes : List Class) (packets : List Packet) (steps : List Step) (last : State) → run net classes packets steps (opening net classes packets) ≡ Ok last → P net last
+    (net : Net) (classes : List Class) (packets : List Packet) (steps : List Step) (last : State)
+    → run net classes packets steps (opening net classes packets) ≡ Ok last → P net last
 
 -- under the report's layout, the totals of a state have each key once
 abbrev pub HasTable : Net → State → Type 0
@@ -21,4 +22,5 @@ HasTable net last = IsTable net.report_layout last.totals
 -- the totals recomputed record by record are the totals in the state
 abbrev pub HasExactTotals : Net → State → Type 0
 HasExactTotals net last =
-    IsLayout net.report_layout → totals_of net.report_layout (wrapped_state last) ≡ totals_in net.report_layout (wrapped_state last)
+    IsLayout net.report_layout → totals_of net.report_layout (wrapped_state last)
+    ≡ totals_in net.report_layout (wrapped_state last)

@@ -70,10 +70,14 @@ class_name : IsName (codes "class")
 class_name = record { alone = refl; with_value = λ value. refl; single = refl; single_with_value = λ value. refl }
 
 pub is_taking : (k : Kind) → IsTaking (taking_of k)
-is_taking replay = takes_files_alone (codes "replay") (documents_and (codes "RUN")) (omega arith) ((refl, (refl, (refl, tt))), ((refl, (refl, tt)), ((refl, tt), (tt, tt))))
-is_taking collect = takes_files_alone (codes "collect") (codes "NETWORK" ∷ codes "STREAM" ∷ []) (omega arith) ((refl, (refl, tt)), ((refl, tt), (tt, tt)))
-is_taking check = takes_files_alone (codes "check") (documents_and (codes "CERTIFICATE")) (omega arith) ((refl, (refl, (refl, tt))), ((refl, (refl, tt)), ((refl, tt), (tt, tt))))
-is_taking confirm = takes_files_alone (codes "confirm") (documents_and (codes "REFUTATION")) (omega arith) ((refl, (refl, (refl, tt))), ((refl, (refl, tt)), ((refl, tt), (tt, tt))))
+is_taking replay = takes_files_alone (codes "replay") (documents_and (codes "RUN")) (omega arith)
+    ((refl, (refl, (refl, tt))), ((refl, (refl, tt)), ((refl, tt), (tt, tt))))
+is_taking collect = takes_files_alone (codes "collect") (codes "NETWORK" ∷ codes "STREAM" ∷ []) (omega arith)
+    ((refl, (refl, tt)), ((refl, tt), (tt, tt)))
+is_taking check = takes_files_alone (codes "check") (documents_and (codes "CERTIFICATE")) (omega arith)
+    ((refl, (refl, (refl, tt))), ((refl, (refl, tt)), ((refl, tt), (tt, tt))))
+is_taking confirm = takes_files_alone (codes "confirm") (documents_and (codes "REFUTATION")) (omega arith)
+    ((refl, (refl, (refl, tt))), ((refl, (refl, tt)), ((refl, tt), (tt, tt))))
 is_taking audit = record {
   few = omega arith;
   fits = omega arith;
@@ -86,13 +90,17 @@ is_taking audit = record {
 is_taking run = record {
   few = omega arith;
   fits = omega arith;
-  apart = ((refl, (refl, (refl, (refl, tt)))), ((refl, (refl, (refl, tt))), ((refl, (refl, tt)), ((refl, tt), (tt, tt)))));
+  apart = (
+    (refl, (refl, (refl, (refl, tt)))),
+    ((refl, (refl, (refl, tt))), ((refl, (refl, tt)), ((refl, tt), (tt, tt)))),
+  );
   name = λ _. links_name;
   reading = refl;
   default_fine = refl;
   no_default = λ none. absurd (true≢false none);
 }
-is_taking lint = takes_some_files (codes "lint") 1 (codes "NETWORK" ∷ codes "TRAFFIC" ∷ []) (omega arith) (omega arith) ((refl, (refl, tt)), ((refl, tt), (tt, tt)))
+is_taking lint = takes_some_files (codes "lint") 1 (codes "NETWORK" ∷ codes "TRAFFIC" ∷ []) (omega arith) (omega arith)
+    ((refl, (refl, tt)), ((refl, tt), (tt, tt)))
 is_taking draw = record {
   few = omega arith;
   fits = omega arith;
@@ -102,7 +110,8 @@ is_taking draw = record {
   default_fine = refl;
   no_default = λ none. absurd (true≢false none);
 }
-is_taking sum = takes_files_alone (codes "sum") (codes "NETWORK" ∷ codes "TOTALS" ∷ []) (omega arith) ((refl, (refl, tt)), ((refl, tt), (tt, tt)))
+is_taking sum = takes_files_alone (codes "sum") (codes "NETWORK" ∷ codes "TOTALS" ∷ []) (omega arith)
+    ((refl, (refl, tt)), ((refl, tt), (tt, tt)))
 is_taking explain = takes_files_alone (codes "explain") (codes "NUMBER" ∷ []) (omega arith) ((refl, tt), (tt, tt))
 
 -- ---- a command by its name
@@ -139,7 +148,8 @@ one_kind k other same =
 found_true : (p : Kind → Bool) (ks : List Kind) (k : Kind) → find p ks ≡ Some k → p k ≡ true
 found_true p [] k e = absurd cc
 found_true p (x ∷ xs) k e = elim (bool_cases (p x)) [
-  | inl is ↦ let there : Some x ≡ Some k = rw is at e in subst (λ (y : Kind). p y ≡ true) (ap (λ (o : Option Kind). unwrap_or o x) there) is
+  | inl is ↦ let there : Some x ≡ Some k = rw is at e in
+      subst (λ (y : Kind). p y ≡ true) (ap (λ (o : Option Kind). unwrap_or o x) there) is
   | inr other ↦ found_true p xs k (rw other at e)
 ]
 

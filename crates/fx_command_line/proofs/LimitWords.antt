@@ -17,4 +17,5 @@ limit_read text is =
 
 pub limit_taken : (text : Text) (n : ℕ) → IsLimit text n → is_limit text ≡ true
 limit_taken text n is =
-    Accepts-accepts false (parsers.Unsigned 1 1000000) text (is.0, omega (arith, is.1, is.2, is.3), omega (arith, is.1, is.2), omega (arith, is.1, is.3))
+    Accepts-accepts false (parsers.Unsigned 1 1000000) text
+    (is.0, omega (arith, is.1, is.2, is.3), omega (arith, is.1, is.2), omega (arith, is.1, is.3))

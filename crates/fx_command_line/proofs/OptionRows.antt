@@ -49,13 +49,15 @@ HoldsFirst rows (id ∷ ids) (file ∷ files) = Has rows id file × HoldsFirst r
 HoldsFirst rows [] (file ∷ files) = ⊥
 
 -- all of them, where there are as many files
-pub all_first : (rows : List Row) (ids files : List Text) → HoldsFirst rows ids files → length ids ≤ length files → HasAll rows ids files
+pub all_first : (rows : List Row) (ids files : List Text) → HoldsFirst rows ids files → length ids ≤ length files
+    → HasAll rows ids files
 all_first rows [] [] first many = tt
 all_first rows (id ∷ ids) [] first many = absurd (omega (arith, many))
 all_first rows (id ∷ ids) (file ∷ files) first many = (first.0, all_first rows ids files first.1 (omega (arith, many)))
 all_first rows [] (file ∷ files) first many = absurd first
 
-pub first_of_all : (rows : List Row) (done left files : List Text) → HasAll rows done files → LacksAll rows left → HoldsFirst rows (done ++ left) files
+pub first_of_all : (rows : List Row) (done left files : List Text) → HasAll rows done files → LacksAll rows left
+    → HoldsFirst rows (done ++ left) files
 first_of_all rows [] left [] has lacks = lacks
 first_of_all rows (id ∷ ids) left (file ∷ files) has lacks = (has.0, first_of_all rows ids left files has.1 lacks)
 first_of_all rows [] left (file ∷ files) has lacks = absurd has
@@ -85,27 +87,32 @@ finds_row (r ∷ rs) id row has = elim (bool_cases (bytes_eq r.id id)) [
   | inr other ↦ rw other (finds_row rs id row (rw other at has))
 ]
 
-at_lacking : (id : Text) (change : Row → List Row) (missing rows : List Row) → Lacks rows id → at_row id change missing rows ≡ rows ++ missing
+at_lacking : (id : Text) (change : Row → List Row) (missing rows : List Row) → Lacks rows id
+    → at_row id change missing rows ≡ rows ++ missing
 at_lacking id change missing [] lacks = refl
 at_lacking id change missing (r ∷ rs) lacks = elim (bool_cases (bytes_eq r.id id)) [
   | inl is ↦ let none : Some r ≡ None = rw is at lacks in absurd (none_there r none)
   | inr other ↦ rw other (ap (λ (xs : List Row). r ∷ xs) (at_lacking id change missing rs (rw other at lacks)))
 ]
 
-pub new_row : (id : Text) (how : Reading) (source : ValueSource) (values : List Text) (rows : List Row) → how ≡ AsWritten → Lacks rows id
+pub new_row : (id : Text) (how : Reading) (source : ValueSource) (values : List Text) (rows : List Row) → how
+    ≡ AsWritten → Lacks rows id
     → with_values id how source values rows ≡ rows ++ text_row id source values ∷ []
 new_row id how source values rows is lacks =
-    ap (λ (h : Reading). with_values id h source values rows) is ∙ at_lacking id (more_values source values) (text_row id source values ∷ []) rows lacks
+    ap (λ (h : Reading). with_values id h source values rows) is
+    ∙ at_lacking id (more_values source values) (text_row id source values ∷ []) rows lacks
 
 -- an argument that is used for the first time
 pub used_row : (id : Text) (how : Reading) (text : Text) (rows : List Row) → how ≡ AsWritten → Lacks rows id
     → with_values id how CommandLine (text ∷ []) (without id rows) ≡ rows ++ held_row id text ∷ []
 used_row id how text rows is lacks =
-    ap (with_values id how CommandLine (text ∷ [])) (at_lacking id (λ _. []) [] rows lacks ∙ append-nil rows) ∙ new_row id how CommandLine (text ∷ []) rows is lacks
+    ap (with_values id how CommandLine (text ∷ [])) (at_lacking id (λ _. []) [] rows lacks ∙ append-nil rows)
+    ∙ new_row id how CommandLine (text ∷ []) rows is lacks
 
 -- ---- rows behind others
 
-pub found_before : (id : Text) (rows more : List Row) (row : Row) → row_at id rows ≡ Some row → row_at id (rows ++ more) ≡ Some row
+pub found_before : (id : Text) (rows more : List Row) (row : Row) → row_at id rows ≡ Some row → row_at id (rows ++ more)
+    ≡ Some row
 found_before id [] more row has = absurd (none_there row (sym has))
 found_before id (r ∷ rs) more row has = elim (bool_cases (bytes_eq r.id id)) [
   | inl is ↦ rw is (rw is at has)
@@ -124,28 +131,34 @@ has_new id text rows lacks =
     let here : row_at id (held_row id text ∷ []) ≡ Some (held_row id text) = rw (same_text id) refl in
     found_behind id rows (held_row id text ∷ []) lacks ∙ here
 
-pub lacks_still : (id : Text) (rows : List Row) (row : Row) → bytes_eq row.id id ≡ false → Lacks rows id → Lacks (rows ++ row ∷ []) id
+pub lacks_still : (id : Text) (rows : List Row) (row : Row) → bytes_eq row.id id ≡ false → Lacks rows id
+    → Lacks (rows ++ row ∷ []) id
 lacks_still id rows row differs lacks =
     let here : row_at id (row ∷ []) ≡ None = rw differs refl in
     found_behind id rows (row ∷ []) lacks ∙ here
 
 pub all_still : (rows more : List Row) (ids files : List Text) → HasAll rows ids files → HasAll (rows ++ more) ids files
 all_still rows more [] [] has = tt
-all_still rows more (id ∷ ids) (file ∷ files) has = (found_before id rows more (held_row id file) has.0, all_still rows more ids files has.1)
+all_still rows more (id ∷ ids) (file ∷ files) has =
+    (found_before id rows more (held_row id file) has.0, all_still rows more ids files has.1)
 all_still rows more [] (file ∷ files) has = absurd has
 all_still rows more (id ∷ ids) [] has = absurd has
 
-pub one_more : (rows : List Row) (ids files : List Text) (id file : Text) → HasAll rows ids files → Has rows id file → HasAll rows (ids ++ id ∷ []) (files ++ file ∷ [])
+pub one_more : (rows : List Row) (ids files : List Text) (id file : Text) → HasAll rows ids files → Has rows id file
+    → HasAll rows (ids ++ id ∷ []) (files ++ file ∷ [])
 one_more rows [] [] id file all has = (has, tt)
 one_more rows (x ∷ xs) (f ∷ fs) id file all has = (all.0, one_more rows xs fs id file all.1 has)
 one_more rows [] (f ∷ fs) id file all has = absurd all
 one_more rows (x ∷ xs) [] id file all has = absurd all
 
-pub none_still : (rows : List Row) (row : Row) (ids : List Text) → Differs row.id ids → LacksAll rows ids → LacksAll (rows ++ row ∷ []) ids
+pub none_still : (rows : List Row) (row : Row) (ids : List Text) → Differs row.id ids → LacksAll rows ids
+    → LacksAll (rows ++ row ∷ []) ids
 none_still rows row [] differs lacks = tt
-none_still rows row (id ∷ ids) differs lacks = (lacks_still id rows row differs.0 lacks.0, none_still rows row ids differs.1 lacks.1)
+none_still rows row (id ∷ ids) differs lacks =
+    (lacks_still id rows row differs.0 lacks.0, none_still rows row ids differs.1 lacks.1)
 
-pub text_still : (rows : List Row) (row : Row) (id : Text) (o : Option Text) → bytes_eq row.id id ≡ false → HasText rows id o → HasText (rows ++ row ∷ []) id o
+pub text_still : (rows : List Row) (row : Row) (id : Text) (o : Option Text) → bytes_eq row.id id ≡ false
+    → HasText rows id o → HasText (rows ++ row ∷ []) id o
 text_still rows row id None differs lacks = lacks_still id rows row differs lacks
 text_still rows row id (Some text) differs has = found_before id rows (row ∷ []) (held_row id text) has
 

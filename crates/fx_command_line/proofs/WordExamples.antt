@@ -8,7 +8,8 @@ use Rattle.fx_command_line.specs.CommandLine.{once_app}
 use Rattle.fx_command_line.specs.Words.{IsLimitSet, NamesWith, file_names}
 use Rattle.fx_command_line.proofs.LimitWords.{limit_read}
 
-three_files_are_named : file_names (codes "net.json" ∷ codes "-" ∷ codes "run" ∷ []) ≡ Some (codes "net.json" ∷ codes "-" ∷ codes "run" ∷ [])
+three_files_are_named : file_names (codes "net.json" ∷ codes "-" ∷ codes "run" ∷ [])
+    ≡ Some (codes "net.json" ∷ codes "-" ∷ codes "run" ∷ [])
 unfolding chars
 three_files_are_named = refl
 
@@ -16,7 +17,8 @@ a_flag_is_no_file : file_names (codes "net.json" ∷ codes "-x" ∷ codes "run" 
 unfolding chars
 a_flag_is_no_file = refl
 
-behind_a_double_hyphen : file_names (codes "net.json" ∷ codes "--" ∷ codes "-x" ∷ codes "--" ∷ []) ≡ Some (codes "net.json" ∷ codes "-x" ∷ codes "--" ∷ [])
+behind_a_double_hyphen : file_names (codes "net.json" ∷ codes "--" ∷ codes "-x" ∷ codes "--" ∷ [])
+    ≡ Some (codes "net.json" ∷ codes "-x" ∷ codes "--" ∷ [])
 unfolding chars
 behind_a_double_hyphen = refl
 
@@ -28,11 +30,13 @@ a_stream_call_has_no_fault : fault_of once_app (codes "once" ∷ codes "collect"
 unfolding clap_on_literals
 a_stream_call_has_no_fault = refl
 
-a_certificate_call_has_no_fault : fault_of once_app (codes "once" ∷ codes "check" ∷ codes "a" ∷ codes "b" ∷ codes "c" ∷ []) ≡ []
+a_certificate_call_has_no_fault : fault_of once_app
+    (codes "once" ∷ codes "check" ∷ codes "a" ∷ codes "b" ∷ codes "c" ∷ []) ≡ []
 unfolding clap_on_literals
 a_certificate_call_has_no_fault = refl
 
-a_refutation_call_has_no_fault : fault_of once_app (codes "once" ∷ codes "confirm" ∷ codes "a" ∷ codes "b" ∷ codes "c" ∷ []) ≡ []
+a_refutation_call_has_no_fault : fault_of once_app
+    (codes "once" ∷ codes "confirm" ∷ codes "a" ∷ codes "b" ∷ codes "c" ∷ []) ≡ []
 unfolding clap_on_literals
 a_refutation_call_has_no_fault = refl
 
@@ -41,11 +45,13 @@ unfolding clap_on_literals
 an_audit_call_has_no_fault = refl
 
 -- with a limit, in a word of its own or behind `=`, among the files or behind them
-an_audit_with_a_limit_has_no_fault : fault_of once_app (codes "once" ∷ codes "audit" ∷ codes "a" ∷ codes "--limit" ∷ codes "7" ∷ codes "b" ∷ []) ≡ []
+an_audit_with_a_limit_has_no_fault : fault_of once_app
+    (codes "once" ∷ codes "audit" ∷ codes "a" ∷ codes "--limit" ∷ codes "7" ∷ codes "b" ∷ []) ≡ []
 unfolding clap_on_literals
 an_audit_with_a_limit_has_no_fault = refl
 
-a_limit_in_one_word_has_no_fault : fault_of once_app (codes "once" ∷ codes "audit" ∷ codes "a" ∷ codes "b" ∷ codes "--limit=1000000" ∷ []) ≡ []
+a_limit_in_one_word_has_no_fault : fault_of once_app
+    (codes "once" ∷ codes "audit" ∷ codes "a" ∷ codes "b" ∷ codes "--limit=1000000" ∷ []) ≡ []
 unfolding clap_on_literals
 a_limit_in_one_word_has_no_fault = refl
 
@@ -55,7 +61,8 @@ files_alone_have_the_longest_limit = refl
 a_limit_may_have_a_plus_and_zeros : IsLimitSet (Some (codes "+07")) 7
 a_limit_may_have_a_plus_and_zeros = limit_read (codes "+07") refl
 
-a_limit_stands_among_the_files : NamesWith (codes "limit") (codes "a" ∷ codes "--limit" ∷ codes "+07" ∷ codes "b" ∷ []) (codes "a" ∷ codes "b" ∷ []) (Some (codes "+07"))
+a_limit_stands_among_the_files : NamesWith (codes "limit") (codes "a" ∷ codes "--limit" ∷ codes "+07" ∷ codes "b" ∷ [])
+    (codes "a" ∷ codes "b" ∷ []) (Some (codes "+07"))
 unfolding chars
 a_limit_stands_among_the_files = record {
   before = codes "a" ∷ [];
@@ -69,7 +76,8 @@ a_limit_stands_among_the_files = record {
   files_are = refl;
 }
 
-a_limit_stands_behind_the_files : NamesWith (codes "limit") (codes "a" ∷ codes "b" ∷ codes "--limit=7" ∷ []) (codes "a" ∷ codes "b" ∷ []) (Some (codes "7"))
+a_limit_stands_behind_the_files : NamesWith (codes "limit") (codes "a" ∷ codes "b" ∷ codes "--limit=7" ∷ [])
+    (codes "a" ∷ codes "b" ∷ []) (Some (codes "7"))
 unfolding chars
 a_limit_stands_behind_the_files = record {
   before = codes "a" ∷ codes "b" ∷ [];
@@ -83,43 +91,55 @@ a_limit_stands_behind_the_files = record {
   files_are = refl;
 }
 
-no_limit_behind_a_double_hyphen : NamesWith (codes "limit") (codes "--" ∷ codes "--limit" ∷ codes "7" ∷ []) (codes "--limit" ∷ codes "7" ∷ []) None
+no_limit_behind_a_double_hyphen : NamesWith (codes "limit") (codes "--" ∷ codes "--limit" ∷ codes "7" ∷ [])
+    (codes "--limit" ∷ codes "7" ∷ []) None
 no_limit_behind_a_double_hyphen = refl
 
-a_limit_of_0_is_refused : fault_of once_app (codes "once" ∷ codes "audit" ∷ codes "a" ∷ codes "b" ∷ codes "--limit" ∷ codes "0" ∷ []) ≡ ValueValidation ∷ []
+a_limit_of_0_is_refused : fault_of once_app
+    (codes "once" ∷ codes "audit" ∷ codes "a" ∷ codes "b" ∷ codes "--limit" ∷ codes "0" ∷ []) ≡ ValueValidation ∷ []
 unfolding clap_on_literals
 a_limit_of_0_is_refused = refl
 
-a_limit_of_1000001_is_refused : fault_of once_app (codes "once" ∷ codes "audit" ∷ codes "--limit=1000001" ∷ codes "a" ∷ codes "b" ∷ []) ≡ ValueValidation ∷ []
+a_limit_of_1000001_is_refused : fault_of once_app
+    (codes "once" ∷ codes "audit" ∷ codes "--limit=1000001" ∷ codes "a" ∷ codes "b" ∷ []) ≡ ValueValidation ∷ []
 unfolding clap_on_literals
 a_limit_of_1000001_is_refused = refl
 
-a_word_is_no_limit : fault_of once_app (codes "once" ∷ codes "audit" ∷ codes "a" ∷ codes "b" ∷ codes "--limit" ∷ codes "many" ∷ []) ≡ ValueValidation ∷ []
+a_word_is_no_limit : fault_of once_app (codes "once" ∷ codes "audit" ∷ codes "a" ∷ codes "b" ∷ codes "--limit"
+    ∷ codes "many" ∷ []) ≡ ValueValidation ∷ []
 unfolding clap_on_literals
 a_word_is_no_limit = refl
 
-no_number_is_no_limit : fault_of once_app (codes "once" ∷ codes "audit" ∷ codes "a" ∷ codes "b" ∷ codes "--limit" ∷ []) ≡ InvalidValue ∷ []
+no_number_is_no_limit : fault_of once_app (codes "once" ∷ codes "audit" ∷ codes "a" ∷ codes "b" ∷ codes "--limit" ∷ [])
+    ≡ InvalidValue ∷ []
 unfolding clap_on_literals
 no_number_is_no_limit = refl
 
-two_limits_are_too_many : fault_of once_app (codes "once" ∷ codes "audit" ∷ codes "--limit" ∷ codes "7" ∷ codes "a" ∷ codes "b" ∷ codes "--limit=7" ∷ []) ≡ ArgumentConflict ∷ []
+two_limits_are_too_many : fault_of once_app
+    (codes "once" ∷ codes "audit" ∷ codes "--limit" ∷ codes "7" ∷ codes "a" ∷ codes "b" ∷ codes "--limit=7" ∷ [])
+    ≡ ArgumentConflict ∷ []
 unfolding clap_on_literals
 two_limits_are_too_many = refl
 
 -- a run keeps no links where no prefix is set, and else in files of that prefix
-a_run_has_no_fault : fault_of once_app (codes "once" ∷ codes "run" ∷ codes "a" ∷ codes "b" ∷ codes "c" ∷ codes "d" ∷ []) ≡ []
+a_run_has_no_fault : fault_of once_app (codes "once" ∷ codes "run" ∷ codes "a" ∷ codes "b" ∷ codes "c" ∷ codes "d" ∷ [])
+    ≡ []
 unfolding clap_on_literals
 a_run_has_no_fault = refl
 
-a_run_that_keeps_its_links_has_no_fault : fault_of once_app (codes "once" ∷ codes "run" ∷ codes "a" ∷ codes "b" ∷ codes "--links" ∷ codes "e" ∷ codes "c" ∷ codes "d" ∷ []) ≡ []
+a_run_that_keeps_its_links_has_no_fault : fault_of once_app
+    (codes "once" ∷ codes "run" ∷ codes "a" ∷ codes "b" ∷ codes "--links" ∷ codes "e" ∷ codes "c" ∷ codes "d" ∷ []) ≡ []
 unfolding clap_on_literals
 a_run_that_keeps_its_links_has_no_fault = refl
 
-files_alone_keep_no_links : NamesWith (codes "links") (codes "a" ∷ codes "b" ∷ codes "c" ∷ codes "d" ∷ []) (codes "a" ∷ codes "b" ∷ codes "c" ∷ codes "d" ∷ []) None
+files_alone_keep_no_links : NamesWith (codes "links") (codes "a" ∷ codes "b" ∷ codes "c" ∷ codes "d" ∷ [])
+    (codes "a" ∷ codes "b" ∷ codes "c" ∷ codes "d" ∷ []) None
 unfolding chars
 files_alone_keep_no_links = refl
 
-links_stand_before_the_files : NamesWith (codes "links") (codes "--links" ∷ codes "e" ∷ codes "a" ∷ codes "b" ∷ codes "c" ∷ codes "d" ∷ []) (codes "a" ∷ codes "b" ∷ codes "c" ∷ codes "d" ∷ []) (Some (codes "e"))
+links_stand_before_the_files : NamesWith (codes "links")
+    (codes "--links" ∷ codes "e" ∷ codes "a" ∷ codes "b" ∷ codes "c" ∷ codes "d" ∷ [])
+    (codes "a" ∷ codes "b" ∷ codes "c" ∷ codes "d" ∷ []) (Some (codes "e"))
 unfolding chars
 links_stand_before_the_files = record {
   before = [];
@@ -133,7 +153,9 @@ links_stand_before_the_files = record {
   files_are = refl;
 }
 
-links_stand_between_the_files : NamesWith (codes "links") (codes "a" ∷ codes "b" ∷ codes "--links=-e" ∷ codes "c" ∷ codes "d" ∷ []) (codes "a" ∷ codes "b" ∷ codes "c" ∷ codes "d" ∷ []) (Some (codes "-e"))
+links_stand_between_the_files : NamesWith (codes "links")
+    (codes "a" ∷ codes "b" ∷ codes "--links=-e" ∷ codes "c" ∷ codes "d" ∷ [])
+    (codes "a" ∷ codes "b" ∷ codes "c" ∷ codes "d" ∷ []) (Some (codes "-e"))
 unfolding chars
 links_stand_between_the_files = record {
   before = codes "a" ∷ codes "b" ∷ [];
@@ -147,7 +169,9 @@ links_stand_between_the_files = record {
   files_are = refl;
 }
 
-links_stand_behind_the_files : NamesWith (codes "links") (codes "a" ∷ codes "b" ∷ codes "c" ∷ codes "d" ∷ codes "--links" ∷ codes "e" ∷ []) (codes "a" ∷ codes "b" ∷ codes "c" ∷ codes "d" ∷ []) (Some (codes "e"))
+links_stand_behind_the_files : NamesWith (codes "links")
+    (codes "a" ∷ codes "b" ∷ codes "c" ∷ codes "d" ∷ codes "--links" ∷ codes "e" ∷ [])
+    (codes "a" ∷ codes "b" ∷ codes "c" ∷ codes "d" ∷ []) (Some (codes "e"))
 unfolding chars
 links_stand_behind_the_files = record {
   before = codes "a" ∷ codes "b" ∷ codes "c" ∷ codes "d" ∷ [];
@@ -161,15 +185,20 @@ links_stand_behind_the_files = record {
   files_are = refl;
 }
 
-no_prefix_is_no_option : fault_of once_app (codes "once" ∷ codes "run" ∷ codes "a" ∷ codes "b" ∷ codes "c" ∷ codes "d" ∷ codes "--links" ∷ []) ≡ InvalidValue ∷ []
+no_prefix_is_no_option : fault_of once_app
+    (codes "once" ∷ codes "run" ∷ codes "a" ∷ codes "b" ∷ codes "c" ∷ codes "d" ∷ codes "--links" ∷ []) ≡ InvalidValue
+    ∷ []
 unfolding clap_on_literals
 no_prefix_is_no_option = refl
 
-two_prefixes_are_too_many : fault_of once_app (codes "once" ∷ codes "run" ∷ codes "--links=e" ∷ codes "a" ∷ codes "b" ∷ codes "c" ∷ codes "d" ∷ codes "--links=e" ∷ []) ≡ ArgumentConflict ∷ []
+two_prefixes_are_too_many : fault_of once_app
+    (codes "once" ∷ codes "run" ∷ codes "--links=e" ∷ codes "a" ∷ codes "b" ∷ codes "c" ∷ codes "d" ∷ codes "--links=e"
+    ∷ []) ≡ ArgumentConflict ∷ []
 unfolding clap_on_literals
 two_prefixes_are_too_many = refl
 
-three_files_are_too_few_for_a_run : fault_of once_app (codes "once" ∷ codes "run" ∷ codes "a" ∷ codes "b" ∷ codes "c" ∷ []) ≡ MissingRequiredArgument ∷ []
+three_files_are_too_few_for_a_run : fault_of once_app
+    (codes "once" ∷ codes "run" ∷ codes "a" ∷ codes "b" ∷ codes "c" ∷ []) ≡ MissingRequiredArgument ∷ []
 unfolding clap_on_literals
 three_files_are_too_few_for_a_run = refl
 
@@ -181,7 +210,8 @@ a_lint_of_two_files_has_no_fault : fault_of once_app (codes "once" ∷ codes "li
 unfolding clap_on_literals
 a_lint_of_two_files_has_no_fault = refl
 
-three_files_are_too_many_for_a_lint : fault_of once_app (codes "once" ∷ codes "lint" ∷ codes "a" ∷ codes "b" ∷ codes "c" ∷ []) ≡ UnknownArgument ∷ []
+three_files_are_too_many_for_a_lint : fault_of once_app
+    (codes "once" ∷ codes "lint" ∷ codes "a" ∷ codes "b" ∷ codes "c" ∷ []) ≡ UnknownArgument ∷ []
 unfolding clap_on_literals
 three_files_are_too_many_for_a_lint = refl
 
@@ -198,15 +228,18 @@ short_help_flag : fault_of once_app (codes "once" ∷ codes "replay" ∷ codes "
 unfolding clap_on_literals
 short_help_flag = refl
 
-two_files_are_too_few : fault_of once_app (codes "once" ∷ codes "replay" ∷ codes "a" ∷ codes "b" ∷ []) ≡ MissingRequiredArgument ∷ []
+two_files_are_too_few : fault_of once_app (codes "once" ∷ codes "replay" ∷ codes "a" ∷ codes "b" ∷ [])
+    ≡ MissingRequiredArgument ∷ []
 unfolding clap_on_literals
 two_files_are_too_few = refl
 
-four_files_are_too_many : fault_of once_app (codes "once" ∷ codes "replay" ∷ codes "a" ∷ codes "b" ∷ codes "c" ∷ codes "d" ∷ []) ≡ UnknownArgument ∷ []
+four_files_are_too_many : fault_of once_app
+    (codes "once" ∷ codes "replay" ∷ codes "a" ∷ codes "b" ∷ codes "c" ∷ codes "d" ∷ []) ≡ UnknownArgument ∷ []
 unfolding clap_on_literals
 four_files_are_too_many = refl
 
-no_such_command : fault_of once_app (codes "once" ∷ codes "repaly" ∷ codes "a" ∷ []) ≡ UnknownArgument ∷ InvalidSubcommand ∷ []
+no_such_command : fault_of once_app (codes "once" ∷ codes "repaly" ∷ codes "a" ∷ []) ≡ UnknownArgument
+    ∷ InvalidSubcommand ∷ []
 unfolding clap_on_literals
 no_such_command = refl
 

@@ -60,13 +60,15 @@ once_app =
     let check = over_documents (codes "check") (file_rule (codes "CERTIFICATE")) in
     let confirm = over_documents (codes "confirm") (file_rule (codes "REFUTATION")) in
     let audit = with_rule (over_network (codes "audit") (file_rule (codes "TRAFFIC"))) limit_rule in
-    let three = with_subcommand (with_subcommand (with_subcommand (on_top wants_command (new_app (codes "once"))) replay.top) collect.top) check.top in
+    let three = with_subcommand (with_subcommand
+    (with_subcommand (on_top wants_command (new_app (codes "once"))) replay.top) collect.top) check.top in
     let run = with_rule (over_capture (codes "run")) links_rule in
     let lint = over_network (codes "lint") (new_rule (codes "TRAFFIC")) in
     let draw = with_rule (over_answer (codes "draw")) class_rule in
     let sum = over_network (codes "sum") (file_rule (codes "TOTALS")) in
     let explain = number_alone (codes "explain") in
-    let seven = with_subcommand (with_subcommand (with_subcommand (with_subcommand three confirm.top) audit.top) run.top) lint.top in
+    let seven = with_subcommand (with_subcommand (with_subcommand (with_subcommand three confirm.top) audit.top)
+    run.top) lint.top in
     with_subcommand (with_subcommand (with_subcommand seven draw.top) sum.top) explain.top
 
 -- the matches of these arguments on the program's command line, without a fault

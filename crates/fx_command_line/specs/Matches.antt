@@ -20,26 +20,31 @@ HoldsLimit found limit = (text : Text) × (one_text found (codes "limit") ≡ So
 
 abbrev pub IsReplayOf : Found → Call → Type 0
 IsReplayOf found (Replay network traffic run) =
-    HoldsFile found (codes "NETWORK") (string_bytes network) × HoldsFile found (codes "TRAFFIC") (string_bytes traffic) × HoldsFile found (codes "RUN") (string_bytes run)
+    HoldsFile found (codes "NETWORK") (string_bytes network) × HoldsFile found (codes "TRAFFIC") (string_bytes traffic)
+    × HoldsFile found (codes "RUN") (string_bytes run)
 IsReplayOf found _ = ⊥
 
 abbrev pub IsCollectOf : Found → Call → Type 0
-IsCollectOf found (Collect network stream) = HoldsFile found (codes "NETWORK") (string_bytes network) × HoldsFile found (codes "STREAM") (string_bytes stream)
+IsCollectOf found (Collect network stream) = HoldsFile found (codes "NETWORK") (string_bytes network)
+    × HoldsFile found (codes "STREAM") (string_bytes stream)
 IsCollectOf found _ = ⊥
 
 abbrev pub IsCheckOf : Found → Call → Type 0
 IsCheckOf found (Check network traffic certificate) =
-    HoldsFile found (codes "NETWORK") (string_bytes network) × HoldsFile found (codes "TRAFFIC") (string_bytes traffic) × HoldsFile found (codes "CERTIFICATE") (string_bytes certificate)
+    HoldsFile found (codes "NETWORK") (string_bytes network) × HoldsFile found (codes "TRAFFIC") (string_bytes traffic)
+    × HoldsFile found (codes "CERTIFICATE") (string_bytes certificate)
 IsCheckOf found _ = ⊥
 
 abbrev pub IsConfirmOf : Found → Call → Type 0
 IsConfirmOf found (Confirm network traffic refutation) =
-    HoldsFile found (codes "NETWORK") (string_bytes network) × HoldsFile found (codes "TRAFFIC") (string_bytes traffic) × HoldsFile found (codes "REFUTATION") (string_bytes refutation)
+    HoldsFile found (codes "NETWORK") (string_bytes network) × HoldsFile found (codes "TRAFFIC") (string_bytes traffic)
+    × HoldsFile found (codes "REFUTATION") (string_bytes refutation)
 IsConfirmOf found _ = ⊥
 
 abbrev pub IsAuditOf : Found → Call → Type 0
 IsAuditOf found (Audit network traffic limit) =
-    HoldsFile found (codes "NETWORK") (string_bytes network) × HoldsFile found (codes "TRAFFIC") (string_bytes traffic) × HoldsLimit found limit
+    HoldsFile found (codes "NETWORK") (string_bytes network) × HoldsFile found (codes "TRAFFIC") (string_bytes traffic)
+    × HoldsLimit found limit
 IsAuditOf found _ = ⊥
 
 abbrev pub IsExplainOf : Found → Call → Type 0
@@ -51,21 +56,27 @@ abbrev pub HoldsOption : Found → Text → Option Text → Type 0
 HoldsOption found name text = first_value found name ≡ text
 
 abbrev pub IsLintOf : Found → Call → Type 0
-IsLintOf found (Lint network traffic) = HoldsFile found (codes "NETWORK") (string_bytes network) × HoldsOption found (codes "TRAFFIC") (option_map string_bytes traffic)
+IsLintOf found (Lint network traffic) = HoldsFile found (codes "NETWORK") (string_bytes network)
+    × HoldsOption found (codes "TRAFFIC") (option_map string_bytes traffic)
 IsLintOf found _ = ⊥
 
 abbrev pub IsDrawOf : Found → Call → Type 0
 IsDrawOf found (Draw network traffic answer class) =
-    HoldsFile found (codes "NETWORK") (string_bytes network) × HoldsOption found (codes "TRAFFIC") (option_map string_bytes traffic) × HoldsOption found (codes "ANSWER") (option_map string_bytes answer)
+    HoldsFile found (codes "NETWORK") (string_bytes network)
+    × HoldsOption found (codes "TRAFFIC") (option_map string_bytes traffic)
+    × HoldsOption found (codes "ANSWER") (option_map string_bytes answer)
     × HoldsOption found (codes "class") (option_map string_bytes class)
 IsDrawOf found _ = ⊥
 
 abbrev pub IsSumOf : Found → Call → Type 0
-IsSumOf found (Sum network totals) = HoldsFile found (codes "NETWORK") (string_bytes network) × HoldsFile found (codes "TOTALS") (string_bytes totals)
+IsSumOf found (Sum network totals) = HoldsFile found (codes "NETWORK") (string_bytes network)
+    × HoldsFile found (codes "TOTALS") (string_bytes totals)
 IsSumOf found _ = ⊥
 
 abbrev pub IsRunCall : Found → Call → Type 0
 IsRunCall found (Run network traffic capture schedule links) =
-    HoldsFile found (codes "NETWORK") (string_bytes network) × HoldsFile found (codes "TRAFFIC") (string_bytes traffic) × HoldsFile found (codes "CAPTURE") (string_bytes capture)
-    × HoldsFile found (codes "SCHEDULE") (string_bytes schedule) × HoldsOption found (codes "links") (option_map string_bytes links)
+    HoldsFile found (codes "NETWORK") (string_bytes network) × HoldsFile found (codes "TRAFFIC") (string_bytes traffic)
+    × HoldsFile found (codes "CAPTURE") (string_bytes capture)
+    × HoldsFile found (codes "SCHEDULE") (string_bytes schedule)
+    × HoldsOption found (codes "links") (option_map string_bytes links)
 IsRunCall found _ = ⊥

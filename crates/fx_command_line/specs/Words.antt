@@ -38,14 +38,17 @@ file_given (Some file) = file ∷ []
 -- before them, since Rust reads such texts as numbers.
 abbrev pub IsLimit : Text → ℕ → Type 0
 IsLimit text limit =
-    IsNumeral 10 (without_leading_plus text) × (digits_value 10 (without_leading_plus text) ≡ limit) × (1 ≤ limit) × (limit ≤ 1000000)
+    IsNumeral 10 (without_leading_plus text) × (digits_value 10 (without_leading_plus text) ≡ limit) × (1 ≤ limit)
+    × (limit ≤ 1000000)
 
 -- `--NAME TEXT`, where the text is no flag, or `--NAME=TEXT` (61 is `=`)
 abbrev pub SetsOption : Text → List Text → Text → Type 0
 SetsOption name words text =
-    ((words ≡ (codes "--" ++ name) ∷ text ∷ []) × (is_flag text ≡ false)) ⊎ (words ≡ (codes "--" ++ (name ++ 61 ∷ text)) ∷ [])
+    ((words ≡ (codes "--" ++ name) ∷ text ∷ []) × (is_flag text ≡ false))
+    ⊎ (words ≡ (codes "--" ++ (name ++ 61 ∷ text)) ∷ [])
 
--- The arguments after a command name these files and set this option to this text: the option is among the files' names,
+-- The arguments after a command name these files and set this option to this text: the option is among the files'
+-- names,
 -- with no `--` before it.
 pub record NamesWithOption (name : Text) (rest files : List Text) (text : Text) : Type 0 where
   pub before : List Text
@@ -77,7 +80,8 @@ pub record NamesAudit (words : List Text) (files : List Text) (limit : ℕ) : Ty
   pub named : NamesWith (codes "limit") rest files option
   pub limit_is : IsLimitSet option limit
 
--- the arguments are the program's own name, `run`, and arguments that name these files and this prefix of the links' files, if any
+-- the arguments are the program's own name, `run`, and arguments that name these files and this prefix of the links'
+-- files, if any
 pub record NamesRun (words : List Text) (files : List Text) (links : Option Text) : Type 0 where
   pub program : Text
   pub rest : List Text
@@ -91,7 +95,8 @@ pub record NamesDraw (words : List Text) (files : List Text) (class : Option Tex
   pub words_are : words ≡ program ∷ codes "draw" ∷ rest
   pub named : NamesWith (codes "class") rest files class
 
--- the same of a network, a declaration of traffic if one is given, and the text of an answer about both if that is given too
+-- the same of a network, a declaration of traffic if one is given, and the text of an answer about both if that is
+-- given too
 abbrev pub NamesDrawing : List Text → Text → Option Text → Option Text → Option Text → Type 0
 NamesDrawing words network None None class = NamesDraw words (network ∷ []) class
 NamesDrawing words network (Some traffic) None class = NamesDraw words (network ∷ traffic ∷ []) class
@@ -100,22 +105,27 @@ NamesDrawing words network None (Some answer) class = ⊥
 
 -- `once replay NETWORK TRAFFIC RUN`, `once collect NETWORK STREAM`, `once check NETWORK TRAFFIC CERTIFICATE`,
 -- `once confirm NETWORK TRAFFIC REFUTATION`, `once audit NETWORK TRAFFIC [--limit N]`,
--- `once run NETWORK TRAFFIC CAPTURE SCHEDULE [--links PREFIX]`, `once sum NETWORK TOTALS`, `once lint NETWORK [TRAFFIC]`,
+-- `once run NETWORK TRAFFIC CAPTURE SCHEDULE [--links PREFIX]`, `once sum NETWORK TOTALS`, `once lint NETWORK
+-- [TRAFFIC]`,
 -- `once draw NETWORK [TRAFFIC [ANSWER]] [--class NAME]` and `once explain NUMBER`
 abbrev pub Names : List Text → Call → Type 0
 Names words (Replay network traffic run) =
     NamesFiles words (codes "replay") (string_bytes network ∷ string_bytes traffic ∷ string_bytes run ∷ [])
-Names words (Collect network stream) = NamesFiles words (codes "collect") (string_bytes network ∷ string_bytes stream ∷ [])
+Names words (Collect network stream) = NamesFiles words (codes "collect")
+    (string_bytes network ∷ string_bytes stream ∷ [])
 Names words (Check network traffic certificate) =
     NamesFiles words (codes "check") (string_bytes network ∷ string_bytes traffic ∷ string_bytes certificate ∷ [])
 Names words (Confirm network traffic refutation) =
     NamesFiles words (codes "confirm") (string_bytes network ∷ string_bytes traffic ∷ string_bytes refutation ∷ [])
 Names words (Audit network traffic limit) = NamesAudit words (string_bytes network ∷ string_bytes traffic ∷ []) limit
 Names words (Run network traffic capture schedule links) =
-    NamesRun words (string_bytes network ∷ string_bytes traffic ∷ string_bytes capture ∷ string_bytes schedule ∷ []) (option_map string_bytes links)
-Names words (Lint network traffic) = NamesFiles words (codes "lint") (string_bytes network ∷ file_given (option_map string_bytes traffic))
+    NamesRun words (string_bytes network ∷ string_bytes traffic ∷ string_bytes capture ∷ string_bytes schedule ∷ [])
+    (option_map string_bytes links)
+Names words (Lint network traffic) = NamesFiles words (codes "lint")
+    (string_bytes network ∷ file_given (option_map string_bytes traffic))
 Names words (Draw network traffic answer class) =
-    NamesDrawing words (string_bytes network) (option_map string_bytes traffic) (option_map string_bytes answer) (option_map string_bytes class)
+    NamesDrawing words (string_bytes network) (option_map string_bytes traffic) (option_map string_bytes answer)
+    (option_map string_bytes class)
 Names words (Sum network totals) = NamesFiles words (codes "sum") (string_bytes network ∷ string_bytes totals ∷ [])
 Names words (Explain number) = NamesFiles words (codes "explain") (string_bytes number ∷ [])
 

@@ -7,8 +7,13 @@ use Rattle.fx_config.specs.Keys.{add_field, field_check, fields_faults, with_fie
 use Rattle.fx_config.specs.KeyFields.{key_field_faults, key_field_of}
 use Rattle.fx_layout.specs.Keys.{Layout}
 
-pub next_field : (layout : Layout) (up : List ℕ) (i : ℕ) (vs : List Value) (v : Value) → drop i vs ≡ v ∷ drop (i + 1) vs → fields_faults layout up i (map view (drop i vs)) ≡ key_field_faults (nth up i) (view v) ++ (field_check layout (key_field_of (view v)) (nth up i) ++ fields_faults (add_field layout (key_field_of (view v))) up (i + 1) (map view (drop (i + 1) vs)))
+pub next_field : (layout : Layout) (up : List ℕ) (i : ℕ) (vs : List Value) (v : Value) → drop i vs ≡ v ∷ drop (i + 1) vs
+    → fields_faults layout up i (map view (drop i vs)) ≡ key_field_faults (nth up i) (view v)
+    ++ (field_check layout (key_field_of (view v)) (nth up i)
+    ++ fields_faults (add_field layout (key_field_of (view v))) up (i + 1) (map view (drop (i + 1) vs)))
 next_field layout up i vs v h = rw h refl
 
-pub next_layout : (layout : Layout) (i : ℕ) (vs : List Value) (v : Value) → drop i vs ≡ v ∷ drop (i + 1) vs → with_fields layout (map view (drop i vs)) ≡ with_fields (add_field layout (key_field_of (view v))) (map view (drop (i + 1) vs))
+pub next_layout : (layout : Layout) (i : ℕ) (vs : List Value) (v : Value) → drop i vs ≡ v ∷ drop (i + 1) vs
+    → with_fields layout (map view (drop i vs))
+    ≡ with_fields (add_field layout (key_field_of (view v))) (map view (drop (i + 1) vs))
 next_layout layout i vs v h = rw h refl

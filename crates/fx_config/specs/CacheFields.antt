@@ -37,13 +37,15 @@ abbrev pub has_other_octets : Element → ℕ → Bool
 has_other_octets (OnAxis axis) octets = not (octets == axis_width axis / 8)
 has_other_octets _ octets = false
 
--- whether the field is a flow key: in an immediate cache every field on an axis, otherwise the fields marked as flow keys
+-- whether the field is a flow key: in an immediate cache every field on an axis, otherwise the fields marked as flow
+-- keys
 abbrev pub is_key : Bool → Element → Bool → Bool
 is_key immediate element marked = if immediate then is_on_axis element else marked
 
 -- the faults of a total counter, and of a key that isn't on an axis
 abbrev pub element_faults : Element → Bool → List ℕ → List FoundFault
-element_faults element key up = fault_if (is_total_count element) total_counter up ++ fault_if (key && not (is_on_axis element)) key_without_axis up
+element_faults element key up = fault_if (is_total_count element) total_counter up
+    ++ fault_if (key && not (is_on_axis element)) key_without_axis up
 
 -- the faults of a counter whose length isn't 8 octets, and of a key with a wrong number of octets
 abbrev pub length_faults : Element → Bool → Option ℕ → List ℕ → List FoundFault
@@ -94,4 +96,5 @@ cache_field_of immediate d = record {
 
 -- the row of a layout's fields
 abbrev pub fields_row : Bool → Row
-fields_row immediate = entries 1 field_limit (codes "cacheField") (cache_field_faults immediate) (λ d. (cache_field_of immediate d).name)
+fields_row immediate = entries 1 field_limit (codes "cacheField") (cache_field_faults immediate)
+    (λ d. (cache_field_of immediate d).name)

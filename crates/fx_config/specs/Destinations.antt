@@ -30,7 +30,8 @@ abbrev pub destination_faults : List (List ℕ) → List ℕ → Data → List F
 destination_faults earlier = object_faults (destination_rows earlier)
 
 abbrev pub transport_of : Data → Transport
-transport_of d = if is_some (get (codes "tcpExporter") d) then Tcp else (if is_some (get (codes "sctpExporter") d) then Sctp else Udp)
+transport_of d = if is_some (get (codes "tcpExporter") d) then Tcp
+    else (if is_some (get (codes "sctpExporter") d) then Sctp else Udp)
 
 abbrev pub destination_of : Data → Destination
 destination_of d = record {

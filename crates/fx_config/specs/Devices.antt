@@ -48,9 +48,11 @@ referred_rows = take 3 (drop 1 list_rows)
 
 abbrev pub referred_of : Data → Referred
 referred_of d = record {
-  selecting = named_entries (λ x. x.name) (map selection_process_of (items_of (member_of (codes "selectionProcess") d)));
+  selecting = named_entries (λ x. x.name)
+      (map selection_process_of (items_of (member_of (codes "selectionProcess") d)));
   caches = named_entries (λ x. x.name) (map cache_of (items_of (member_of (codes "cache") d)));
-  exporting = named_entries (λ x. x.name) (map exporting_process_of (items_of (member_of (codes "exportingProcess") d)));
+  exporting = named_entries (λ x. x.name)
+      (map exporting_process_of (items_of (member_of (codes "exportingProcess") d)));
 }
 
 abbrev pub with_others : List ObservationPoint → Referred → List CollectingProcess → Lists
@@ -70,7 +72,8 @@ with_others points referred collecting = record {
 }
 
 abbrev pub named_lists_of : Data → Lists
-named_lists_of d = with_others (map observation_point_of (items_of (member_of (codes "observationPoint") d))) (referred_of d) (map collecting_process_of (items_of (member_of (codes "collectingProcess") d)))
+named_lists_of d = with_others (map observation_point_of (items_of (member_of (codes "observationPoint") d)))
+    (referred_of d) (map collecting_process_of (items_of (member_of (codes "collectingProcess") d)))
 
 abbrev pub ipfix_faults : List ℕ → Data → List FoundFault
 ipfix_faults = object_faults ipfix_rows

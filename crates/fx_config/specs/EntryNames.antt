@@ -15,6 +15,8 @@ name_row earlier = required_row (codes "name") (name_once earlier)
 -- list the rest of these members.
 abbrev pub IsEntryName : List (List ℕ) → List (List ℕ) → List ℕ → Data → Result Name Fault → Type 0
 IsEntryName listed earlier up d (Ok name) =
-    ((rows : List Row) → listed_in (name_row earlier ∷ rows) ≡ listed → object_faults (name_row earlier ∷ rows) up d ≡ row_faults rows up d)
+    ((rows : List Row) → listed_in (name_row earlier ∷ rows) ≡ listed → object_faults (name_row earlier ∷ rows) up d
+    ≡ row_faults rows up d)
     × (name ≡ text_of (member_of (codes "name") d))
-IsEntryName listed earlier up d (Err e) = (rows : List Row) → listed_in (name_row earlier ∷ rows) ≡ listed → Refuses e (object_faults (name_row earlier ∷ rows) up d)
+IsEntryName listed earlier up d (Err e) = (rows : List Row) → listed_in (name_row earlier ∷ rows) ≡ listed
+    → Refuses e (object_faults (name_row earlier ∷ rows) up d)

@@ -17,8 +17,10 @@ use Rattle.fx_config.specs.declared.exporting_process.ExportMode.TheVariants.{Pa
 abbrev pub export_mode_named : List ℕ → Option ExportMode
 export_mode_named name =
     if bytes_eq name (codes "parallel") || bytes_eq name (codes "ietf-ipfix-psamp:parallel") then Some Parallel else
-    (if bytes_eq name (codes "loadBalancing") || bytes_eq name (codes "ietf-ipfix-psamp:loadBalancing") then Some LoadBalancing else
-    (if bytes_eq name (codes "fallback") || bytes_eq name (codes "ietf-ipfix-psamp:fallback") then Some Fallback else None))
+    (if bytes_eq name (codes "loadBalancing") || bytes_eq name (codes "ietf-ipfix-psamp:loadBalancing")
+    then Some LoadBalancing else
+    (if bytes_eq name (codes "fallback") || bytes_eq name (codes "ietf-ipfix-psamp:fallback") then Some Fallback
+    else None))
 
 -- ---- exporting processes, whose options are not read
 

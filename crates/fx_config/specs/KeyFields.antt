@@ -28,7 +28,8 @@ longest_prefix _ = 32
 -- the faults of a prefix without a length, and of a length longer than the addresses
 abbrev pub prefix_check : Element → Option ℕ → List ℕ → List FoundFault
 prefix_check element None up = fault_if (is_prefix element) missing_member up
-prefix_check element (Some bits) up = fault_if (nat_lt (longest_prefix element) bits) bad_value (below up (codes "prefixLength"))
+prefix_check element (Some bits) up = fault_if (nat_lt (longest_prefix element) bits) bad_value
+    (below up (codes "prefixLength"))
 
 abbrev pub key_element_in : Data → Element
 key_element_in d = element_given (name_in d) (number_in d) 0

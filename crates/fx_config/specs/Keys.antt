@@ -14,7 +14,8 @@ use Rattle.fx_base.specs.Refusals.{bad_value}
 
 -- the layout with a part added, if the axis can have this number of bits and isn't in the layout yet
 abbrev pub with_new : Layout → Part → Option Layout
-with_new layout part = if can_stand part && not (is_some (part_at layout part.axis)) then Some (with_part layout part) else None
+with_new layout part = if can_stand part && not (is_some (part_at layout part.axis)) then Some (with_part layout part)
+    else None
 
 -- the layout with the part of a field added
 abbrev pub with_field : Layout → KeyField → Option Layout
@@ -32,7 +33,8 @@ abbrev pub fields_faults : Layout → List ℕ → ℕ → List Data → List Fo
 fields_faults layout up i [] = []
 fields_faults layout up i (d ∷ ds) =
     key_field_faults (nth up i) d
-    ++ (field_check layout (key_field_of d) (nth up i) ++ fields_faults (add_field layout (key_field_of d)) up (i + 1) ds)
+    ++ (field_check layout (key_field_of d) (nth up i)
+    ++ fields_faults (add_field layout (key_field_of d)) up (i + 1) ds)
 
 abbrev pub with_fields : Layout → List Data → Layout
 with_fields layout [] = layout

@@ -23,14 +23,16 @@ axis_matched _ = None
 -- the match that an element and the text of its value denote
 abbrev pub property_given : Element → List ℕ → Option PropertyMatch
 property_given element text =
-    option_and_then (λ axis. option_map (λ range. record { axis = axis; range = range }) (values_of element text)) (axis_matched element)
+    option_and_then (λ axis. option_map (λ range. record { axis = axis; range = range }) (values_of element text))
+    (axis_matched element)
 
 -- the fault of an element that can't be matched on, or of a text that spells no value of it
 abbrev pub property_check : Element → List ℕ → List ℕ → List FoundFault
 property_check element text up = fault_if (not (is_some (property_given element text))) bad_value up
 
 abbrev pub property_meant : Element → List ℕ → PropertyMatch
-property_meant element text = unwrap_or (property_given element text) (record { axis = Source; range = record { low = 0; high = 0; bits = 0 } })
+property_meant element text = unwrap_or (property_given element text)
+    (record { axis = Source; range = record { low = 0; high = 0; bits = 0 } })
 
 abbrev pub property_match_rows : List Row
 property_match_rows =

@@ -12,7 +12,8 @@ use Rattle.fx_config.specs.declared.ipfix.Device.{Device}
 
 -- the references of a point to its selection processes
 abbrev pub point_references : List (List ℕ) → List ℕ → ObservationPoint → List FoundFault
-point_references processes up point = member_references (unknown processes) up (codes "selectionProcess") point.selection_processes
+point_references processes up point = member_references (unknown processes) up (codes "selectionProcess")
+    point.selection_processes
 
 -- the reference of a selection process to its cache
 abbrev pub process_references : List (List ℕ) → List ℕ → SelectionProcess → List FoundFault
@@ -45,12 +46,18 @@ references_among processes caches exporters up device =
 
 abbrev pub reference_faults : List ℕ → Device → List FoundFault
 reference_faults up device =
-    references_among (map (λ x. x.name) device.selection_processes) (map (λ x. x.name) device.caches) (map (λ x. x.name) device.exporting_processes) up device
+    references_among (map (λ x. x.name) device.selection_processes) (map (λ x. x.name) device.caches)
+    (map (λ x. x.name) device.exporting_processes) up device
 
 -- each name that refers to an entry of the device is the name of one in the corresponding list
 pub record Resolves (device : Device) : Type 0 where
-  pub points : All (λ point. All (IsKnown (map (λ x. x.name) device.selection_processes)) point.selection_processes) device.observation_points
-  pub processes : All (λ process. IfSome process.cache (IsKnown (map (λ x. x.name) device.caches))) device.selection_processes
-  pub caches : All (λ cache. All (IsKnown (map (λ x. x.name) device.exporting_processes)) cache.exporting_processes) device.caches
-  pub collecting : All (λ process. All (IsKnown (map (λ x. x.name) device.exporting_processes)) process.exporting_processes) device.collecting_processes
-  pub aggregations : All (λ process. All (λ aggregation. All (IsKnown (map (λ x. x.name) device.exporting_processes)) aggregation.exporting_processes) process.aggregations) device.collecting_processes
+  pub points : All (λ point. All (IsKnown (map (λ x. x.name) device.selection_processes)) point.selection_processes)
+      device.observation_points
+  pub processes : All (λ process. IfSome process.cache (IsKnown (map (λ x. x.name) device.caches)))
+      device.selection_processes
+  pub caches : All (λ cache. All (IsKnown (map (λ x. x.name) device.exporting_processes)) cache.exporting_processes)
+      device.caches
+  pub collecting : All (λ process. All (IsKnown (map (λ x. x.name) device.exporting_processes))
+      process.exporting_processes) device.collecting_processes
+  pub aggregations : All (λ process. All (λ aggregation. All (IsKnown (map (λ x. x.name) device.exporting_processes))
+      aggregation.exporting_processes) process.aggregations) device.collecting_processes

@@ -22,7 +22,8 @@ all_so : {A : Type 0} (P : A → Type 0) (xs : List A) → ((x : A) → P x) →
 all_so P [] h = tt
 all_so P (x ∷ xs) h = (h x, all_so P xs h)
 
-all_by_place : {A : Type 0} (P : A → Type 0) (xs : List A) → ((n : ℕ) (x : A) → slice_get xs n ≡ Some x → P x) → AllByRecursion P xs
+all_by_place : {A : Type 0} (P : A → Type 0) (xs : List A) → ((n : ℕ) (x : A) → slice_get xs n ≡ Some x → P x)
+    → AllByRecursion P xs
 all_by_place P [] h = tt
 all_by_place P (x ∷ xs) h = (h zero x refl, all_by_place P xs (λ n y at. h (suc n) y at))
 
@@ -37,23 +38,30 @@ module _ (net : Net) where
         | inr held ↦ (held.0, refl, held.1)
       ]
 
-  caches_emptied : (before : Put) (old : Contents) (after : Put) (new : Contents) (ranked : List ℕ) → length old.links ≡ length net.links → AreUsable old.stores → OnlyNamedHold net old.stores → NothingWaits old.links
+  caches_emptied : (before : Put) (old : Contents) (after : Put) (new : Contents) (ranked : List ℕ) → length old.links
+      ≡ length net.links → AreUsable old.stores → OnlyNamedHold net old.stores → NothingWaits old.links
       → (e : EmptiesNetwork net ranked before old after new) → Rests net (LeadsOn net []) (IsToCome net []) e.1
   caches_emptied before old after new ranked many usable named still e =
       let caches : List ℕ = caches_of_all net in
       let any : (link : ℕ) → LeadsOn net [] link = λ link to at. refl in
       let leave : AllByRecursion (LeavesOn net (LeadsOn net [])) caches =
-      all_so (LeavesOn net (LeadsOn net [])) caches (λ place chosen. all_so (LeadsOn net []) (links_used net chosen (named_by (slice_get net.holders place))) any) in
-      let first : Rests net (LeadsOn net []) (CanBeNamed net) old = (record { links = λ link o at. inl (any link); stores = named; usable = usable; as_many = many }, still) in
-      holds_in_more net (LeadsOn net []) (λ n. CanBeNamed net n × (is_in caches n ≡ false)) (IsToCome net []) e.1 (λ place h. to_come place h.0 h.1)
+      all_so (LeavesOn net (LeadsOn net [])) caches
+      (λ place chosen. all_so (LeadsOn net []) (links_used net chosen (named_by (slice_get net.holders place))) any)
+      in
+      let first : Rests net (LeadsOn net []) (CanBeNamed net) old =
+      (record { links = λ link o at. inl (any link); stores = named; usable = usable; as_many = many }, still) in
+      holds_in_more net (LeadsOn net []) (λ n. CanBeNamed net n × (is_in caches n ≡ false)) (IsToCome net []) e.1
+      (λ place h. to_come place h.0 h.1)
       (rests_once_all_emptied net (LeadsOn net []) (CanBeNamed net) caches before old e.0 e.1 leave first e.2)
 
   -- ---- at the end all processes are
 
   module _ (ranked : List ℕ) (whole : IsWhole net ranked) where
-    process_there : (process holder : ℕ) → is_in (holders_of (slice_get net.processes process)) holder ≡ true → is_in ranked process ≡ true
+    process_there : (process holder : ℕ) → is_in (holders_of (slice_get net.processes process)) holder ≡ true
+        → is_in ranked process ≡ true
     process_there process holder held = by (slice_get net.processes process) refl held where
-      by : (o : Option Process) → slice_get net.processes process ≡ o → is_in (holders_of o) holder ≡ true → is_in ranked process ≡ true
+      by : (o : Option Process) → slice_get net.processes process ≡ o → is_in (holders_of o) holder ≡ true
+          → is_in ranked process ≡ true
       by None at h = absurd cc
       by (Some p) at h = whole.all process (there_is_below net.processes process p at)
 
@@ -65,17 +73,21 @@ module _ (net : Net) where
         let to = there net.links link low in
         both_ways (is_in ranked to.0) (on to.0 to.1) (whole.all to.0 (whole.leads link to.0 to.1))
 
-    nothing_left : (c : Contents) → Rests net (LeadsOn net ranked) (IsToCome net ranked) c → NothingIsStored c.stores × NoOctets c.links
+    nothing_left : (c : Contents) → Rests net (LeadsOn net ranked) (IsToCome net ranked) c → NothingIsStored c.stores
+        × NoOctets c.links
     nothing_left c h = (
       λ place. elim (h.0.stores place) [ inl held ↦ absurd (none_to_come place held) | inr none ↦ none ],
       all_by_place (λ (o : Ongoing). o.queue ≡ []) c.links (λ link o at. elim (h.0.links link o at) [
-        | inl on ↦ absurd (none_leads_on link (subst (λ (n : ℕ). link < n) h.0.as_many (there_is_below c.links link o at)) on)
+        | inl on ↦ absurd (none_leads_on link (subst (λ (n : ℕ). link < n) h.0.as_many
+            (there_is_below c.links link o at)) on)
         | inr idle ↦ idle.queue
       ]),
     )
 
-pub closing_empties : (net : Net) (ranked : List ℕ) (before after : Put) (old new : Contents) → IsWhole net ranked → length old.links ≡ length net.links → AreUsable old.stores → OnlyNamedHold net old.stores → NothingWaits old.links
+pub closing_empties : (net : Net) (ranked : List ℕ) (before after : Put) (old new : Contents) → IsWhole net ranked
+    → length old.links ≡ length net.links → AreUsable old.stores → OnlyNamedHold net old.stores → NothingWaits old.links
     → EmptiesNetwork net ranked before old after new → NothingIsStored new.stores × NoOctets new.links
 closing_empties net ranked before after old new whole many usable named still e =
     nothing_left net ranked whole new
-    (all_finished net [] ranked e.0 e.1 after new whole.order_is (λ p q come f. absurd cc) (caches_emptied net before old after new ranked many usable named still e) e.3)
+    (all_finished net [] ranked e.0 e.1 after new whole.order_is (λ p q come f. absurd cc)
+    (caches_emptied net before old after new ranked many usable named still e) e.3)

@@ -55,35 +55,49 @@ received c = after_carrying meter 0 (queued_on (slice_get (put_out c).links 0)) 
 abbrev closed : Contents → Contents
 closed c = after_finishing (received c)
 
-each_first : (others : List (Option Stored)) (link : ℕ) → HasRoom (slice_get (emptied (sending others)).links link) × Writes (opaque (suc link)) (opaque (suc link)) (to_put_on (emptied (sending others)).second (slice_get (emptied (sending others)).links link))
+each_first : (others : List (Option Stored)) (link : ℕ) → HasRoom (slice_get (emptied (sending others)).links link)
+    × Writes (opaque (suc link)) (opaque (suc link))
+    (to_put_on (emptied (sending others)).second (slice_get (emptied (sending others)).links link))
 each_first others zero = (refl, refl)
 each_first others (suc link) = (tt, refl)
 
-puts_first : (others : List (Option Stored)) → PutsAll opaque opaque (emptied (sending others)).second (emptied (sending others)).links
+puts_first : (others : List (Option Stored))
+    → PutsAll opaque opaque (emptied (sending others)).second (emptied (sending others)).links
 puts_first others = (refl, each_first others)
 
-each_last : (others : List (Option Stored)) (link : ℕ) → HasRoom (slice_get (received (sending others)).links link) × Writes (opaque (suc link)) (opaque (suc link)) (to_put_on (received (sending others)).second (slice_get (received (sending others)).links link))
+each_last : (others : List (Option Stored)) (link : ℕ) → HasRoom (slice_get (received (sending others)).links link)
+    × Writes (opaque (suc link)) (opaque (suc link))
+    (to_put_on (received (sending others)).second (slice_get (received (sending others)).links link))
 unfolding read_all read_in
 each_last others zero = (refl, refl)
 each_last others (suc link) = (tt, refl)
 
-puts_last : (others : List (Option Stored)) → PutsAll opaque opaque (received (sending others)).second (received (sending others)).links
+puts_last : (others : List (Option Stored))
+    → PutsAll opaque opaque (received (sending others)).second (received (sending others)).links
 puts_last others = (refl, each_last others)
 
-empties : (others : List (Option Stored)) → Ended (Empties meter 0) opaque (sending others) opaque (put_out (sending others))
+empties : (others : List (Option Stored))
+    → Ended (Empties meter 0) opaque (sending others) opaque (put_out (sending others))
 empties others = record { done = emptied (sending others); made = refl; put = puts_first others; new_is = refl }
 
-receives : (others : List (Option Stored)) → Ended (CarriesWhole meter 0) opaque (put_out (sending others)) opaque (closed (sending others))
+receives : (others : List (Option Stored))
+    → Ended (CarriesWhole meter 0) opaque (put_out (sending others)) opaque (closed (sending others))
 receives others = record { done = received (sending others); made = refl; put = puts_last others; new_is = refl }
 
-closes : (others : List (Option Stored)) → EmptiesNetwork meter (0 ∷ []) opaque (sending others) opaque (closed (sending others))
+closes : (others : List (Option Stored))
+    → EmptiesNetwork meter (0 ∷ []) opaque (sending others) opaque (closed (sending others))
 closes others =
     let then_put : Contents = put_out (sending others) in
     let then_closed : Contents = closed (sending others) in (
       opaque,
       then_put,
       (opaque, then_put, empties others, (refl, refl)),
-      (opaque, then_closed, (opaque, then_closed, (opaque, then_closed, receives others, (refl, refl)), (refl, refl)), (refl, refl)),
+      (
+        opaque,
+        then_closed,
+        (opaque, then_closed, (opaque, then_closed, receives others, (refl, refl)), (refl, refl)),
+        (refl, refl),
+      ),
     )
 
 -- ---- nothing is left
@@ -104,12 +118,14 @@ named zero = inl (Cache 1 1, refl)
 named (suc place) = inr refl
 
 nothing_left : NothingIsStored (closed (sending [])).stores × NoOctets (closed (sending [])).links
-nothing_left = closing_empties meter (0 ∷ []) opaque opaque (sending []) (closed (sending [])) comes refl (tt, tt) named ((refl, refl), tt) (closes [])
+nothing_left = closing_empties meter (0 ∷ []) opaque opaque (sending []) (closed (sending [])) comes refl (tt, tt) named
+    ((refl, refl), tt) (closes [])
 
 -- ---- what is left otherwise
 
 -- what no name means isn't emptied
-nameless_stays : (others : List (Option Stored)) (place : ℕ) → count_in (closed (sending others)).stores (suc place) ≡ count_in others place
+nameless_stays : (others : List (Option Stored)) (place : ℕ) → count_in (closed (sending others)).stores (suc place)
+    ≡ count_in others place
 unfolding read_all read_in
 nameless_stays others place = refl
 

@@ -28,36 +28,51 @@ numbered_in xs (suc n) x at = in_list xs n x at
 abbrev all_caches : List DeviceEntry → List ℕ
 all_caches devices = flat_map (λ (d : DeviceEntry). d.caches) devices
 
-cache_in : (devices : List DeviceEntry) (n cache holder : ℕ) → entry_numbered (caches_of (slice_get devices n)) cache ≡ Some holder → is_in (all_caches devices) holder ≡ true
+cache_in : (devices : List DeviceEntry) (n cache holder : ℕ) → entry_numbered (caches_of (slice_get devices n)) cache
+    ≡ Some holder → is_in (all_caches devices) holder ≡ true
 cache_in [] n cache holder at = let none : is_in [] holder ≡ true = numbered_in [] cache holder at in absurd cc
 cache_in (d ∷ devices) zero cache holder at =
     let rest : List ℕ = all_caches devices in
-    list_any-append (λ p. p == holder) d.caches rest ∙ or_left (is_in d.caches holder) (is_in rest holder) (numbered_in d.caches cache holder at)
+    list_any-append (λ p. p == holder) d.caches rest
+    ∙ or_left (is_in d.caches holder) (is_in rest holder) (numbered_in d.caches cache holder at)
 cache_in (d ∷ devices) (suc n) cache holder at =
     let rest : List ℕ = all_caches devices in
-    list_any-append (λ p. p == holder) d.caches rest ∙ or_right (is_in d.caches holder) (is_in rest holder) (cache_in devices n cache holder at)
+    list_any-append (λ p. p == holder) d.caches rest
+    ∙ or_right (is_in d.caches holder) (is_in rest holder) (cache_in devices n cache holder at)
 
-named_cache_in : (devices : List DeviceEntry) (n cache holder : ℕ) → entry_numbered (caches_of (entry_numbered devices n)) cache ≡ Some holder → is_in (all_caches devices) holder ≡ true
-named_cache_in devices zero cache holder at = let none : is_in [] holder ≡ true = numbered_in [] cache holder at in absurd cc
+named_cache_in : (devices : List DeviceEntry) (n cache holder : ℕ)
+    → entry_numbered (caches_of (entry_numbered devices n)) cache ≡ Some holder → is_in (all_caches devices) holder
+    ≡ true
+named_cache_in devices zero cache holder at = let none : is_in [] holder ≡ true = numbered_in [] cache holder at in
+    absurd cc
 named_cache_in devices (suc n) cache holder at = cache_in devices n cache holder at
 
 -- ---- aggregations
 
-held_in : (xs : List AggregationEntry) (n holder : ℕ) → held_at (slice_get xs n) ≡ Some holder → is_in (map (λ (a : AggregationEntry). a.holder) xs) holder ≡ true
+held_in : (xs : List AggregationEntry) (n holder : ℕ) → held_at (slice_get xs n) ≡ Some holder
+    → is_in (map (λ (a : AggregationEntry). a.holder) xs) holder ≡ true
 held_in [] n holder at = absurd cc
 held_in (a ∷ xs) zero holder at =
-    let same : a.holder ≡ holder = cc in or_left (a.holder == holder) (is_in (map (λ (b : AggregationEntry). b.holder) xs) holder) (eq-eqb a.holder holder same)
-held_in (a ∷ xs) (suc n) holder at = or_right (a.holder == holder) (is_in (map (λ (b : AggregationEntry). b.holder) xs) holder) (held_in xs n holder at)
+    let same : a.holder ≡ holder = cc in or_left (a.holder == holder)
+    (is_in (map (λ (b : AggregationEntry). b.holder) xs) holder) (eq-eqb a.holder holder same)
+held_in (a ∷ xs) (suc n) holder at = or_right (a.holder == holder)
+    (is_in (map (λ (b : AggregationEntry). b.holder) xs) holder) (held_in xs n holder at)
 
-numbered_held_in : (xs : List AggregationEntry) (n holder : ℕ) → held_at (entry_numbered xs n) ≡ Some holder → is_in (map (λ (a : AggregationEntry). a.holder) xs) holder ≡ true
+numbered_held_in : (xs : List AggregationEntry) (n holder : ℕ) → held_at (entry_numbered xs n) ≡ Some holder
+    → is_in (map (λ (a : AggregationEntry). a.holder) xs) holder ≡ true
 numbered_held_in xs zero holder at = absurd cc
 numbered_held_in xs (suc n) holder at = held_in xs n holder at
 
-named_aggregation : (net : Net) (o : Option ℕ) (n holder : ℕ) → held_at (entry_numbered (aggregations_of (process_at net.processes o)) n) ≡ Some holder → IsAggregated net holder
-named_aggregation net None n holder at = let none : is_in [] holder ≡ true = numbered_held_in [] n holder at in absurd cc
-named_aggregation net (Some process) n holder at = (process, numbered_held_in (aggregations_of (slice_get net.processes process)) n holder at)
+named_aggregation : (net : Net) (o : Option ℕ) (n holder : ℕ)
+    → held_at (entry_numbered (aggregations_of (process_at net.processes o)) n) ≡ Some holder → IsAggregated net holder
+named_aggregation net None n holder at = let none : is_in [] holder ≡ true = numbered_held_in [] n holder at in
+    absurd cc
+named_aggregation net (Some process) n holder at =
+    (process, numbered_held_in (aggregations_of (slice_get net.processes process)) n holder at)
 
-pub cache_or_aggregation : (net : Net) (name : HolderName) (holder : ℕ) → holder_place net name ≡ Some holder → (is_in (caches_of_all net) holder ≡ true) ⊎ IsAggregated net holder
+pub cache_or_aggregation : (net : Net) (name : HolderName) (holder : ℕ) → holder_place net name ≡ Some holder
+    → (is_in (caches_of_all net) holder ≡ true) ⊎ IsAggregated net holder
 cache_or_aggregation net (Cache device cache) holder at = inl (named_cache_in net.devices device cache holder at)
 cache_or_aggregation net (AggregationOf device process aggregation) holder at =
-    inr (named_aggregation net (entry_numbered (processes_of (entry_numbered net.devices device)) process) aggregation holder at)
+    inr (named_aggregation net (entry_numbered (processes_of (entry_numbered net.devices device)) process) aggregation
+    holder at)

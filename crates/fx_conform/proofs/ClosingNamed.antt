@@ -11,8 +11,11 @@ use Rattle.fx_conform.specs.Emptying.{without_leasts}
 use Rattle.fx_conform.specs.Usable.{AreUsable}
 use Rattle.fx_conform.proofs.ClosingFilled.{filled_by_adding, filled_by_leasts}
 
-pub taking_stays_named : (net : Net) (stores : List (Option Stored)) (counts : Counts) (hs : List Holding) → OnlyNamedHold net stores → AllByRecursion (λ (h : Holding). CanBeNamed net h.holder) hs → OnlyNamedHold net (stores_and_leavers stores counts hs).stores
+pub taking_stays_named : (net : Net) (stores : List (Option Stored)) (counts : Counts) (hs : List Holding)
+    → OnlyNamedHold net stores → AllByRecursion (λ (h : Holding). CanBeNamed net h.holder) hs
+    → OnlyNamedHold net (stores_and_leavers stores counts hs).stores
 taking_stays_named net stores counts hs h named = filled_by_adding (CanBeNamed net) counts hs stores named h
 
-pub leaving_stays_named : (net : Net) (stores : List (Option Stored)) (place n : ℕ) → AreUsable stores → OnlyNamedHold net stores → OnlyNamedHold net (without_leasts place stores n)
+pub leaving_stays_named : (net : Net) (stores : List (Option Stored)) (place n : ℕ) → AreUsable stores
+    → OnlyNamedHold net stores → OnlyNamedHold net (without_leasts place stores n)
 leaving_stays_named net stores place n u h = filled_by_leasts (CanBeNamed net) n stores place h

@@ -23,27 +23,36 @@ module _ (net : Net) where
   leaves_chosen [] c = refl
   leaves_chosen (l ∷ ls) c = leaves_chosen ls (after_leave net l c)
 
-  pub adding_chosen : (counts : Counts) (hs : List Holding) (c : Contents) → (after_adding net counts hs c).chosen ≡ c.chosen
-  adding_chosen counts hs c = leaves_chosen (stores_and_leavers c.stores counts hs).left (with_stores c (stores_and_leavers c.stores counts hs).stores)
+  pub adding_chosen : (counts : Counts) (hs : List Holding) (c : Contents) → (after_adding net counts hs c).chosen
+      ≡ c.chosen
+  adding_chosen counts hs c = leaves_chosen (stores_and_leavers c.stores counts hs).left
+      (with_stores c (stores_and_leavers c.stores counts hs).stores)
 
-  pub taking_chosen : (counts : Counts) (hs : List Holding) (c : Contents) → (after_taking net counts hs c).chosen ≡ c.chosen
+  pub taking_chosen : (counts : Counts) (hs : List Holding) (c : Contents) → (after_taking net counts hs c).chosen
+      ≡ c.chosen
   taking_chosen counts hs c =
-      leaves_chosen (all_leave_at_once (stores_and_leavers c.stores counts hs).stores counts hs) (after_adding net counts hs c) ∙ adding_chosen counts hs c
+      leaves_chosen (all_leave_at_once (stores_and_leavers c.stores counts hs).stores counts hs)
+      (after_adding net counts hs c) ∙ adding_chosen counts hs c
 
-  pub path_chosen : (fields : Fields) (counts : Counts) (crossings : List Crossing) (c : Contents) → (after_path net fields counts crossings c).chosen ≡ c.chosen
+  pub path_chosen : (fields : Fields) (counts : Counts) (crossings : List Crossing) (c : Contents)
+      → (after_path net fields counts crossings c).chosen ≡ c.chosen
   path_chosen fields counts [] c = refl
   path_chosen fields counts (x ∷ xs) c =
-      path_chosen fields counts xs (after_taking net counts (intakes_at net fields x) c) ∙ taking_chosen counts (intakes_at net fields x) c
+      path_chosen fields counts xs (after_taking net counts (intakes_at net fields x) c)
+      ∙ taking_chosen counts (intakes_at net fields x) c
 
   tally_chosen : (link : ℕ) (r : Record) (c : Contents) → (after_tally net link r c).chosen ≡ c.chosen
   tally_chosen link r c = by (leads_to_report net (slice_get net.links link)) where
-    by : (b : Bool) → (cond b (let d : Contents = record c { totals = with_record c.totals r } in d) c).chosen ≡ c.chosen
+    by : (b : Bool) → (cond b (let d : Contents = record c { totals = with_record c.totals r } in d) c).chosen
+        ≡ c.chosen
     by true = refl
     by false = refl
 
   pub arrive_chosen : (link : ℕ) (r : Record) (c : Contents) → (after_arrive net link r c).chosen ≡ c.chosen
   arrive_chosen link r c =
-      taking_chosen r.counts (takers net link r.key) (after_send net (exporters_named (process_behind net link)) r (after_tally net link r c)) ∙ tally_chosen link r c
+      taking_chosen r.counts (takers net link r.key)
+      (after_send net (exporters_named (process_behind net link)) r (after_tally net link r c))
+      ∙ tally_chosen link r c
 
   arrivals_chosen : (link : ℕ) (rs : List Record) (c : Contents) → (after_arrivals net link rs c).chosen ≡ c.chosen
   arrivals_chosen link [] c = refl
@@ -52,7 +61,8 @@ module _ (net : Net) where
   pub carrying_chosen : (link n : ℕ) (c : Contents) → (after_carrying net link n c).chosen ≡ c.chosen
   carrying_chosen link n c =
       let links : List Ongoing = with_changed (after_carry n) c.links link in
-      arrivals_chosen link (waiting_on (slice_get links link)) (record c { links = with_changed (with_left []) links link })
+      arrivals_chosen link (waiting_on (slice_get links link))
+      (record c { links = with_changed (with_left []) links link })
 
   expire_chosen : (place : ℕ) (o : Option Entry) (c : Contents) → (after_expire net place o c).chosen ≡ c.chosen
   expire_chosen place None c = refl

@@ -41,7 +41,8 @@ pushed_out = refl
 leaves_first : AllLeave (leaver 0 (first.key, first.counts) ∷ []) ((first ∷ []) ∷ []) ([] ∷ [])
 leaves_first = ([] ∷ [], record { number = 1; rs = first ∷ []; there = refl; flow_is = refl; now_is = refl }, refl)
 
-then_taken_in : hold_all one (met ∷ []) ([] ∷ []) (None ∷ []) ≡ Some ((record { key = second.key; counts = one } ∷ []) ∷ [])
+then_taken_in : hold_all one (met ∷ []) ([] ∷ []) (None ∷ [])
+    ≡ Some ((record { key = second.key; counts = one } ∷ []) ∷ [])
 unfolding met
 then_taken_in = refl
 
@@ -55,7 +56,8 @@ is_held : (most : ℕ) → AreHeld (filled most ∷ []) ((first ∷ []) ∷ [])
 is_held most = (
   record {
     differ = (tt, tt);
-    same = λ key. ap (λ (b : Bool). cond {A = Option Counts} b (Some first.counts) None) (turned first.key key) ∙ sym (counted key ((first.key, first.counts) ∷ []));
+    same = λ key. ap (λ (b : Bool). cond {A = Option Counts} b (Some first.counts) None) (turned first.key key)
+        ∙ sym (counted key ((first.key, first.counts) ∷ []));
   },
   tt,
 )
@@ -67,7 +69,8 @@ is_usable = (record { differ = (tt, tt); some = omega arith; room = omega arith 
 -- so that the law holds of it
 takes_in : TakesIn (filled 1 ∷ []) one (met ∷ []) ((first ∷ []) ∷ [])
 unfolding met
-takes_in = taking_in (filled 1 ∷ []) ((first ∷ []) ∷ []) one (λ place. second.key) (met ∷ []) (is_held 1) is_usable (omega arith, tt) (refl, tt)
+takes_in = taking_in (filled 1 ∷ []) ((first ∷ []) ∷ []) one (λ place. second.key) (met ∷ []) (is_held 1) is_usable
+    (omega arith, tt) (refl, tt)
 
 -- ---- two occurrences at one cache
 
@@ -75,7 +78,8 @@ takes_in = taking_in (filled 1 ∷ []) ((first ∷ []) ∷ []) one (λ place. se
 abbrev twice : Record
 twice = record { key = second.key; counts = record { packets = 2; octets = 120 } }
 
-counted_twice : (stores_and_leavers (emptied 2 ∷ []) one (met ∷ met ∷ [])).stores ≡ Some (bounded (record { entries = (second.key, twice.counts) ∷ []; capacity = 2 })) ∷ []
+counted_twice : (stores_and_leavers (emptied 2 ∷ []) one (met ∷ met ∷ [])).stores
+    ≡ Some (bounded (record { entries = (second.key, twice.counts) ∷ []; capacity = 2 })) ∷ []
 unfolding met one
 counted_twice = refl
 
@@ -84,18 +88,22 @@ unfolding met one
 one_record = refl
 
 -- in an immediate cache they are two records, which both leave
-two_records : hold_all one (met ∷ met ∷ []) ([] ∷ []) (None ∷ None ∷ []) ≡ Some ((record { key = second.key; counts = one } ∷ record { key = second.key; counts = one } ∷ []) ∷ [])
+two_records : hold_all one (met ∷ met ∷ []) ([] ∷ []) (None ∷ None ∷ [])
+    ≡ Some ((record { key = second.key; counts = one } ∷ record { key = second.key; counts = one } ∷ []) ∷ [])
 unfolding met
 two_records = refl
 
-both_leave : all_leave_at_once (None ∷ []) one (met ∷ met ∷ []) ≡ leaver 0 (second.key, one) ∷ leaver 0 (second.key, one) ∷ []
+both_leave : all_leave_at_once (None ∷ []) one (met ∷ met ∷ []) ≡ leaver 0 (second.key, one)
+    ∷ leaver 0 (second.key, one) ∷ []
 unfolding met
 both_leave = refl
 
-nothing_left : AllLeave (leaver 0 (second.key, one) ∷ leaver 0 (second.key, one) ∷ []) ((record { key = second.key; counts = one } ∷ record { key = second.key; counts = one } ∷ []) ∷ []) ([] ∷ [])
+nothing_left : AllLeave (leaver 0 (second.key, one) ∷ leaver 0 (second.key, one) ∷ [])
+    ((record { key = second.key; counts = one } ∷ record { key = second.key; counts = one } ∷ []) ∷ []) ([] ∷ [])
 nothing_left =
     let r : Record = record { key = second.key; counts = one } in
-    let last : AllLeave (leaver 0 (second.key, one) ∷ []) ((r ∷ []) ∷ []) ([] ∷ []) = ([] ∷ [], record { number = 1; rs = r ∷ []; there = refl; flow_is = refl; now_is = refl }, refl) in
+    let last : AllLeave (leaver 0 (second.key, one) ∷ []) ((r ∷ []) ∷ []) ([] ∷ []) =
+    ([] ∷ [], record { number = 1; rs = r ∷ []; there = refl; flow_is = refl; now_is = refl }, refl) in
     ((r ∷ []) ∷ [], record { number = 1; rs = r ∷ r ∷ []; there = refl; flow_is = refl; now_is = refl }, last)
 
 -- two records of one key are not what a store's one flow is held by

@@ -11,14 +11,16 @@ Stand P (s ∷ ss) (rs ∷ rss) = P 0 s rs × Stand (λ n. P (suc n)) ss rss
 Stand P _ _ = ⊥
 
 -- what stands at a place
-pub record SessionState (P : ℕ → Option Stored → List Record → Type 0) (ss : List (Option Stored)) (rss : List (List Record)) (n : ℕ) : Type 0 where
+pub record SessionState (P : ℕ → Option Stored → List Record → Type 0) (ss : List (Option Stored))
+    (rss : List (List Record)) (n : ℕ) : Type 0 where
   pub s : Option Stored
   pub rs : List Record
   pub store_is : slice_get ss n ≡ Some s
   pub records_are : slice_get rss n ≡ Some rs
   pub fact : P n s rs
 
-pub standing : (P : ℕ → Option Stored → List Record → Type 0) (ss : List (Option Stored)) (rss : List (List Record)) (n : ℕ) → Stand P ss rss → n < length ss → SessionState P ss rss n
+pub standing : (P : ℕ → Option Stored → List Record → Type 0) (ss : List (Option Stored)) (rss : List (List Record))
+    (n : ℕ) → Stand P ss rss → n < length ss → SessionState P ss rss n
 standing P [] rss n h lt = absurd (omega arith)
 standing P (s ∷ ss) [] n h lt = absurd h
 standing P (s ∷ ss) (rs ∷ rss) zero h lt = record { s = s; rs = rs; store_is = refl; records_are = refl; fact = h.0 }
@@ -26,21 +28,29 @@ standing P (s ∷ ss) (rs ∷ rss) (suc n) h lt =
     let at = standing (λ m. P (suc m)) ss rss n h.1 (le_of_suc-le-suc lt) in
     record { s = at.s; rs = at.rs; store_is = at.store_is; records_are = at.records_are; fact = at.fact }
 
-pub stand_map : (P Q : ℕ → Option Stored → List Record → Type 0) (ss : List (Option Stored)) (rss : List (List Record)) → Stand P ss rss → ((n : ℕ) (s : Option Stored) (rs : List Record) → P n s rs → Q n s rs) → Stand Q ss rss
+pub stand_map : (P Q : ℕ → Option Stored → List Record → Type 0) (ss : List (Option Stored)) (rss : List (List Record))
+    → Stand P ss rss → ((n : ℕ) (s : Option Stored) (rs : List Record) → P n s rs → Q n s rs) → Stand Q ss rss
 stand_map P Q [] [] h f = tt
 stand_map P Q [] (rs ∷ rss) h f = absurd h
 stand_map P Q (s ∷ ss) [] h f = absurd h
-stand_map P Q (s ∷ ss) (rs ∷ rss) h f = (f 0 s rs h.0, stand_map (λ n. P (suc n)) (λ n. Q (suc n)) ss rss h.1 (λ n. f (suc n)))
+stand_map P Q (s ∷ ss) (rs ∷ rss) h f =
+    (f 0 s rs h.0, stand_map (λ n. P (suc n)) (λ n. Q (suc n)) ss rss h.1 (λ n. f (suc n)))
 
 -- another store and other records stand there
-pub stand_set : (P Q : ℕ → Option Stored → List Record → Type 0) (ss : List (Option Stored)) (rss : List (List Record)) (n : ℕ) (s : Option Stored) (rs : List Record) → Stand P ss rss → Q n s rs
-    → ((m : ℕ) (t : Option Stored) (ts : List Record) → (m ≡ n → ⊥) → P m t ts → Q m t ts) → Stand Q (slice_set ss n s) (slice_set rss n rs)
+pub stand_set : (P Q : ℕ → Option Stored → List Record → Type 0) (ss : List (Option Stored)) (rss : List (List Record))
+    (n : ℕ) (s : Option Stored) (rs : List Record) → Stand P ss rss → Q n s rs
+    → ((m : ℕ) (t : Option Stored) (ts : List Record) → (m ≡ n → ⊥) → P m t ts → Q m t ts)
+    → Stand Q (slice_set ss n s) (slice_set rss n rs)
 stand_set P Q [] [] n s rs h q f = tt
 stand_set P Q [] (ts ∷ rss) n s rs h q f = absurd h
 stand_set P Q (t ∷ ss) [] n s rs h q f = absurd h
-stand_set P Q (t ∷ ss) (ts ∷ rss) zero s rs h q f = (q, stand_map (λ m. P (suc m)) (λ m. Q (suc m)) ss rss h.1 (λ m u us. f (suc m) u us (λ e. absurd (omega arith))))
-stand_set P Q (t ∷ ss) (ts ∷ rss) (suc n) s rs h q f =
-    (f 0 t ts (λ e. absurd (omega arith)) h.0, stand_set (λ m. P (suc m)) (λ m. Q (suc m)) ss rss n s rs h.1 q (λ m u us ne. f (suc m) u us (λ e. ne (omega arith))))
+stand_set P Q (t ∷ ss) (ts ∷ rss) zero s rs h q f =
+    (q, stand_map (λ m. P (suc m)) (λ m. Q (suc m)) ss rss h.1 (λ m u us. f (suc m) u us (λ e. absurd (omega arith))))
+stand_set P Q (t ∷ ss) (ts ∷ rss) (suc n) s rs h q f = (
+  f 0 t ts (λ e. absurd (omega arith)) h.0,
+  stand_set (λ m. P (suc m)) (λ m. Q (suc m)) ss rss n s rs h.1 q
+      (λ m u us ne. f (suc m) u us (λ e. ne (omega arith))),
+)
 
 -- ---- what is held, where these records wait at an immediate cache
 

@@ -42,7 +42,8 @@ missed : (k e : Key) (es : List Entry) → key_cmp k e ≡ Less → T (below_all
 missed k e [] lt h = refl
 missed k e (f ∷ es) lt h =
     let low : (key_cmp e f.0 ≡ Less) × T (below_all key_cmp e es) = both (key_cmp e f.0) (below_all key_cmp e es) h in
-    ap (λ o. cond (is_eq o) (Some f.1) (find key_cmp k es)) (key_cmp_total.trans k e f.0 lt low.0) ∙ missed k e es lt low.1
+    ap (λ o. cond (is_eq o) (Some f.1) (find key_cmp k es)) (key_cmp_total.trans k e f.0 lt low.0)
+    ∙ missed k e es lt low.1
   where
     both : (o : Ordering) (b : Bool) → T (is_lt o && b) → (o ≡ Less) × T b
     both Less true g = (refl, tt)
@@ -51,7 +52,8 @@ missed k e (f ∷ es) lt h =
     both Greater b g = absurd g
 
 -- no key that is there is below the first
-above_first : (es : List Entry) (e : Entry) (q : Key) → T (is_sorted key_cmp es) → slice_get es 0 ≡ Some e → is_some (find key_cmp q es) ≡ true → is_gt (key_cmp e.0 q) ≡ false
+above_first : (es : List Entry) (e : Entry) (q : Key) → T (is_sorted key_cmp es) → slice_get es 0 ≡ Some e
+    → is_some (find key_cmp q es) ≡ true → is_gt (key_cmp e.0 q) ≡ false
 above_first [] e q sorted h there = absurd (cc)
 above_first (f ∷ es) e q sorted h there =
     let is : e ≡ f = cc in
@@ -67,28 +69,36 @@ above_first (f ∷ es) e q sorted h there =
     by Greater is =
         let below : key_cmp q f.0 ≡ Less = key_cmp_total.antisymm q f.0 ∙ ap ordering_reverse is in
         let gone : find key_cmp q (f ∷ es) ≡ None =
-        ap (λ o. cond (is_eq o) (Some f.1) (find key_cmp q es)) below ∙ missed q f.0 es below (first (below_all key_cmp f.0 es) (is_sorted key_cmp es) sorted) in
+        ap (λ o. cond (is_eq o) (Some f.1) (find key_cmp q es)) below
+        ∙ missed q f.0 es below (first (below_all key_cmp f.0 es) (is_sorted key_cmp es) sorted) in
         let no : false ≡ true = ap is_some (sym gone) ∙ there in
         absurd (cc)
 
 -- so of the records for these flows none has a key below the least
-above_least : (held : Flows) (e : Entry) (rs : List Record) → IsHeld held rs → least held ≡ Some e → AllByRecursion (λ (r : Record). is_gt (key_cmp e.0 r.key) ≡ false) rs
+above_least : (held : Flows) (e : Entry) (rs : List Record) → IsHeld held rs → least held ≡ Some e
+    → AllByRecursion (λ (r : Record). is_gt (key_cmp e.0 r.key) ≡ false) rs
 above_least held e rs h low = each rs (λ key there. there) where
-  still : (t : Record) (ts : List Record) (key : Key) → is_some (total_at ts key) ≡ true → is_some (total_at (t ∷ ts) key) ≡ true
-  still t ts key there = elim (same_key t.key key) as (λ b. is_some (cond b (Some t.counts) (total_at ts key)) ≡ true) [ true ↦ refl | false ↦ there ]
+  still : (t : Record) (ts : List Record) (key : Key) → is_some (total_at ts key) ≡ true
+      → is_some (total_at (t ∷ ts) key) ≡ true
+  still t ts key there = elim (same_key t.key key) as (λ b. is_some (cond b (Some t.counts) (total_at ts key)) ≡ true)
+      [ true ↦ refl | false ↦ there ]
 
   own : (t : Record) (ts : List Record) → is_some (total_at (t ∷ ts) t.key) ≡ true
   own t ts = ap (λ b. is_some (cond b (Some t.counts) (total_at ts t.key))) (key_same t.key)
 
-  each : (ts : List Record) → ((key : Key) → is_some (total_at ts key) ≡ true → is_some (total_at rs key) ≡ true) → AllByRecursion (λ (r : Record). is_gt (key_cmp e.0 r.key) ≡ false) ts
+  each : (ts : List Record) → ((key : Key) → is_some (total_at ts key) ≡ true → is_some (total_at rs key) ≡ true)
+      → AllByRecursion (λ (r : Record). is_gt (key_cmp e.0 r.key) ≡ false) ts
   each [] within = tt
   each (t ∷ ts) within = (
-    above_first (entries held) e t.key (entries_sorted held) low (ap is_some (sym (h.same t.key ∙ get-entries held t.key)) ∙ within t.key (own t ts)),
+    above_first (entries held) e t.key (entries_sorted held) low
+        (ap is_some (sym (h.same t.key ∙ get-entries held t.key)) ∙ within t.key (own t ts)),
     each ts (λ key there. within key (still t ts key there)),
   )
 
 -- of the records that are held none has a key below that of the entry that leaves
-pub none_below_least : (stores : List (Option Stored)) (held : List (List Record)) (place : ℕ) (e : Entry) (rs : List Record) → AreHeld stores held → least_of (stored_at stores place) ≡ Some e → slice_get held place ≡ Some rs
+pub none_below_least : (stores : List (Option Stored)) (held : List (List Record)) (place : ℕ) (e : Entry)
+    (rs : List Record) → AreHeld stores held → least_of (stored_at stores place) ≡ Some e → slice_get held place
+    ≡ Some rs
     → AllByRecursion (λ (r : Record). is_gt (key_cmp e.0 r.key) ≡ false) rs
 none_below_least [] [] place e rs h low there = absurd (cc)
 none_below_least [] (ts ∷ held) place e rs h low there = absurd h
@@ -97,7 +107,8 @@ none_below_least (None ∷ stores) (ts ∷ held) zero e rs h low there = absurd 
 none_below_least (Some s ∷ stores) (ts ∷ held) zero e rs h low there =
     let is : ts ≡ rs = cc in
     above_least (flows_in s) e rs (subst (IsHeld (flows_in s)) is h.0) low
-none_below_least (s ∷ stores) (ts ∷ held) (suc place) e rs h low there = none_below_least stores held place e rs h.1 low there
+none_below_least (s ∷ stores) (ts ∷ held) (suc place) e rs h low there =
+    none_below_least stores held place e rs h.1 low there
 
 pub least_there : (held : Flows) (e : Entry) → least held ≡ Some e → get held e.0 ≡ Some e.1
 least_there held e h = get-entries held e.0 ∙ first_found e (entries held) h
@@ -114,7 +125,8 @@ record One (stores : List (Option Stored)) (held : List (List Record)) (place : 
   leave : Leave (leaver place e) held now
   all_held : AllHeld (without_least stores place) now
 
-one_leaves : (stores : List (Option Stored)) (held : List (List Record)) (place : ℕ) (s : Stored) (e : Entry) → AllHeld stores held → stored_at stores place ≡ Some s → least (flows_in s) ≡ Some e → One stores held place e
+one_leaves : (stores : List (Option Stored)) (held : List (List Record)) (place : ℕ) (s : Stored) (e : Entry)
+    → AllHeld stores held → stored_at stores place ≡ Some s → least (flows_in s) ≡ Some e → One stores held place e
 one_leaves stores held place s e st is low =
     let there : slice_get stores place ≡ Some (Some s) = stored_there stores place s is in
     let at = standing (λ n. Holds []) stores held place st (within stores place there) in
@@ -123,14 +135,17 @@ one_leaves stores held place s e st is low =
     let l = leavings_are_made (flows_in s) at.rs e.0 e.1 fact.0 (least_there (flows_in s) e low) in
     let now : List (List Record) = slice_set held place (without at.rs l.0) in
     let least_is : least_of (stored_at stores place) ≡ Some e = ap least_of is ∙ low in
-    let then_held : IsHeld (flows_in (without_entry s e.0)) (without at.rs l.0) = subst (λ (m : Flows). IsHeld m (without at.rs l.0)) (sym (without_flows s e.0 fact.1)) l.2 in
+    let then_held : IsHeld (flows_in (without_entry s e.0)) (without at.rs l.0) =
+    subst (λ (m : Flows). IsHeld m (without at.rs l.0)) (sym (without_flows s e.0 fact.1)) l.2 in
     let set_is : without_least stores place ≡ slice_set stores place (Some (without_entry s e.0)) =
-    ap (λ (o : Option Entry). with_changed (option_map (taken_out o)) stores place) least_is ∙ changed_is (option_map (taken_out (Some e))) stores place (Some s) there in
+    ap (λ (o : Option Entry). with_changed (option_map (taken_out o)) stores place) least_is
+    ∙ changed_is (option_map (taken_out (Some e))) stores place (Some s) there in
     record {
       now = now;
       leave = record { number = l.0; rs = at.rs; there = at.records_are; flow_is = l.1; now_is = refl };
       all_held = subst (λ (ss : List (Option Stored)). AllHeld ss now) (sym set_is)
-          (stand_set (λ n. Holds []) (λ n. Holds []) stores held place (Some (without_entry s e.0)) (without at.rs l.0) st (then_held, left_is_usable s e.0 fact.1) (λ m t ts ne q. q));
+          (stand_set (λ n. Holds []) (λ n. Holds []) stores held place (Some (without_entry s e.0)) (without at.rs l.0)
+          st (then_held, left_is_usable s e.0 fact.1) (λ m t ts ne q. q));
     }
   where
     within : (xs : List (Option Stored)) (n : ℕ) {x : Option Stored} → slice_get xs n ≡ Some x → n < length xs
@@ -138,17 +153,25 @@ one_leaves stores held place s e st is low =
     within (y ∷ xs) zero h = omega arith
     within (y ∷ xs) (suc n) h = let lt = within xs n h in omega arith
 
-one_or_none : (stores : List (Option Stored)) (held : List (List Record)) (place : ℕ) (e : Entry) → AllHeld stores held → least_of (stored_at stores place) ≡ Some e → One stores held place e
+one_or_none : (stores : List (Option Stored)) (held : List (List Record)) (place : ℕ) (e : Entry) → AllHeld stores held
+    → least_of (stored_at stores place) ≡ Some e → One stores held place e
 one_or_none stores held place e st low = by (stored_at stores place) refl low where
   by : (o : Option Stored) → stored_at stores place ≡ o → least_of o ≡ Some e → One stores held place e
   by None is h = absurd (cc)
   by (Some s) is h = one_leaves stores held place s e st is h
 
-pub least_leaves : (stores : List (Option Stored)) (held : List (List Record)) (place : ℕ) (e : Entry) → AreHeld stores held → AreUsable stores → least_of (stored_at stores place) ≡ Some e
-    → (now : List (List Record)) × Leave (leaver place e) held now × AreHeld (without_least stores place) now × AreUsable (without_least stores place)
+pub least_leaves : (stores : List (Option Stored)) (held : List (List Record)) (place : ℕ) (e : Entry)
+    → AreHeld stores held → AreUsable stores → least_of (stored_at stores place) ≡ Some e
+    → (now : List (List Record)) × Leave (leaver place e) held now × AreHeld (without_least stores place) now
+    × AreUsable (without_least stores place)
 least_leaves stores held place e h u low =
-    let o = one_or_none stores held place e (held_stand stores held h u) low in
-    (o.now, o.leave, stand_held (without_least stores place) o.now o.all_held, stand_usable (without_least stores place) o.now o.all_held)
+    let o = one_or_none stores held place e (held_stand stores held h u) low in (
+      o.now,
+      o.leave,
+      stand_held (without_least stores place) o.now o.all_held,
+      stand_usable (without_least stores place)
+          o.now o.all_held,
+    )
 
 -- ---- several leave
 
@@ -158,32 +181,45 @@ record SomeLeave (stores : List (Option Stored)) (held : List (List Record)) (pl
   all_held : AllHeld (without_leasts place stores n) now
 
 -- where there is none, nothing is taken out
-pub none_out : (stores : List (Option Stored)) (place : ℕ) → with_changed (option_map (taken_out None)) stores place ≡ stores
+pub none_out : (stores : List (Option Stored)) (place : ℕ) → with_changed (option_map (taken_out None)) stores place
+    ≡ stores
 none_out [] place = refl
 none_out (None ∷ stores) zero = refl
 none_out (Some s ∷ stores) zero = refl
 none_out (s ∷ stores) (suc n) = ap (λ ss. s ∷ ss) (none_out stores n)
 
-first_leaves : (stores : List (Option Stored)) (held : List (List Record)) (place : ℕ) (o : Option Entry) → AllHeld stores held → least_of (stored_at stores place) ≡ o
+first_leaves : (stores : List (Option Stored)) (held : List (List Record)) (place : ℕ) (o : Option Entry)
+    → AllHeld stores held → least_of (stored_at stores place) ≡ o
     → (now : List (List Record)) × AllLeave (left_by place o) held now × AllHeld (without_least stores place) now
 first_leaves stores held place None st low =
-    let same : without_least stores place ≡ stores = ap (λ (o : Option Entry). with_changed (option_map (taken_out o)) stores place) low ∙ none_out stores place in
+    let same : without_least stores place ≡ stores =
+    ap (λ (o : Option Entry). with_changed (option_map (taken_out o)) stores place) low ∙ none_out stores place in
     (held, refl, subst (λ (ss : List (Option Stored)). AllHeld ss held) (sym same) st)
-first_leaves stores held place (Some e) st low = let o = one_or_none stores held place e st low in (o.now, (o.now, o.leave, refl), o.all_held)
+first_leaves stores held place (Some e) st low = let o = one_or_none stores held place e st low in
+    (o.now, (o.now, o.leave, refl), o.all_held)
 
-some_leave : (n : ℕ) (stores : List (Option Stored)) (held : List (List Record)) (place : ℕ) → AllHeld stores held → SomeLeave stores held place n
+some_leave : (n : ℕ) (stores : List (Option Stored)) (held : List (List Record)) (place : ℕ) → AllHeld stores held
+    → SomeLeave stores held place n
 some_leave zero stores held place st = record { now = held; leave = refl; all_held = st }
 some_leave (suc n) stores held place st =
     let first = first_leaves stores held place (least_of (stored_at stores place)) st refl in
     let rest = some_leave n (without_least stores place) first.0 place first.2 in
     record {
       now = rest.now;
-      leave = leave_join (left_by place (least_of (stored_at stores place))) (leasts place (without_least stores place) n) held first.0 rest.now first.1 rest.leave;
+      leave = leave_join (left_by place (least_of (stored_at stores place)))
+          (leasts place (without_least stores place) n) held first.0 rest.now first.1 rest.leave;
       all_held = rest.all_held;
     }
 
-pub leasts_leave : (stores : List (Option Stored)) (held : List (List Record)) (place n : ℕ) → AreHeld stores held → AreUsable stores
-    → (now : List (List Record)) × AllLeave (leasts place stores n) held now × AreHeld (without_leasts place stores n) now × AreUsable (without_leasts place stores n)
+pub leasts_leave : (stores : List (Option Stored)) (held : List (List Record)) (place n : ℕ) → AreHeld stores held
+    → AreUsable stores
+    → (now : List (List Record)) × AllLeave (leasts place stores n) held now
+    × AreHeld (without_leasts place stores n) now × AreUsable (without_leasts place stores n)
 leasts_leave stores held place n h u =
-    let s = some_leave n stores held place (held_stand stores held h u) in
-    (s.now, s.leave, stand_held (without_leasts place stores n) s.now s.all_held, stand_usable (without_leasts place stores n) s.now s.all_held)
+    let s = some_leave n stores held place (held_stand stores held h u) in (
+      s.now,
+      s.leave,
+      stand_held (without_leasts place stores n) s.now s.all_held,
+      stand_usable
+          (without_leasts place stores n) s.now s.all_held,
+    )

@@ -20,16 +20,19 @@ pub same_some : {A : Type 0} (x y : A) → Some x ≡ Some y → x ≡ y
 same_some x y e = cc
 
 -- what stands there was made of an entry
-pub made_of : {A : Type 0} {B : Type 0} (f : A → B) (o : Option A) (y : B) → option_map f o ≡ Some y → (x : A) × (o ≡ Some x) × (f x ≡ y)
+pub made_of : {A : Type 0} {B : Type 0} (f : A → B) (o : Option A) (y : B) → option_map f o ≡ Some y → (x : A)
+    × (o ≡ Some x) × (f x ≡ y)
 made_of f None y e = absurd (cc)
 made_of f (Some x) y e = (x, refl, same_some (f x) y e)
 
-pub map_at : {A : Type 0} {B : Type 0} (f : A → B) (xs : List A) (n : ℕ) → slice_get (map f xs) n ≡ option_map f (slice_get xs n)
+pub map_at : {A : Type 0} {B : Type 0} (f : A → B) (xs : List A) (n : ℕ) → slice_get (map f xs) n
+    ≡ option_map f (slice_get xs n)
 map_at f [] n = refl
 map_at f (x ∷ xs) zero = refl
 map_at f (x ∷ xs) (suc n) = map_at f xs n
 
-pub changed_here : {A : Type 0} (f : A → A) (xs : List A) (n : ℕ) → slice_get (with_changed f xs n) n ≡ option_map f (slice_get xs n)
+pub changed_here : {A : Type 0} (f : A → A) (xs : List A) (n : ℕ) → slice_get (with_changed f xs n) n
+    ≡ option_map f (slice_get xs n)
 changed_here f [] n = refl
 changed_here f (x ∷ xs) zero = refl
 changed_here f (x ∷ xs) (suc n) = changed_here f xs n
@@ -55,17 +58,21 @@ last_many [] n r = refl
 last_many (rs ∷ rss) zero r = refl
 last_many (rs ∷ rss) (suc n) r = ap suc (last_many rss n r)
 
-pub put_all_many : (places : List ℕ) (r : Record) (rss : List (List Record)) → length (put_all places r rss) ≡ length rss
+pub put_all_many : (places : List ℕ) (r : Record) (rss : List (List Record)) → length (put_all places r rss)
+    ≡ length rss
 put_all_many [] r rss = refl
 put_all_many (l ∷ ls) r rss = put_all_many ls r (put_last rss l r) ∙ last_many rss l r
 
-pub put_each_many : (time : ℕ) (r : Record) (places : List ℕ) (links : List Ongoing) → length (put_each time r places links) ≡ length links
+pub put_each_many : (time : ℕ) (r : Record) (places : List ℕ) (links : List Ongoing)
+    → length (put_each time r places links) ≡ length links
 put_each_many time r [] links = refl
-put_each_many time r (l ∷ ls) links = put_each_many time r ls (with_changed (with_waiting time r) links l) ∙ changed_many (with_waiting time r) links l
+put_each_many time r (l ∷ ls) links = put_each_many time r ls (with_changed (with_waiting time r) links l)
+    ∙ changed_many (with_waiting time r) links l
 
 -- ---- records that all are so
 
-pub all_both : {A : Type 0} (P : A → Type 0) (xs ys : List A) → AllByRecursion P xs → AllByRecursion P ys → AllByRecursion P (xs ++ ys)
+pub all_both : {A : Type 0} (P : A → Type 0) (xs ys : List A) → AllByRecursion P xs → AllByRecursion P ys
+    → AllByRecursion P (xs ++ ys)
 all_both P [] ys h k = k
 all_both P (x ∷ xs) ys h k = (h.0, all_both P xs ys h.1 k)
 
@@ -73,10 +80,12 @@ pub all_later : {A : Type 0} (P : A → Type 0) (xs ys : List A) → AllByRecurs
 all_later P [] ys h = h
 all_later P (x ∷ xs) ys h = all_later P xs ys h.1
 
-pub given_sent : (places : List ℕ) (r : Record) (link : ℕ) → IsSent r → AllByRecursion IsSent (records_given places r link)
+pub given_sent : (places : List ℕ) (r : Record) (link : ℕ) → IsSent r
+    → AllByRecursion IsSent (records_given places r link)
 given_sent [] r link s = tt
 given_sent (l ∷ ls) r link s = by (given_sent ls r link s) (l == link) where
-  by : AllByRecursion IsSent (records_given ls r link) → (b : Bool) → AllByRecursion IsSent (cond b (r ∷ []) [] ++ records_given ls r link)
+  by : AllByRecursion IsSent (records_given ls r link) → (b : Bool)
+      → AllByRecursion IsSent (cond b (r ∷ []) [] ++ records_given ls r link)
   by ih true = (s, ih)
   by ih false = ih
 
@@ -86,7 +95,8 @@ given_sent (l ∷ ls) r link s = by (given_sent ls r link s) (l == link) where
 abbrev pub putting : ℕ → List Record → Ongoing → Ongoing
 putting time rs o = record o { outgoing = with_all time o.outgoing rs }
 
-pub with_more : (time : ℕ) (xs ys : List Record) (o : Outgoing) → with_all time o (xs ++ ys) ≡ with_all time (with_all time o xs) ys
+pub with_more : (time : ℕ) (xs ys : List Record) (o : Outgoing) → with_all time o (xs ++ ys)
+    ≡ with_all time (with_all time o xs) ys
 with_more time [] ys o = refl
 with_more time (x ∷ xs) ys o = with_more time xs ys (with_one time o x)
 
@@ -94,18 +104,26 @@ none_put : (time : ℕ) (o : Option Ongoing) → o ≡ option_map (putting time 
 none_put time None = refl
 none_put time (Some o) = refl
 
-both_put : (time : ℕ) (xs ys : List Record) (o : Option Ongoing) → option_map (putting time ys) (option_map (putting time xs) o) ≡ option_map (putting time (xs ++ ys)) o
+both_put : (time : ℕ) (xs ys : List Record) (o : Option Ongoing)
+    → option_map (putting time ys) (option_map (putting time xs) o) ≡ option_map (putting time (xs ++ ys)) o
 both_put time xs ys None = refl
-both_put time xs ys (Some o) = ap (λ (x : Outgoing). let p : Option Ongoing = Some (record o { outgoing = x }) in p) (sym (with_more time xs ys o.outgoing))
+both_put time xs ys (Some o) = ap (λ (x : Outgoing). let p : Option Ongoing = Some (record o { outgoing = x }) in p)
+    (sym (with_more time xs ys o.outgoing))
 
-one_put : (time : ℕ) (r : Record) (links : List Ongoing) (l link : ℕ) (b : Bool) → (l == link) ≡ b → slice_get (with_changed (with_waiting time r) links l) link ≡ option_map (putting time (cond b (r ∷ []) [])) (slice_get links link)
+one_put : (time : ℕ) (r : Record) (links : List Ongoing) (l link : ℕ) (b : Bool) → (l == link) ≡ b
+    → slice_get (with_changed (with_waiting time r) links l) link
+    ≡ option_map (putting time (cond b (r ∷ []) [])) (slice_get links link)
 one_put time r links l link true e =
-    ap (λ (n : ℕ). slice_get (with_changed (with_waiting time r) links n) link) (eqb-true l link e) ∙ changed_here (with_waiting time r) links link
+    ap (λ (n : ℕ). slice_get (with_changed (with_waiting time r) links n) link) (eqb-true l link e)
+    ∙ changed_here (with_waiting time r) links link
 one_put time r links l link false e =
-    changed_other (with_waiting time r) links l link (λ same. eqb-false l link e (sym same)) ∙ none_put time (slice_get links link)
+    changed_other (with_waiting time r) links l link (λ same. eqb-false l link e (sym same))
+    ∙ none_put time (slice_get links link)
 
 -- a record that is put on some links waits on each as often as the link is one of them
-pub put_each_at : (time : ℕ) (r : Record) (places : List ℕ) (links : List Ongoing) (link : ℕ) → slice_get (put_each time r places links) link ≡ option_map (putting time (records_given places r link)) (slice_get links link)
+pub put_each_at : (time : ℕ) (r : Record) (places : List ℕ) (links : List Ongoing) (link : ℕ)
+    → slice_get (put_each time r places links) link
+    ≡ option_map (putting time (records_given places r link)) (slice_get links link)
 put_each_at time r [] links link = none_put time (slice_get links link)
 put_each_at time r (l ∷ ls) links link =
     put_each_at time r ls (with_changed (with_waiting time r) links l) link

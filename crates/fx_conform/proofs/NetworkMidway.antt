@@ -38,7 +38,8 @@ use Rattle.fx_conform.proofs.LinkLaws.{puts_carry}
 use Rattle.fx_conform.proofs.CanBeSent.{leavings_can_be_sent}
 
 -- Crossings may be to come, records may have arrived from a link that aren't handled yet, and some may wait on links.
-pub record IsAmid (net : Net) (classes : List Class) (packets : List Packet) (c : Contents) (pending : ℕ → List Record) (history : ℕ → List ℕ) (coming : List Coming) (steps : List Step) (s : State) : Type 0 where
+pub record IsAmid (net : Net) (classes : List Class) (packets : List Packet) (c : Contents) (pending : ℕ → List Record)
+    (history : ℕ → List ℕ) (coming : List Coming) (steps : List Step) (s : State) : Type 0 where
   pub run_is : run net classes packets steps (opening net classes packets) ≡ Ok s
   pub coming_is : s.coming ≡ coming
   pub as_many : length s.carried ≡ length net.links
@@ -69,43 +70,54 @@ set_length (y ∷ ys) zero x = refl
 set_length (y ∷ ys) (suc n) x = ap suc (set_length ys n x)
 
 -- what is put on links that aren't there doesn't matter
-pub carried_alike : (time : ℕ) (pending : ℕ → List Record) (history : ℕ → List ℕ) (all new : ℕ → List Record) (links : List Ongoing) (carried : List (List Record))
+pub carried_alike : (time : ℕ) (pending : ℕ → List Record) (history : ℕ → List ℕ) (all new : ℕ → List Record)
+    (links : List Ongoing) (carried : List (List Record))
     → AreCarried time pending history all links carried → ((link : ℕ) → link < length carried → all link ≡ new link)
     → AreCarried time pending history new links carried
 carried_alike time pending history all new links carried h same = record {
   as_many = h.as_many;
-  each = λ link o rs there on. subst (λ (a : List Record). IsCarried time (pending link) (history link) a o rs) (same link (there_is_below carried link rs on)) (h.each link o rs there on);
+  each = λ link o rs there on. subst (λ (a : List Record). IsCarried time (pending link) (history link) a o rs)
+      (same link (there_is_below carried link rs on)) (h.each link o rs there on);
 }
 
 -- ---- a step more
 
 module _ (net : Net) (classes : List Class) (packets : List Packet) where
-  put_by_one : (steps : List Step) (step : Step) (s t : State) (link : ℕ) → run net classes packets steps (opening net classes packets) ≡ Ok s
+  put_by_one : (steps : List Step) (step : Step) (s t : State) (link : ℕ)
+      → run net classes packets steps (opening net classes packets) ≡ Ok s
       → after net classes packets step s ≡ Ok t
-      → put_by_run net classes packets (steps ++ step ∷ []) link ≡ put_by_run net classes packets steps link ++ put_by step link s t
+      → put_by_run net classes packets (steps ++ step ∷ []) link ≡ put_by_run net classes packets steps link
+      ++ put_by step link s t
   put_by_one steps step s t link e f =
       put_joins net classes packets link steps (step ∷ []) (opening net classes packets) s e
-      ∙ ap (λ (l : List Record). put_by_run net classes packets steps link ++ l) (put_first net classes packets link step [] s t f ∙ append-nil (put_by step link s t))
+      ∙ ap (λ (l : List Record). put_by_run net classes packets steps link ++ l)
+      (put_first net classes packets link step [] s t f ∙ append-nil (put_by step link s t))
 
-  pub run_one : (steps : List Step) (step : Step) (s t : State) → run net classes packets steps (opening net classes packets) ≡ Ok s
-      → after net classes packets step s ≡ Ok t → run net classes packets (steps ++ step ∷ []) (opening net classes packets) ≡ Ok t
+  pub run_one : (steps : List Step) (step : Step) (s t : State)
+      → run net classes packets steps (opening net classes packets) ≡ Ok s
+      → after net classes packets step s ≡ Ok t
+      → run net classes packets (steps ++ step ∷ []) (opening net classes packets) ≡ Ok t
   run_one steps step s t e f =
-      runs_join net classes packets steps (step ∷ []) (opening net classes packets) s t e (ap (λ (o : Outcome). then_run o (run net classes packets [])) f)
+      runs_join net classes packets steps (step ∷ []) (opening net classes packets) s t e
+      (ap (λ (o : Outcome). then_run o (run net classes packets [])) f)
 
   -- the links after a step that puts these records on them
-  pub links_then : (time : ℕ) (pending : ℕ → List Record) (history : ℕ → List ℕ) (more : ℕ → List Record) (links : List Ongoing) (steps : List Step) (step : Step) (s t : State)
+  pub links_then : (time : ℕ) (pending : ℕ → List Record) (history : ℕ → List ℕ) (more : ℕ → List Record)
+      (links : List Ongoing) (steps : List Step) (step : Step) (s t : State)
       → run net classes packets steps (opening net classes packets) ≡ Ok s → after net classes packets step s ≡ Ok t
       → ((link : ℕ) → link < length t.carried → put_by step link s t ≡ more link)
       → AreCarried time pending history (λ link. put_by_run net classes packets steps link ++ more link) links t.carried
       → AreCarried time pending history (put_by_run net classes packets (steps ++ step ∷ [])) links t.carried
   links_then time pending history more links steps step s t e f puts h =
       carried_alike time pending history _ _ links t.carried h
-      (λ link lt. ap (λ (l : List Record). put_by_run net classes packets steps link ++ l) (sym (puts link lt)) ∙ sym (put_by_one steps step s t link e f))
+      (λ link lt. ap (λ (l : List Record). put_by_run net classes packets steps link ++ l) (sym (puts link lt))
+      ∙ sym (put_by_one steps step s t link e f))
 
   -- ---- records leave
 
   -- what follows by some steps
-  pub record Follows (row : Row) (c : Contents) (pending : ℕ → List Record) (history : ℕ → List ℕ) (coming : List Coming) (steps : List Step) (held : List (List Record)) : Type 0 where
+  pub record Follows (row : Row) (c : Contents) (pending : ℕ → List Record) (history : ℕ → List ℕ)
+      (coming : List Coming) (steps : List Step) (held : List (List Record)) : Type 0 where
     pub to : List Step
     pub state : State
     pub shaped : row steps to
@@ -113,9 +125,11 @@ module _ (net : Net) (classes : List Class) (packets : List Packet) where
     pub held_is : state.held ≡ held
 
   module _ (pending : ℕ → List Record) (history : ℕ → List ℕ) (coming : List Coming) where
-    pub one_leaves : (l : Leaver) (c : Contents) (steps : List Step) (s : State) (now : List (List Record)) (named : CanBeNamed net l.holder)
+    pub one_leaves : (l : Leaver) (c : Contents) (steps : List Step) (s : State) (now : List (List Record))
+        (named : CanBeNamed net l.holder)
         → IsAmid net classes packets c pending history coming steps s → AreSent s.held → (leave : Leave l s.held now)
-        → Follows (λ from to. to ≡ from ++ expiry net c.chosen named.0 l.holder leave.number ∷ []) (after_leave net l c) pending history coming steps now
+        → Follows (λ from to. to ≡ from ++ expiry net c.chosen named.0 l.holder leave.number ∷ []) (after_leave net l c)
+        pending history coming steps now
     one_leaves l c steps s now named a sent leave =
         let name : HolderName = named.0 in
         let places : List ℕ = named_by (slice_get net.holders l.holder) in
@@ -123,8 +137,10 @@ module _ (net : Net) (classes : List Class) (packets : List Packet) where
         let step : Step = Expire name leave.number (sent_by net c.chosen places) in
         let t : State = record s { held = now; carried = put_all links l.flow s.carried } in
         let made : after net classes packets step s ≡ Ok t =
-        expires_are_made net classes packets c.chosen s name l.holder leave.number leave.rs l.flow a.chosen named.1 leave.there leave.flow_is
-        ∙ ap (λ (h : List (List Record)). let u : Outcome = Ok (record s { held = h; carried = put_all links l.flow s.carried }) in u) (sym leave.now_is) in
+        expires_are_made net classes packets c.chosen s name l.holder leave.number leave.rs l.flow a.chosen named.1
+        leave.there leave.flow_is
+        ∙ ap (λ (h : List (List Record)). let u : Outcome =
+        Ok (record s { held = h; carried = put_all links l.flow s.carried }) in u) (sym leave.now_is) in
         record {
           to = steps ++ step ∷ [];
           state = t;
@@ -134,8 +150,10 @@ module _ (net : Net) (classes : List Class) (packets : List Packet) where
             coming_is = a.coming_is;
             as_many = all_length links l.flow s.carried ∙ a.as_many;
             links = links_then c.second pending history (records_given links l.flow) _ steps step s t a.run_is made
-                (λ link lt. expire_puts name leave.number (sent_by net c.chosen places) s t links l.flow link refl (subst (λ (n : ℕ). link < n) (all_length links l.flow s.carried) lt))
-                (puts_carry c.second pending history (put_by_run net classes packets steps) c.links s.carried l.flow links a.links (leavings_can_be_sent l s.held now leave sent).0);
+                (λ link lt. expire_puts name leave.number (sent_by net c.chosen places) s t links l.flow link refl
+                (subst (λ (n : ℕ). link < n) (all_length links l.flow s.carried) lt))
+                (puts_carry c.second pending history (put_by_run net classes packets steps) c.links s.carried l.flow
+                links a.links (leavings_can_be_sent l s.held now leave sent).0);
             chosen = a.chosen;
             totals = a.totals;
             second = a.second;
@@ -144,16 +162,27 @@ module _ (net : Net) (classes : List Class) (packets : List Packet) where
         }
 
     -- one after another
-    pub all_leave_so : (ls : List Leaver) (c : Contents) (steps : List Step) (s : State) (held now : List (List Record)) → AllByRecursion (λ (l : Leaver). CanBeNamed net l.holder) ls
-        → IsAmid net classes packets c pending history coming steps s → s.held ≡ held → AreSent held → AllLeave ls held now
+    pub all_leave_so : (ls : List Leaver) (c : Contents) (steps : List Step) (s : State) (held now : List (List Record))
+        → AllByRecursion (λ (l : Leaver). CanBeNamed net l.holder) ls
+        → IsAmid net classes packets c pending history coming steps s → s.held ≡ held → AreSent held
+        → AllLeave ls held now
         → Follows (Repeated (Expires net c.chosen)) (after_leaves net ls c) pending history coming steps now
     all_leave_so [] c steps s held now named a is sent leave =
         record { to = steps; state = s; shaped = (0, refl); amid = a; held_is = is ∙ sym leave }
     all_leave_so (l ∷ ls) c steps s held now named a is sent leave =
         let there : Leave l s.held leave.0 = subst (λ (h : List (List Record)). Leave l h leave.0) (sym is) leave.1 in
         let first = one_leaves l c steps s leave.0 named.0 a (subst AreSent (sym is) sent) there in
-        let rest = all_leave_so ls (after_leave net l c) first.to first.state leave.0 now named.1 first.amid first.held_is (leavings_can_be_sent l held leave.0 leave.1 sent).1 leave.2 in
-        let expires : Expires net c.chosen steps first.to = record { name = named.0.0; place = l.holder; named = named.0.1; number = there.number; to_is = first.shaped } in
+        let rest = all_leave_so ls (after_leave net l c) first.to first.state leave.0 now named.1 first.amid
+        first.held_is (leavings_can_be_sent l held leave.0 leave.1 sent).1 leave.2 in
+        let expires : Expires net c.chosen steps first.to =
+        record {
+          name = named.0.0;
+          place = l.holder;
+          named = named.0.1;
+          number = there.number;
+          to_is =
+              first.shaped;
+        } in
         record {
           to = rest.to;
           state = rest.state;
@@ -164,13 +193,16 @@ module _ (net : Net) (classes : List Class) (packets : List Packet) where
 
   -- ---- a packet crosses
 
-  module _ (pending : ℕ → List Record) (history : ℕ → List ℕ) (rest : List Coming) (i j : ℕ) (p : Packet) (crossing : Crossing) where
-    first_place : (coming : List Coming) → coming ≡ record { packet = i; crossing = j } ∷ rest → place coming i j ≡ Some 0
+  module _ (pending : ℕ → List Record) (history : ℕ → List ℕ) (rest : List Coming) (i j : ℕ) (p : Packet)
+      (crossing : Crossing) where
+    first_place : (coming : List Coming) → coming ≡ record { packet = i; crossing = j } ∷ rest → place coming i j
+        ≡ Some 0
     first_place coming e =
         let here : (i == i && j == j) ≡ true = grind (arith, nat_tests) in
         ap (λ (cs : List Coming). place cs i j) e ∙ ap (λ b. cond b (Some 0) (later (place rest i j))) here
 
-    pub crosses : (c : Contents) (steps : List Step) (s : State) (choices : Choices) (now : List (List Record)) → entry_numbered packets i ≡ Some p → entry_numbered (path classes p) j ≡ Some crossing
+    pub crosses : (c : Contents) (steps : List Step) (s : State) (choices : Choices) (now : List (List Record))
+        → entry_numbered packets i ≡ Some p → entry_numbered (path classes p) j ≡ Some crossing
         → IsAmid net classes packets c pending history (record { packet = i; crossing = j } ∷ rest) steps s
         → hold_all (one_packet p) (intakes_at net p.fields crossing) s.held choices ≡ Some now
         → Follows (λ from to. to ≡ from ++ Cross i j choices ∷ []) c pending history rest steps now
@@ -178,8 +210,10 @@ module _ (net : Net) (classes : List Class) (packets : List Packet) where
         let step : Step = Cross i j choices in
         let t : State = record s { coming = rest; held = now } in
         let made : after net classes packets step s ≡ Ok t =
-        crosses_are_made net classes packets s i j 0 p crossing choices now is (first_place s.coming a.coming_is) on taken
-        ∙ ap (λ (cs : List Coming). let u : Outcome = Ok (record s { coming = remove cs 0; held = now }) in u) a.coming_is in
+        crosses_are_made net classes packets s i j 0 p crossing choices now is (first_place s.coming a.coming_is) on
+        taken
+        ∙ ap (λ (cs : List Coming). let u : Outcome = Ok (record s { coming = remove cs 0; held = now }) in u)
+        a.coming_is in
         record {
           to = steps ++ step ∷ [];
           state = t;
@@ -188,8 +222,10 @@ module _ (net : Net) (classes : List Class) (packets : List Packet) where
             run_is = run_one steps step s t a.run_is made;
             coming_is = refl;
             as_many = a.as_many;
-            links = links_then c.second pending history (λ link. []) c.links steps step s t a.run_is made (λ link lt. cross_puts i j choices s t link refl)
-                (carried_alike c.second pending history _ _ c.links s.carried a.links (λ link lt. sym (append-nil (put_by_run net classes packets steps link))));
+            links = links_then c.second pending history (λ link. []) c.links steps step s t a.run_is made
+                (λ link lt. cross_puts i j choices s t link refl)
+                (carried_alike c.second pending history _ _ c.links s.carried a.links
+                (λ link lt. sym (append-nil (put_by_run net classes packets steps link))));
             chosen = a.chosen;
             totals = a.totals;
             second = a.second;

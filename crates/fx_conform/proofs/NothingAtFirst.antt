@@ -26,7 +26,8 @@ IsNew (Some s) = IsHeld (flows_in s) [] × IsUsable s
 
 new_holds : (max_flows : ℕ) → IsHeld (flows_in (new_store max_flows)) []
 new_holds max_flows = by (eqb max_flows 0) where
-  by : (b : Bool) → IsHeld (flows_in (cond b (unbounded (flows_of [])) (bounded (record { entries = []; capacity = min max_flows 65536 })))) []
+  by : (b : Bool) → IsHeld (flows_in (cond b (unbounded (flows_of []))
+      (bounded (record { entries = []; capacity = min max_flows 65536 })))) []
   by true = record { differ = tt; same = λ key. sym (counted key []) }
   by false = record { differ = tt; same = λ key. sym (counted key []) }
 
@@ -43,29 +44,36 @@ aggregations_new : (aggregations : List Holder) → AllByRecursion IsNew (aggreg
 aggregations_new [] = tt
 aggregations_new (a ∷ rest) = (new_is_new 0, aggregations_new rest)
 
-all_new : (caches : List Cache) (aggregations : List Holder) → AllByRecursion IsNew (map store_of caches ++ aggregation_stores aggregations)
+all_new : (caches : List Cache) (aggregations : List Holder)
+    → AllByRecursion IsNew (map store_of caches ++ aggregation_stores aggregations)
 all_new [] aggregations = aggregations_new aggregations
 all_new (c ∷ caches) aggregations = (kind_is_new c.kind c.max_flows, all_new caches aggregations)
 
 -- ---- as many places
 
-new_held : {A : Type 0} (xs : List A) (stores : List (Option Stored)) → length xs ≡ length stores → AllByRecursion IsNew stores → AreHeld stores (nothing_at xs) × AreUsable stores
+new_held : {A : Type 0} (xs : List A) (stores : List (Option Stored)) → length xs ≡ length stores
+    → AllByRecursion IsNew stores → AreHeld stores (nothing_at xs) × AreUsable stores
 new_held [] [] e h = (tt, tt)
 new_held [] (s ∷ stores) e h = absurd (omega arith)
 new_held (x ∷ xs) [] e h = absurd (omega arith)
-new_held (x ∷ xs) (None ∷ stores) e h = let rest = new_held xs stores (omega arith) h.1 in ((refl, rest.0), (tt, rest.1))
-new_held (x ∷ xs) (Some s ∷ stores) e h = let rest = new_held xs stores (omega arith) h.1 in ((h.0.0, rest.0), (h.0.1, rest.1))
+new_held (x ∷ xs) (None ∷ stores) e h = let rest = new_held xs stores (omega arith) h.1 in
+    ((refl, rest.0), (tt, rest.1))
+new_held (x ∷ xs) (Some s ∷ stores) e h = let rest = new_held xs stores (omega arith) h.1 in
+    ((h.0.0, rest.0), (h.0.1, rest.1))
 
 as_many : (network : NetworkDocument) → length (net_of network).holders ≡ length (stores_of network)
 as_many network =
     let holders : List Holder = (net_of network).holders in
     let caches : List (Option Stored) = map store_of (caches_in network) in
-    let behind : length (drop (length caches) holders) ≡ length (aggregations_in network) = ap (λ (hs : List Holder). length hs) (behind_caches network) in
+    let behind : length (drop (length caches) holders) ≡ length (aggregations_in network) =
+    ap (λ (hs : List Holder). length hs) (behind_caches network) in
     let few = caches_are_holders network in
     let less = length-drop (length caches) holders in
     let all = length-append caches (aggregation_stores (aggregations_in network)) in
     let more = length-map (aggregations_in network) (λ (_ : Holder). Some (new_store 0)) in
     omega (arith, behind, few, less, all, more)
 
-pub begins : (network : NetworkDocument) → AreHeld (stores_of network) (nothing_at (net_of network).holders) × AreUsable (stores_of network)
-begins network = new_held (net_of network).holders (stores_of network) (as_many network) (all_new (caches_in network) (aggregations_in network))
+pub begins : (network : NetworkDocument) → AreHeld (stores_of network) (nothing_at (net_of network).holders)
+    × AreUsable (stores_of network)
+begins network = new_held (net_of network).holders (stores_of network) (as_many network)
+    (all_new (caches_in network) (aggregations_in network))

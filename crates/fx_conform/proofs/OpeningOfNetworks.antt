@@ -44,7 +44,8 @@ nothing_length : {A : Type 0} (xs : List A) → length (nothing_at xs) ≡ lengt
 nothing_length [] = refl
 nothing_length (x ∷ xs) = ap suc (nothing_length xs)
 
-held_length : (stores : List (Option Stored)) (held : List (List Record)) → AreHeld stores held → length stores ≡ length held
+held_length : (stores : List (Option Stored)) (held : List (List Record)) → AreHeld stores held → length stores
+    ≡ length held
 held_length [] [] h = refl
 held_length [] (rs ∷ held) h = absurd h
 held_length (s ∷ stores) [] h = absurd h
@@ -70,56 +71,76 @@ Within low high a = (low ≤ a.holder) × (a.holder < high)
 abbrev HasWithin : ℕ → ℕ → machine.Process → Type 0
 HasWithin low high p = AllByRecursion (Within low high) p.aggregations
 
-wider : (low high less more : ℕ) → less ≤ low → high ≤ more → (xs : List machine.AggregationEntry) → AllByRecursion (Within low high) xs → AllByRecursion (Within less more) xs
+wider : (low high less more : ℕ) → less ≤ low → high ≤ more → (xs : List machine.AggregationEntry)
+    → AllByRecursion (Within low high) xs → AllByRecursion (Within less more) xs
 wider low high less more a b [] h = tt
-wider low high less more a b (x ∷ xs) h = ((omega (arith, a, h.0.0), omega (arith, b, h.0.1)), wider low high less more a b xs h.1)
+wider low high less more a b (x ∷ xs) h =
+    ((omega (arith, a, h.0.0), omega (arith, b, h.0.1)), wider low high less more a b xs h.1)
 
-all_wider : (low high less more : ℕ) → less ≤ low → high ≤ more → (ps : List machine.Process) → AllByRecursion (HasWithin low high) ps → AllByRecursion (HasWithin less more) ps
+all_wider : (low high less more : ℕ) → less ≤ low → high ≤ more → (ps : List machine.Process)
+    → AllByRecursion (HasWithin low high) ps → AllByRecursion (HasWithin less more) ps
 all_wider low high less more a b [] h = tt
-all_wider low high less more a b (p ∷ ps) h = (wider low high less more a b p.aggregations h.0, all_wider low high less more a b ps h.1)
+all_wider low high less more a b (p ∷ ps) h =
+    (wider low high less more a b p.aggregations h.0, all_wider low high less more a b ps h.1)
 
-from_here : (holder : ℕ) (xs : List Aggregation) → AllByRecursion (Within holder (holder + length xs)) (aggregations_from holder xs)
+from_here : (holder : ℕ) (xs : List Aggregation)
+    → AllByRecursion (Within holder (holder + length xs)) (aggregations_from holder xs)
 from_here holder [] = tt
 from_here holder (a ∷ rest) = (
   (omega arith, omega arith),
-  wider (holder + 1) ((holder + 1) + length rest) holder (holder + suc (length rest)) (omega arith) (omega arith) _ (from_here (holder + 1) rest),
+  wider (holder + 1) ((holder + 1) + length rest) holder (holder + suc (length rest)) (omega arith) (omega arith) _
+      (from_here (holder + 1) rest),
 )
 
 module _ (exporting : List Label) where
-  held_more : (device : List ℕ) (p : CollectingProcess) (ps : List CollectingProcess) → length (held_by exporting device (p ∷ ps)) ≡ length p.aggregations + length (held_by exporting device ps)
+  held_more : (device : List ℕ) (p : CollectingProcess) (ps : List CollectingProcess)
+      → length (held_by exporting device (p ∷ ps)) ≡ length p.aggregations + length (held_by exporting device ps)
   held_more device p ps =
       append_length (map (aggregation_holder exporting device) p.aggregations) (held_by exporting device ps)
-      ∙ ap (λ (n : ℕ). n + length (held_by exporting device ps)) (map_length (aggregation_holder exporting device) p.aggregations)
+      ∙ ap (λ (n : ℕ). n + length (held_by exporting device ps))
+      (map_length (aggregation_holder exporting device) p.aggregations)
 
-  of_device : (device : List ℕ) (holder : ℕ) (ps : List CollectingProcess) → AllByRecursion (HasWithin holder (holder + length (held_by exporting device ps))) (processes_from exporting device holder ps)
+  of_device : (device : List ℕ) (holder : ℕ) (ps : List CollectingProcess)
+      → AllByRecursion (HasWithin holder (holder + length (held_by exporting device ps)))
+      (processes_from exporting device holder ps)
   of_device device holder [] = tt
   of_device device holder (p ∷ ps) =
       let more = held_more device p ps in
       let high : ℕ = holder + length (held_by exporting device (p ∷ ps)) in (
-        wider holder (holder + length p.aggregations) holder high (omega arith) (omega (arith, more)) _ (from_here holder p.aggregations),
-        all_wider (holder + length p.aggregations) ((holder + length p.aggregations) + length (held_by exporting device ps)) holder high (omega arith) (omega (arith, more)) _ (of_device device (holder + length p.aggregations) ps),
+        wider holder (holder + length p.aggregations) holder high (omega arith) (omega (arith, more)) _
+            (from_here holder p.aggregations),
+        all_wider (holder + length p.aggregations)
+            ((holder + length p.aggregations) + length (held_by exporting device ps)) holder high (omega arith)
+            (omega (arith, more)) _ (of_device device (holder + length p.aggregations) ps),
       )
 
-  of_devices : (holder : ℕ) (xs : List NetworkDevice) → AllByRecursion (HasWithin holder (holder + length (aggregation_holders exporting xs))) (processes_in exporting holder xs)
+  of_devices : (holder : ℕ) (xs : List NetworkDevice)
+      → AllByRecursion (HasWithin holder (holder + length (aggregation_holders exporting xs)))
+      (processes_in exporting holder xs)
   of_devices holder [] = tt
   of_devices holder (x ∷ xs) =
       let own : ℕ = length (held_by exporting x.name x.config.collecting_processes) in
       let high : ℕ = holder + length (aggregation_holders exporting (x ∷ xs)) in
-      let more : length (aggregation_holders exporting (x ∷ xs)) ≡ own + length (aggregation_holders exporting xs) = append_length (held_by exporting x.name x.config.collecting_processes) (aggregation_holders exporting xs) in
+      let more : length (aggregation_holders exporting (x ∷ xs)) ≡ own + length (aggregation_holders exporting xs) =
+      append_length (held_by exporting x.name x.config.collecting_processes) (aggregation_holders exporting xs) in
       all_join (HasWithin holder high) _ _
-      (all_wider holder (holder + own) holder high (omega arith) (omega (arith, more)) _ (of_device x.name holder x.config.collecting_processes))
-      (all_wider (holder + own) ((holder + own) + length (aggregation_holders exporting xs)) holder high (omega arith) (omega (arith, more)) _ (of_devices (holder + own) xs))
+      (all_wider holder (holder + own) holder high (omega arith) (omega (arith, more)) _
+      (of_device x.name holder x.config.collecting_processes))
+      (all_wider (holder + own) ((holder + own) + length (aggregation_holders exporting xs)) holder high (omega arith)
+      (omega (arith, more)) _ (of_devices (holder + own) xs))
 
 -- ---- stores
 
-behind_all : {A : Type 0} (xs ys : List A) (n : ℕ) → length xs ≤ n → (m : ℕ) × (n ≡ length xs + m) × (slice_get (xs ++ ys) n ≡ slice_get ys m)
+behind_all : {A : Type 0} (xs ys : List A) (n : ℕ) → length xs ≤ n → (m : ℕ) × (n ≡ length xs + m)
+    × (slice_get (xs ++ ys) n ≡ slice_get ys m)
 behind_all [] ys n h = (n, omega arith, refl)
 behind_all (x ∷ xs) ys zero h = absurd (omega (arith, h))
 behind_all (x ∷ xs) ys (suc n) h =
     let r = behind_all xs ys n (omega (arith, h)) in
     (r.0, (let e = r.1 in omega (arith, e)), r.2)
 
-aggregation_unbounded : (hs : List machine.Holder) (n : ℕ) → n < length hs → IsUnbounded (stored_at (aggregation_stores hs) n)
+aggregation_unbounded : (hs : List machine.Holder) (n : ℕ) → n < length hs
+    → IsUnbounded (stored_at (aggregation_stores hs) n)
 aggregation_unbounded [] n lt = absurd (omega (arith, lt))
 aggregation_unbounded (h ∷ hs) zero lt = tt
 aggregation_unbounded (h ∷ hs) (suc n) lt = aggregation_unbounded hs n (omega (arith, lt))
@@ -139,30 +160,37 @@ module _ (network : NetworkDocument) where
 
   holders_length : length (net_of network).holders ≡ first_aggregation + length (aggregations_in network)
   unfolding net_of
-  holders_length = append_length (cache_holders (exporting_labels network.devices) network.devices) (aggregations_in network)
+  holders_length = append_length (cache_holders (exporting_labels network.devices) network.devices)
+      (aggregations_in network)
 
   caches_length : length caches ≡ first_aggregation
   caches_length =
-      let behind : length (drop (length caches) (net_of network).holders) ≡ length (aggregations_in network) = ap (λ (hs : List machine.Holder). length hs) (behind_caches network) in
+      let behind : length (drop (length caches) (net_of network).holders) ≡ length (aggregations_in network) =
+      ap (λ (hs : List machine.Holder). length hs) (behind_caches network) in
       let few = caches_are_holders network in
       let less = length-drop (length caches) (net_of network).holders in
       let all = holders_length in
       omega (arith, behind, few, less, all)
 
-  unbounded_behind : (n : ℕ) → first_aggregation ≤ n → n < first_aggregation + length (aggregations_in network) → IsUnbounded (stored_at (stores_of network) n)
+  unbounded_behind : (n : ℕ) → first_aggregation ≤ n → n < first_aggregation + length (aggregations_in network)
+      → IsUnbounded (stored_at (stores_of network) n)
   unbounded_behind n low high =
       let long = caches_length in
       let r = behind_all caches (aggregation_stores (aggregations_in network)) n (omega (arith, long, low)) in
       let below : r.0 < length (aggregations_in network) = (let e = r.1 in omega (arith, e, long, high)) in
-      subst (λ (o : Option (Option Stored)). IsUnbounded (inner_option o)) (sym r.2) (aggregation_unbounded (aggregations_in network) r.0 below)
+      subst (λ (o : Option (Option Stored)). IsUnbounded (inner_option o)) (sym r.2)
+      (aggregation_unbounded (aggregations_in network) r.0 below)
 
-  within_all : (xs : List machine.AggregationEntry) → AllByRecursion (Within first_aggregation (first_aggregation + length (aggregations_in network))) xs
+  within_all : (xs : List machine.AggregationEntry)
+      → AllByRecursion (Within first_aggregation (first_aggregation + length (aggregations_in network))) xs
       → AllByRecursion (λ (a : machine.AggregationEntry). IsUnbounded (stored_at (stores_of network) a.holder)) xs
   within_all [] h = tt
   within_all (a ∷ xs) h = (unbounded_behind a.holder h.0.0 h.0.1, within_all xs h.1)
 
-  within_process : (o : Option machine.Process) → IfSome o (HasWithin first_aggregation (first_aggregation + length (aggregations_in network)))
-      → AllByRecursion (λ (a : machine.AggregationEntry). IsUnbounded (stored_at (stores_of network) a.holder)) (machine.aggregations_of o)
+  within_process : (o : Option machine.Process)
+      → IfSome o (HasWithin first_aggregation (first_aggregation + length (aggregations_in network)))
+      → AllByRecursion (λ (a : machine.AggregationEntry). IsUnbounded (stored_at (stores_of network) a.holder))
+      (machine.aggregations_of o)
   within_process None h = tt
   within_process (Some p) h = within_all p.aggregations h
 
@@ -170,7 +198,9 @@ module _ (network : NetworkDocument) where
   unfolding net_of
   boundless_first process =
       within_process (slice_get (net_of network).processes process)
-      (all_at (HasWithin first_aggregation (first_aggregation + length (aggregations_in network))) (net_of network).processes process (of_devices (exporting_labels network.devices) (length (cache_holders (exporting_labels network.devices) network.devices)) network.devices))
+      (all_at (HasWithin first_aggregation (first_aggregation + length (aggregations_in network)))
+      (net_of network).processes process (of_devices (exporting_labels network.devices)
+      (length (cache_holders (exporting_labels network.devices) network.devices)) network.devices))
 
 -- ---- nothing is in the stores
 
@@ -179,7 +209,8 @@ IsNone stored = count_of stored ≡ 0
 
 new_counted : (max_flows : ℕ) → IsNone (Some (new_store max_flows))
 new_counted max_flows = by (eqb max_flows 0) where
-  by : (b : Bool) → IsNone (Some (cond b (unbounded (flows_of [])) (bounded (record { entries = []; capacity = min max_flows 65536 }))))
+  by : (b : Bool) → IsNone (Some (cond b (unbounded (flows_of []))
+      (bounded (record { entries = []; capacity = min max_flows 65536 }))))
   by true = len-empty key_cmp Counts
   by false = len-empty key_cmp Counts
 
@@ -193,7 +224,8 @@ aggregations_counted : (hs : List machine.Holder) → AllByRecursion IsNone (agg
 aggregations_counted [] = tt
 aggregations_counted (h ∷ hs) = (new_counted 0, aggregations_counted hs)
 
-all_counted : (caches : List Cache) (hs : List machine.Holder) → AllByRecursion IsNone (map store_of caches ++ aggregation_stores hs)
+all_counted : (caches : List Cache) (hs : List machine.Holder)
+    → AllByRecursion IsNone (map store_of caches ++ aggregation_stores hs)
 all_counted [] hs = aggregations_counted hs
 all_counted (c ∷ caches) hs = (kind_counted c.kind c.max_flows, all_counted caches hs)
 
@@ -202,9 +234,11 @@ none_at None h = refl
 none_at (Some s) h = h
 
 pub nothing_counted : (network : NetworkDocument) (place : ℕ) → count_in (stores_of network) place ≡ 0
-nothing_counted network place = none_at (slice_get (stores_of network) place) (all_at IsNone (stores_of network) place (all_counted (caches_in network) (aggregations_in network)))
+nothing_counted network place = none_at (slice_get (stores_of network) place)
+    (all_at IsNone (stores_of network) place (all_counted (caches_in network) (aggregations_in network)))
 
-first_used : (es : List machine.Exporter) (place : ℕ) (e : machine.Exporter) → slice_get es place ≡ Some e → number_in_use (first_chosen es) place ≡ 1
+first_used : (es : List machine.Exporter) (place : ℕ) (e : machine.Exporter) → slice_get es place ≡ Some e
+    → number_in_use (first_chosen es) place ≡ 1
 first_used [] place e is = absurd cc
 first_used (x ∷ es) zero e is = refl
 first_used (x ∷ es) (suc place) e is = first_used es place e is
@@ -217,10 +251,15 @@ some_first e lt = by e.destinations lt where
 
 usable_first : (net : machine.Net) → IsRunnable net → AllUsable net (first_chosen net.exporters)
 usable_first net runnable place e is chooses =
-    let has : HasDestinations net e = subst (λ (o : Option machine.Exporter). IfSome o (HasDestinations net)) is (all_at (HasDestinations net) net.exporters place (all_to_list (HasDestinations net) net.exporters runnable.destinations)) in
-    subst (λ (n : ℕ). machine.entry_numbered e.destinations n ≢ None) (sym (first_used net.exporters place e is)) (some_first e (has.some chooses))
+    let has : HasDestinations net e = subst (λ (o : Option machine.Exporter). IfSome o (HasDestinations net)) is
+    (all_at (HasDestinations net) net.exporters place
+    (all_to_list (HasDestinations net) net.exporters runnable.destinations)) in
+    subst (λ (n : ℕ). machine.entry_numbered e.destinations n ≢ None) (sym (first_used net.exporters place e is))
+    (some_first e (has.some chooses))
 
-pub starts : (network : NetworkDocument) (classes : List Class) (begin : Put) → IsSound (net_of network) → Conforms (net_of network) classes begin begin (opening_contents network) [] [] (opening (net_of network) classes [])
+pub starts : (network : NetworkDocument) (classes : List Class) (begin : Put) → IsSound (net_of network)
+    → Conforms (net_of network) classes begin begin (opening_contents network) [] []
+    (opening (net_of network) classes [])
 starts network classes begin sound =
     let net : machine.Net = net_of network in
     let b = begins network in

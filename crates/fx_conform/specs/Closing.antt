@@ -46,7 +46,8 @@ LeavingStaysNamed =
     (net : Net) (stores : List (Option Stored)) (place : ℕ) (n : ℕ)
     → AreUsable stores → OnlyNamedHold net stores → OnlyNamedHold net (without_leasts place stores n)
 
--- Once all caches have been emptied, and then all collecting processes finished in the order of ranks, nothing is in the
+-- Once all caches have been emptied, and then all collecting processes finished in the order of ranks, nothing is in
+-- the
 -- stores, and no octets are on the links.
 abbrev pub ClosingEmpties : Type 0
 ClosingEmpties =

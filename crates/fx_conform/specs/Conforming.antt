@@ -36,7 +36,8 @@ pub record IsSound (net : Net) : Type 0 where
 abbrev pub AreBoundless : Net → List (Option Stored) → Type 0
 AreBoundless net stores =
     (process : ℕ)
-    → AllByRecursion (λ (a : AggregationEntry). IsUnbounded (stored_at stores a.holder)) (aggregations_of (slice_get net.processes process))
+    → AllByRecursion (λ (a : AggregationEntry). IsUnbounded (stored_at stores a.holder))
+    (aggregations_of (slice_get net.processes process))
 
 -- each holder holds one record for each flow of its store
 pub record StoresConform (net : Net) (stores : List (Option Stored)) (holding : List (List Record)) : Type 0 where
@@ -51,9 +52,11 @@ pub record StoresConform (net : Net) (stores : List (Option Stored)) (holding : 
 abbrev pub put_by_run : Net → List Class → List Packet → List Step → ℕ → List Record
 put_by_run net classes packets steps link = put_on net classes packets link steps (opening net classes packets)
 
--- The run's state: each store has the records that its holder holds, each link those that it carries, and the collector has
+-- The run's state: each store has the records that its holder holds, each link those that it carries, and the collector
+-- has
 -- counted the same. All octets put on a link since the run began encode the records that the run has put on it.
-pub record Conforms (net : Net) (classes : List Class) (begin put : Put) (c : Contents) (packets : List Packet) (steps : List Step) (s : State) : Type 0 where
+pub record Conforms (net : Net) (classes : List Class) (begin put : Put) (c : Contents) (packets : List Packet)
+    (steps : List Step) (s : State) : Type 0 where
   pub history : ℕ → List ℕ
   pub written : (link : ℕ) → Writes (begin (suc link)) (put (suc link)) (history link)
   pub run_is : run net classes packets steps (opening net classes packets) ≡ Ok s

@@ -18,7 +18,8 @@ Chooses rs key (Some number) = (r : Record) × (entry_numbered rs number ≡ Som
 
 -- ---- the laws
 
--- A record of a key is added to the held one, or is a new one if there is none; afterwards there is again one record for
+-- A record of a key is added to the held one, or is a new one if there is none; afterwards there is again one record
+-- for
 -- each flow.
 abbrev pub JoinsAreMade : Type 0
 JoinsAreMade =

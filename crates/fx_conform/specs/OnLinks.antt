@@ -35,7 +35,8 @@ pub record IsLinkAtRest (wire : Wire) (history : List ℕ) (before : List Record
 
 -- ---- a link
 
--- No record waits for its message: the records on the link are in its octets. All these octets and records were put on it.
+-- No record waits for its message: the records on the link are in its octets. All these octets and records were put on
+-- it.
 pub record IsStill (history : List ℕ) (all : List Record) (o : Ongoing) (rs : List Record) : Type 0 where
   pub wire : Wire
   pub kept : IsLinkAtRest wire history all
@@ -43,9 +44,11 @@ pub record IsStill (history : List ℕ) (all : List Record) (o : Ongoing) (rs : 
   pub records_are : rs ≡ on_link wire
   pub sent : AllByRecursion IsSent rs
 
--- The records in order: first those that have arrived but aren't handled yet, then those in octets, then those that wait for
+-- The records in order: first those that have arrived but aren't handled yet, then those in octets, then those that
+-- wait for
 -- their message.
-pub record IsCarried (time : ℕ) (pending : List Record) (history : List ℕ) (all : List Record) (o : Ongoing) (rs : List Record) : Type 0 where
+pub record IsCarried (time : ℕ) (pending : List Record) (history : List ℕ) (all : List Record) (o : Ongoing)
+    (rs : List Record) : Type 0 where
   pub wire : Wire
   pub before : List Record
   pub put : List Record
@@ -57,12 +60,14 @@ pub record IsCarried (time : ℕ) (pending : List Record) (history : List ℕ) (
 
 -- ---- all links, by their places
 
-pub record AreStill (history : ℕ → List ℕ) (all : ℕ → List Record) (links : List Ongoing) (carried : List (List Record)) : Type 0 where
+pub record AreStill (history : ℕ → List ℕ) (all : ℕ → List Record) (links : List Ongoing)
+    (carried : List (List Record)) : Type 0 where
   pub as_many : length carried ≡ length links
   pub each : (link : ℕ) (o : Ongoing) (rs : List Record)
       → slice_get links link ≡ Some o → slice_get carried link ≡ Some rs → IsStill (history link) (all link) o rs
 
-pub record AreCarried (time : ℕ) (pending : ℕ → List Record) (history : ℕ → List ℕ) (all : ℕ → List Record) (links : List Ongoing) (carried : List (List Record)) : Type 0 where
+pub record AreCarried (time : ℕ) (pending : ℕ → List Record) (history : ℕ → List ℕ) (all : ℕ → List Record)
+    (links : List Ongoing) (carried : List (List Record)) : Type 0 where
   pub as_many : length carried ≡ length links
   pub each : (link : ℕ) (o : Ongoing) (rs : List Record)
       → slice_get links link ≡ Some o → slice_get carried link ≡ Some rs
@@ -102,7 +107,8 @@ FinishingStills =
     (time : ℕ) (history : ℕ → List ℕ) (all : ℕ → List Record) (links : List Ongoing) (carried : List (List Record))
     → time < 2 ^ 32 → AreCarried time none_pending history all links carried
     → ((link : ℕ) → HasRoom (slice_get links link))
-    → AreStill (λ link. history link ++ to_put_on time (slice_get links link)) all (map (after_finish time) links) carried
+    → AreStill (λ link. history link ++ to_put_on time (slice_get links link)) all (map (after_finish time) links)
+    carried
 
 -- the links once this number of octets has reached the receiver of one link, whose records have been handed out
 abbrev pub with_octets_carried : ℕ → ℕ → List Ongoing → List Ongoing
@@ -114,7 +120,8 @@ arrivals link n links = waiting_on (slice_get (with_changed (after_carry n) link
 -- Octets that are carried complete the first records on the link, which have then arrived.
 abbrev pub CarriedArrive : Type 0
 CarriedArrive =
-    (time link n : ℕ) (history : ℕ → List ℕ) (all : ℕ → List Record) (links : List Ongoing) (carried : List (List Record))
+    (time link n : ℕ) (history : ℕ → List ℕ) (all : ℕ → List Record) (links : List Ongoing)
+    (carried : List (List Record))
     → link < length links → AreStill history all links carried
     → AreCarried time (pending_from link (arrivals link n links)) history all (with_octets_carried link n links) carried
 

@@ -54,7 +54,8 @@ Repeated row from to = (n : ℕ) × Times n row from to
 
 -- ---- a record leaves a holder
 
--- The step by which the record of this number leaves the named holder at a place; it is sent to the destinations in use.
+-- The step by which the record of this number leaves the named holder at a place; it is sent to the destinations in
+-- use.
 abbrev pub expiry : Net → List ℕ → HolderName → ℕ → ℕ → Step
 expiry net chosen name place number = Expire name number (sent_by net chosen (named_by (slice_get net.holders place)))
 
@@ -74,8 +75,10 @@ pub record IsLeastHeld (s : State) (place number : ℕ) : Type 0 where
   pub numbered : entry_numbered records number ≡ Some least
   pub is_least : AllByRecursion (λ (r : Record). is_gt (key_cmp least.key r.key) ≡ false) records
 
--- the record of the least key leaves, among those that the holder of this name, at this place, holds after the steps so far
-pub record LeastExpires (net : Net) (classes : List Class) (packets : List Packet) (chosen : List ℕ) (name : HolderName) (place : ℕ) (from to : List Step) : Type 0 where
+-- the record of the least key leaves, among those that the holder of this name, at this place, holds after the steps so
+-- far
+pub record LeastExpires (net : Net) (classes : List Class) (packets : List Packet) (chosen : List ℕ) (name : HolderName)
+    (place : ℕ) (from to : List Step) : Type 0 where
   pub named : holder_place net name ≡ Some place
   pub state : State
   pub run_is : run net classes packets from (opening net classes packets) ≡ Ok state
@@ -104,7 +107,8 @@ pub record IsCrossing (net : Net) (chosen : List ℕ) (packet crossing : ℕ) (f
 -- this number of crossings, starting with this one
 abbrev pub AreCrossings : Net → List ℕ → ℕ → ℕ → ℕ → Row
 AreCrossings net chosen packet crossing zero = NoStep
-AreCrossings net chosen packet crossing (suc n) = Followed (IsCrossing net chosen packet crossing) (AreCrossings net chosen packet (suc crossing) n)
+AreCrossings net chosen packet crossing (suc n) =
+    Followed (IsCrossing net chosen packet crossing) (AreCrossings net chosen packet (suc crossing) n)
 
 -- ---- lines
 
@@ -122,7 +126,8 @@ Makes row from to = (steps : List Step) × row from.steps steps × (to ≡ recor
 pub record Reads (net : Net) (classes : List Class) (asked : Action) (packet : Packet) (from to : Course) : Type 0 where
   pub given : IsGiven classes asked packet
   pub steps : List Step
-  pub crosses : AreCrossings net from.chosen (suc (length from.packets)) 1 (length (path classes packet)) from.steps steps
+  pub crosses : AreCrossings net from.chosen (suc (length from.packets)) 1 (length (path classes packet)) from.steps
+      steps
   pub to_is : to ≡ record from { packets = from.packets ++ packet ∷ []; steps = steps }
 
 -- the destinations in use after an exporting process selects this one
@@ -140,10 +145,14 @@ AreArrivals net (suc link) from to = Makes (Repeated (Arrives net from.chosen li
 
 -- the effect of the action that a line requests
 abbrev pub IsRow : NetworkDocument → List Class → Action → Course → Course → Type 0
-IsRow network classes action.Next from to = (packet : Packet) × Reads (net_of network) classes action.Next packet from to
-IsRow network classes (action.NextOf class path) from to = (packet : Packet) × Reads (net_of network) classes (action.NextOf class path) packet from to
-IsRow network classes (action.Expire device cache) from to = IsExpiry (net_of network) classes (holder.Cache device cache) from to
-IsRow network classes (action.Emit device process aggregation) from to = IsExpiry (net_of network) classes (holder.Aggregation device process aggregation) from to
+IsRow network classes action.Next from to = (packet : Packet)
+    × Reads (net_of network) classes action.Next packet from to
+IsRow network classes (action.NextOf class path) from to = (packet : Packet)
+    × Reads (net_of network) classes (action.NextOf class path) packet from to
+IsRow network classes (action.Expire device cache) from to =
+    IsExpiry (net_of network) classes (holder.Cache device cache) from to
+IsRow network classes (action.Emit device process aggregation) from to =
+    IsExpiry (net_of network) classes (holder.Aggregation device process aggregation) from to
 IsRow network classes (action.Carry link n) from to = AreArrivals (net_of network) link from to
 IsRow network classes (action.Use device exporter destination) from to =
     to ≡ record from { chosen = with_destination (exporter_place network device exporter) destination from.chosen }
@@ -152,7 +161,8 @@ IsRow network classes (action.Use device exporter destination) from to =
 abbrev pub AreRows : NetworkDocument → List Class → List (List ℕ) → Course → Course → Type 0
 AreRows network classes [] from to = to ≡ from
 AreRows network classes (line ∷ lines) from to =
-    (asked : Action) × (mid : Course) × AsksFor line asked × IsRow network classes asked from mid × AreRows network classes lines mid to
+    (asked : Action) × (mid : Course) × AsksFor line asked × IsRow network classes asked from mid
+    × AreRows network classes lines mid to
 
 -- ---- the closing phase
 
@@ -181,12 +191,14 @@ IsFinished net classes packets chosen process =
 -- all caches are emptied, in document order, and then the collecting processes are finished, in this order
 abbrev pub IsEmptying : Net → List Class → List Packet → List ℕ → List ℕ → Row
 IsEmptying net classes packets chosen ranked =
-    Followed (InTurn (IsEmptied net classes packets chosen) (caches_of_all net)) (InTurn (IsFinished net classes packets chosen) ranked)
+    Followed (InTurn (IsEmptied net classes packets chosen) (caches_of_all net))
+    (InTurn (IsFinished net classes packets chosen) ranked)
 
 -- the remaining packets are read, and then all holders are emptied
 abbrev pub IsClosing : Net → List Class → List ℕ → List Packet → Course → Course → Type 0
 IsClosing net classes ranked left from to =
-    (mid : Course) × AllCome net classes left from mid × Makes (IsEmptying net classes mid.packets mid.chosen ranked) mid to
+    (mid : Course) × AllCome net classes left from mid
+    × Makes (IsEmptying net classes mid.packets mid.chosen ranked) mid to
 
 -- a run before anything is read: each exporting process uses its first destination
 abbrev pub first_course : Net → Course

@@ -34,7 +34,8 @@ abbrev pub record_key : List Holder → Key → ℕ → Key
 record_key holders key holder = project key (layout_of (slice_get holders holder))
 
 -- First records leave to make room, then all records are added, and then those of immediate caches leave.
-pub record TakesIn (stores : List (Option Stored)) (counts : Counts) (hs : List Holding) (held : List (List Record)) : Type 0 where
+pub record TakesIn (stores : List (Option Stored)) (counts : Counts) (hs : List Holding) (held : List (List Record)) :
+    Type 0 where
   pub room : List (List Record)
   pub now : List (List Record)
   pub final : List (List Record)
@@ -54,7 +55,8 @@ abbrev pub AreUnbounded : List (Option Stored) → List Holding → Type 0
 AreUnbounded stores hs = AllByRecursion (λ (h : Holding). IsUnbounded (stored_at stores h.holder)) hs
 
 -- All records are added, and none leaves.
-pub record Join (stores : List (Option Stored)) (counts : Counts) (hs : List Holding) (held : List (List Record)) : Type 0 where
+pub record Join (stores : List (Option Stored)) (counts : Counts) (hs : List Holding) (held : List (List Record)) : Type
+    0 where
   pub now : List (List Record)
   pub choices : Choices
   pub none_left : (stores_and_leavers stores counts hs).left ≡ []

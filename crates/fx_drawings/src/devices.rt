@@ -28,7 +28,8 @@ fn end(dot: &mut Dot) {
     dot.line("\"];")
 }
 
-/// Draws an observation point: its interfaces, if they are to be named, and the directions in which it observes packets.
+/// Draws an observation point: its interfaces, if they are to be named, and the directions in which it observes
+/// packets.
 fn draw_point(dot: &mut Dot, node: nodes::Node, point: &ObservationPoint, names_interfaces: bool) {
     begin(dot, node, "shape=cds", &point.name);
     dot.code("\\n");
@@ -199,8 +200,8 @@ fn add_devices(dot: &mut Dot, plan: &Plan, number: u64) {
     }
 }
 
-/// Draws the device with this 1-based number as a box around its parts, unless it is drawn as another. Interfaces aren't
-/// named if other devices are drawn as this one.
+/// Draws the device with this 1-based number as a box around its parts, unless it is drawn as another. Interfaces
+/// aren't named if other devices are drawn as this one.
 pub(crate) fn draw_device(dot: &mut Dot, plan: &Plan, number: u64, device: &NetworkDevice) {
     if dot.folding().of(number) != number {
         return;

@@ -112,8 +112,8 @@ fn classes_of(alloc: Global, documents: &Documents, name: Option<&str>) -> Resul
     }
 }
 
-/// Returns the drawing of a network and the traffic over it, and of the certificate or refutation of it, if given. Draws
-/// the paths of the class of this name alone, if one is given.
+/// Returns the drawing of a network and the traffic over it, and of the certificate or refutation of it, if given.
+/// Draws the paths of the class of this name alone, if one is given.
 fn drawing_over(
     alloc: Global,
     documents: &Documents,

@@ -141,8 +141,8 @@ fn fold_once(
     Ok(Folding { firsts })
 }
 
-/// Returns which devices are drawn as one: at least three that look alike and send their records to the same places. The
-/// devices `apart`, by their numbers, are drawn by themselves.
+/// Returns which devices are drawn as one: at least three that look alike and send their records to the same places.
+/// The devices `apart`, by their numbers, are drawn by themselves.
 ///
 /// Fails if out of memory.
 pub(crate) fn fold(alloc: Global, plan: &Plan, apart: &[u64]) -> Result<Folding, AllocError> {

@@ -53,8 +53,8 @@ fn is_unseen(plan: &Plan, crossings: &[Crossing], place: usize) -> bool {
     }
 }
 
-/// Adds a line to a label with the crossings of a path that no observation point observes, if there are any: numbers and
-/// ranges of numbers.
+/// Adds a line to a label with the crossings of a path that no observation point observes, if there are any: numbers
+/// and ranges of numbers.
 fn add_unseen(dot: &mut Dot, plan: &Plan, crossings: &[Crossing]) {
     let mut separator = "\\nunobserved crossings: ";
     let mut was_unseen = false;

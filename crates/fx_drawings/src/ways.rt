@@ -12,8 +12,8 @@ use std::alloc::{AllocError, Global};
 /// The greatest number of collecting processes that are followed, which is more than a network has.
 const FOLLOWED: usize = 4096;
 
-/// The collecting processes from which records may reach the report, that of the report among them; those that the drawn
-/// ways have reached so far; and the edges that have been drawn.
+/// The collecting processes from which records may reach the report, that of the report among them; those that the
+/// drawn ways have reached so far; and the edges that have been drawn.
 #[derive(Drop)]
 pub(crate) struct Ways {
     leading: Vec<Node>,

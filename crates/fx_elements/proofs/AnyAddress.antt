@@ -30,17 +30,24 @@ number_zeros (suc n) m =
     let p : 65536 ^ suc n ≡ 65536 ^ n * 65536 = pow-suc 65536 n in
     rw (p, more) (omega arith)
 
-number_round : (x y : List ℕ) → length x + length y ≤ 7 → number_behind 0 (x ++ (replicate (8 - (length x + length y)) 0 ++ y)) ≡ number_behind 0 x * 65536 * 65536 ^ (7 - length x) + number_behind 0 y
+number_round : (x y : List ℕ) → length x + length y ≤ 7
+    → number_behind 0 (x ++ (replicate (8 - (length x + length y)) 0 ++ y))
+    ≡ number_behind 0 x * 65536 * 65536 ^ (7 - length x) + number_behind 0 y
 number_round x y le =
     let n : ℕ = 8 - (length x + length y) in
     let left : ℕ = number_behind 0 x in
-    let split : number_behind 0 (x ++ (replicate n 0 ++ y)) ≡ number_behind (number_behind left (replicate n 0)) y = fold-append (λ v g. v * 65536 + g) 0 x (replicate n 0 ++ y) ∙ fold-append (λ v g. v * 65536 + g) left (replicate n 0) y in
+    let split : number_behind 0 (x ++ (replicate n 0 ++ y)) ≡ number_behind (number_behind left (replicate n 0)) y =
+    fold-append (λ v g. v * 65536 + g) 0 x (replicate n 0 ++ y)
+    ∙ fold-append (λ v g. v * 65536 + g) left (replicate n 0) y in
     let zeros : number_behind left (replicate n 0) ≡ left * 65536 ^ n = number_zeros n left in
     let last = number_scaled y (number_behind left (replicate n 0)) in
     let e : n + length y ≡ suc (7 - length x) = omega arith in
-    let p : 65536 ^ n * 65536 ^ length y ≡ 65536 ^ (7 - length x) * 65536 = sym (pow-add 65536 n (length y)) ∙ ap (λ k. 65536 ^ k) e ∙ pow-suc 65536 (7 - length x) in
-    let times : left * (65536 ^ n * 65536 ^ length y) ≡ left * (65536 ^ (7 - length x) * 65536) = ap (λ k. left * k) p in
-    let sum : left * 65536 ^ n * 65536 ^ length y + number_behind 0 y ≡ left * 65536 * 65536 ^ (7 - length x) + number_behind 0 y = omega (arith, times) in
+    let p : 65536 ^ n * 65536 ^ length y ≡ 65536 ^ (7 - length x) * 65536 = sym (pow-add 65536 n (length y))
+    ∙ ap (λ k. 65536 ^ k) e ∙ pow-suc 65536 (7 - length x) in
+    let times : left * (65536 ^ n * 65536 ^ length y) ≡ left * (65536 ^ (7 - length x) * 65536) = ap (λ k. left * k) p
+    in
+    let sum : left * 65536 ^ n * 65536 ^ length y + number_behind 0 y ≡ left * 65536 * 65536 ^ (7 - length x)
+    + number_behind 0 y = omega (arith, times) in
     split ∙ last ∙ ap (λ k. k * 65536 ^ length y + number_behind 0 y) zeros ∙ sum
 
 -- ---- the address
@@ -98,52 +105,77 @@ pub whole_is : (text : List ℕ) → cut_at_zeros text ≡ None → address6_of 
 unfolding address6_of
 whole_is text cut = rw (cut, address6_of) refl
 
-pub whole_none : (text : List ℕ) → cut_at_zeros text ≡ None → side_with no_groups (side_of true text) ≡ None → address6_of text ≡ None
-whole_none text cut none = whole_is text cut ∙ bind_none (side_of true text) uncompressed_of (λ gs is. eight_not gs (λ e. let n = too_many (side_of true text) gs none is in omega (arith, n, e)))
+pub whole_none : (text : List ℕ) → cut_at_zeros text ≡ None → side_with no_groups (side_of true text) ≡ None
+    → address6_of text ≡ None
+whole_none text cut none = whole_is text cut
+    ∙ bind_none (side_of true text) uncompressed_of
+    (λ gs is. eight_not gs (λ e. let n = too_many (side_of true text) gs none is in omega (arith, n, e)))
 
-pub whole_other : (text : List ℕ) (s : Side) → cut_at_zeros text ≡ None → side_with no_groups (side_of true text) ≡ Some s → s.count ≢ 8 → address6_of text ≡ None
+pub whole_other : (text : List ℕ) (s : Side) → cut_at_zeros text ≡ None → side_with no_groups (side_of true text)
+    ≡ Some s → s.count ≢ 8 → address6_of text ≡ None
 whole_other text s cut is ne =
     let c = counted (side_of true text) s is in
-    whole_is text cut ∙ ap (λ (o : Option (List ℕ)). o >>= uncompressed_of) c.are ∙ eight_not c.groups (λ e. ne (c.count ∙ e))
+    whole_is text cut ∙ ap (λ (o : Option (List ℕ)). o >>= uncompressed_of) c.are
+    ∙ eight_not c.groups (λ e. ne (c.count ∙ e))
 
-pub whole_some : (text : List ℕ) (s : Side) → cut_at_zeros text ≡ None → side_with no_groups (side_of true text) ≡ Some s → s.count ≡ 8 → address6_of text ≡ Some s.value
+pub whole_some : (text : List ℕ) (s : Side) → cut_at_zeros text ≡ None → side_with no_groups (side_of true text)
+    ≡ Some s → s.count ≡ 8 → address6_of text ≡ Some s.value
 whole_some text s cut is all =
     let c = counted (side_of true text) s is in
-    whole_is text cut ∙ ap (λ (o : Option (List ℕ)). o >>= uncompressed_of) c.are ∙ eight_is c.groups (sym c.count ∙ all) ∙ ap (λ (v : ℕ). Some v) (sym c.value)
+    whole_is text cut ∙ ap (λ (o : Option (List ℕ)). o >>= uncompressed_of) c.are
+    ∙ eight_is c.groups (sym c.count ∙ all) ∙ ap (λ (v : ℕ). Some v) (sym c.value)
 
 -- with `::`
 round_not : (x y : List ℕ) → 7 < length x + length y → compressed_of x y ≡ None
 unfolding compressed_of
 round_not x y lt = rw (lt-leb (length x + length y) 7 lt) refl
 
-pub round_eight : (x y : List ℕ) → length x + length y ≤ 7 → compressed_of x y ≡ Some (number_behind 0 (x ++ (replicate (8 - (length x + length y)) 0 ++ y)))
+pub round_eight : (x y : List ℕ) → length x + length y ≤ 7 → compressed_of x y
+    ≡ Some (number_behind 0 (x ++ (replicate (8 - (length x + length y)) 0 ++ y)))
 unfolding compressed_of
 round_eight x y le =
-    let all : length (x ++ (replicate (8 - (length x + length y)) 0 ++ y)) ≡ 8 = omega (arith, length-append x (replicate (8 - (length x + length y)) 0 ++ y), length-append (replicate (8 - (length x + length y)) 0) y, length-replicate {A = ℕ} (8 - (length x + length y)) 0) in
+    let all : length (x ++ (replicate (8 - (length x + length y)) 0 ++ y)) ≡ 8 =
+    omega (
+      arith,
+      length-append x (replicate (8 - (length x + length y)) 0 ++ y),
+      length-append
+          (replicate (8 - (length x + length y)) 0) y,
+      length-replicate {A = ℕ} (8 - (length x + length y)) 0,
+    ) in
     rw (le-leb (length x + length y) 7 le) (eight_is (x ++ (replicate (8 - (length x + length y)) 0 ++ y)) all)
 
-round_is : (x y : List ℕ) → length x + length y ≤ 7 → compressed_of x y ≡ Some (number_behind 0 x * 65536 * 65536 ^ (7 - length x) + number_behind 0 y)
+round_is : (x y : List ℕ) → length x + length y ≤ 7 → compressed_of x y
+    ≡ Some (number_behind 0 x * 65536 * 65536 ^ (7 - length x) + number_behind 0 y)
 round_is x y le = round_eight x y le ∙ ap (λ (v : ℕ). Some v) (number_round x y le)
 
-pub parted_is : (text : List ℕ) (p : List ℕ × List ℕ) → cut_at_zeros text ≡ Some p → address6_of text ≡ (side_of false p.0 >>= λ x. side_of true p.1 >>= λ y. compressed_of x y)
+pub parted_is : (text : List ℕ) (p : List ℕ × List ℕ) → cut_at_zeros text ≡ Some p → address6_of text
+    ≡ (side_of false p.0 >>= λ x. side_of true p.1 >>= λ y. compressed_of x y)
 unfolding address6_of
 parted_is text p cut = rw (cut, address6_of) refl
 
-parted_none : (text : List ℕ) (p : List ℕ × List ℕ) → cut_at_zeros text ≡ Some p → ((x y : List ℕ) → side_of false p.0 ≡ Some x → side_of true p.1 ≡ Some y → 7 < length x + length y) → address6_of text ≡ None
+parted_none : (text : List ℕ) (p : List ℕ × List ℕ) → cut_at_zeros text ≡ Some p
+    → ((x y : List ℕ) → side_of false p.0 ≡ Some x → side_of true p.1 ≡ Some y → 7 < length x + length y)
+    → address6_of text ≡ None
 parted_none text p cut many =
-    parted_is text p cut ∙ bind_none (side_of false p.0) _ (λ x hx. bind_none (side_of true p.1) _ (λ y hy. round_not x y (many x y hx hy)))
+    parted_is text p cut ∙ bind_none (side_of false p.0) _
+    (λ x hx. bind_none (side_of true p.1) _ (λ y hy. round_not x y (many x y hx hy)))
 
-pub before_none : (text : List ℕ) (p : List ℕ × List ℕ) → cut_at_zeros text ≡ Some p → side_with no_groups (side_of false p.0) ≡ None → address6_of text ≡ None
-before_none text p cut none = parted_none text p cut (λ x y hx hy. let n = too_many (side_of false p.0) x none hx in omega (arith, n))
+pub before_none : (text : List ℕ) (p : List ℕ × List ℕ) → cut_at_zeros text ≡ Some p
+    → side_with no_groups (side_of false p.0) ≡ None → address6_of text ≡ None
+before_none text p cut none = parted_none text p cut
+    (λ x y hx hy. let n = too_many (side_of false p.0) x none hx in omega (arith, n))
 
-pub after_none : (text : List ℕ) (p : List ℕ × List ℕ) → cut_at_zeros text ≡ Some p → side_with no_groups (side_of true p.1) ≡ None → address6_of text ≡ None
-after_none text p cut none = parted_none text p cut (λ x y hx hy. let n = too_many (side_of true p.1) y none hy in omega (arith, n))
+pub after_none : (text : List ℕ) (p : List ℕ × List ℕ) → cut_at_zeros text ≡ Some p
+    → side_with no_groups (side_of true p.1) ≡ None → address6_of text ≡ None
+after_none text p cut none = parted_none text p cut
+    (λ x y hx hy. let n = too_many (side_of true p.1) y none hy in omega (arith, n))
 
 same_sum : {a b c x y n : ℕ} → a ≡ x → b ≡ y → c ≡ n → x * 65536 * 65536 ^ (7 - n) + y ≡ a * 65536 * 65536 ^ (7 - c) + b
 same_sum p q r = rw (p, q, r) refl
 
 -- both sides are counted
-module _ (text : List ℕ) (p : List ℕ × List ℕ) (s t : Side) (cut : cut_at_zeros text ≡ Some p) (hs : side_with no_groups (side_of false p.0) ≡ Some s) (ht : side_with no_groups (side_of true p.1) ≡ Some t) where
+module _ (text : List ℕ) (p : List ℕ × List ℕ) (s t : Side) (cut : cut_at_zeros text ≡ Some p)
+    (hs : side_with no_groups (side_of false p.0) ≡ Some s) (ht : side_with no_groups (side_of true p.1) ≡ Some t) where
   before : Counted (side_of false p.0) s
   before = counted (side_of false p.0) s hs
 
@@ -151,7 +183,8 @@ module _ (text : List ℕ) (p : List ℕ × List ℕ) (s t : Side) (cut : cut_at
   after = counted (side_of true p.1) t ht
 
   both_are : address6_of text ≡ compressed_of before.groups after.groups
-  both_are = parted_is text p cut ∙ ap (λ (o : Option (List ℕ)). o >>= λ x. side_of true p.1 >>= λ y. compressed_of x y) before.are ∙ ap (λ (o : Option (List ℕ)). o >>= λ y. compressed_of before.groups y) after.are
+  both_are = parted_is text p cut ∙ ap (λ (o : Option (List ℕ)). o >>= λ x. side_of true p.1 >>= λ y. compressed_of x y)
+      before.are ∙ ap (λ (o : Option (List ℕ)). o >>= λ y. compressed_of before.groups y) after.are
 
   pub both_few : (s.count ≤ 8) × (t.count ≤ 8)
   both_few = (omega (arith, before.count, before.few), omega (arith, after.count, after.few))
@@ -160,7 +193,8 @@ module _ (text : List ℕ) (p : List ℕ × List ℕ) (s t : Side) (cut : cut_at
   round_none many = both_are ∙ round_not before.groups after.groups (omega (arith, before.count, after.count, many))
 
   pub round_some : s.count + t.count ≤ 7 → address6_of text ≡ Some (s.value * 65536 * 65536 ^ (7 - s.count) + t.value)
-  round_some few = both_are ∙ round_is before.groups after.groups (omega (arith, before.count, after.count, few)) ∙ ap (λ (v : ℕ). Some v) (same_sum before.value after.value before.count)
+  round_some few = both_are ∙ round_is before.groups after.groups (omega (arith, before.count, after.count, few))
+      ∙ ap (λ (v : ℕ). Some v) (same_sum before.value after.value before.count)
 
 -- ---- an address has 128 bits
 
@@ -177,7 +211,8 @@ eight_fits gs v all e = elim (chosen (eqb (length gs) 8) _ None (Some v) e) [
 round_fits : (x y : List ℕ) (v : ℕ) → AreGroups x → AreGroups y → compressed_of x y ≡ Some v → v < 2 ^ 128
 unfolding compressed_of
 round_fits x y v hx hy e = elim (chosen (nat_le (length x + length y) 7) _ None (Some v) e) [
-  | inl h ↦ eight_fits _ v (all_both x _ hx (all_both (replicate (8 - (length x + length y)) 0) y (all_zeros (8 - (length x + length y))) hy)) h.1
+  | inl h ↦ eight_fits _ v (all_both x _ hx
+      (all_both (replicate (8 - (length x + length y)) 0) y (all_zeros (8 - (length x + length y))) hy)) h.1
   | inr h ↦ absurd cc
 ]
 
@@ -193,7 +228,8 @@ address6_fits text v e = by_cut (cut_at_zeros text) refl where
       round_fits x y v (side_fits false p.0 x hx) (side_fits true p.1 y hy) ey))
 
 -- and no number on the way to it has more
-pub sums_fit : (v c w : ℕ) → v * 65536 * 65536 ^ (7 - c) + w < 2 ^ 128 → (v * 65536 < 2 ^ 128) × (65536 ^ (7 - c) < 2 ^ 128)
+pub sums_fit : (v c w : ℕ) → v * 65536 * 65536 ^ (7 - c) + w < 2 ^ 128 → (v * 65536 < 2 ^ 128)
+    × (65536 ^ (7 - c) < 2 ^ 128)
 sums_fit v c w fits =
     let q : ℕ = 65536 ^ (7 - c) in
     let some : 1 ≤ q = one-le-pow (7 - c) 65536 (omega arith) in

@@ -58,7 +58,8 @@ unfolding pieces
 begins [] back h e = absurd (omega (arith, h.0))
 begins (b ∷ bs) back h e = let no = rw (eq-eqb b 58 e) at h in absurd (omega (arith, no.0))
 
-none_at : (b : ℕ) (bs back : List ℕ) → BehindNoneEmpty (pieces (b ∷ bs)) → (eqb b 58 && eqb (get_or (bs ++ back) 0 0) 58) ≡ false
+none_at : (b : ℕ) (bs back : List ℕ) → BehindNoneEmpty (pieces (b ∷ bs))
+    → (eqb b 58 && eqb (get_or (bs ++ back) 0 0) 58) ≡ false
 unfolding pieces
 none_at b bs back h = by_colon (eqb b 58) refl where
   by_colon : (t : Bool) → eqb b 58 ≡ t → (eqb b 58 && eqb (get_or (bs ++ back) 0 0) 58) ≡ false
@@ -92,19 +93,24 @@ side_behind ends [] gs e = tt
 side_behind ends (b ∷ bs) gs e = behind_of (pieces (b ∷ bs)) (some_in ends (pieces (b ∷ bs)) gs e)
 
 eight_read : (text gs : List ℕ) → side_of true text ≡ Some gs → address6_of text ≡ uncompressed_of gs
-eight_read text gs e = whole_is text (no_zeros text (side_behind true text gs e)) ∙ ap (λ (o : Option (List ℕ)). o >>= uncompressed_of) e
+eight_read text gs e = whole_is text (no_zeros text (side_behind true text gs e))
+    ∙ ap (λ (o : Option (List ℕ)). o >>= uncompressed_of) e
 
-round_read : (a b x y : List ℕ) → side_of false a ≡ Some x → side_of true b ≡ Some y → address6_of (a ++ 58 ∷ (58 ∷ b)) ≡ compressed_of x y
-round_read a b x y ex ey = parted_is (a ++ 58 ∷ (58 ∷ b)) (a, b) (zeros_behind a b (side_behind false a x ex)) ∙ rw (ex, ey) refl
+round_read : (a b x y : List ℕ) → side_of false a ≡ Some x → side_of true b ≡ Some y → address6_of (a ++ 58 ∷ (58 ∷ b))
+    ≡ compressed_of x y
+round_read a b x y ex ey = parted_is (a ++ 58 ∷ (58 ∷ b)) (a, b) (zeros_behind a b (side_behind false a x ex))
+    ∙ rw (ex, ey) refl
 
 pub whole_read : (text : List ℕ) (v : ℕ) → IsUncompressed text v → address6_of text ≡ Some v
 whole_read text v h = eight_read text h.0 h.1 ∙ eight_is h.0 h.2 ∙ ap just (sym h.3)
 
 pub parted_read : (text : List ℕ) (v : ℕ) → IsCompressed text v → address6_of text ≡ Some v
 parted_read text v h =
-    let front : List ℕ = h.0 in let back : List ℕ = h.1 in let x : List ℕ = h.2 in let y : List ℕ = h.3 in let n : ℕ = h.4 in
+    let front : List ℕ = h.0 in let back : List ℕ = h.1 in let x : List ℕ = h.2 in let y : List ℕ = h.3 in
+    let n : ℕ = h.4 in
     let same : 8 - (length x + length y) ≡ n = omega (arith, h.9) in
-    ap address6_of h.5 ∙ round_read front back x y h.6 h.7 ∙ round_eight x y (omega (arith, h.8, h.9)) ∙ ap (λ (k : ℕ). just (number_behind 0 (x ++ (replicate k 0 ++ y)))) same ∙ ap just (sym h.10)
+    ap address6_of h.5 ∙ round_read front back x y h.6 h.7 ∙ round_eight x y (omega (arith, h.8, h.9))
+    ∙ ap (λ (k : ℕ). just (number_behind 0 (x ++ (replicate k 0 ++ y)))) same ∙ ap just (sym h.10)
 
 eight_found : (gs : List ℕ) (v : ℕ) → uncompressed_of gs ≡ Some v → (length gs ≡ 8) × (v ≡ number_behind 0 gs)
 unfolding uncompressed_of
@@ -113,7 +119,8 @@ eight_found gs v e = elim (chosen (eqb (length gs) 8) _ None (Some v) e) [
   | inr h ↦ absurd cc
 ]
 
-round_found : (x y : List ℕ) (v : ℕ) → compressed_of x y ≡ Some v → (length x + length y ≤ 7) × (v ≡ number_behind 0 (x ++ (replicate (8 - (length x + length y)) 0 ++ y)))
+round_found : (x y : List ℕ) (v : ℕ) → compressed_of x y ≡ Some v → (length x + length y ≤ 7)
+    × (v ≡ number_behind 0 (x ++ (replicate (8 - (length x + length y)) 0 ++ y)))
 unfolding compressed_of
 round_found x y v e = elim (chosen (nat_le (length x + length y) 7) _ None (Some v) e) [
   | inl h ↦ (leb-true _ _ h.0, (eight_found _ v h.1).1)
@@ -130,7 +137,19 @@ spelled text v e = by_cut (cut_at_zeros text) refl where
       by_some (side_of false p.0) _ v (sym (parted_is text p h) ∙ e) (λ x hx ex.
       by_some (side_of true p.1) _ v ex (λ y hy ey.
       let f = round_found x y v ey in
-      inr (p.0, p.1, x, y, 8 - (length x + length y), zeros_parts text p h, hx, hy, omega (arith, f.0), omega (arith, f.0), f.1)))
+      inr (
+        p.0,
+        p.1,
+        x,
+        y,
+        8 - (length x + length y),
+        zeros_parts text p h,
+        hx,
+        hy,
+        omega (arith, f.0),
+        omega (arith, f.0),
+        f.1,
+      )))
 
 -- ---- the written form
 
@@ -138,9 +157,11 @@ spelled text v e = by_cut (cut_at_zeros text) refl where
 lower : (b d : ℕ) → hex_of b ≡ Some d → (nat_le 65 b && nat_le b 70) ≡ false
 unfolding hex_of
 lower b d e = elim (chosen (nat_le 48 b && nat_le b 57) _ _ (Some d) e) [
-  | inl h ↦ let high : b ≤ 57 = leb-true _ _ (both (nat_le 48 b) (nat_le b 57) h.0).1 in rw (lt-leb 65 b (omega (arith, high))) refl
+  | inl h ↦ let high : b ≤ 57 = leb-true _ _ (both (nat_le 48 b) (nat_le b 57) h.0).1 in
+      rw (lt-leb 65 b (omega (arith, high))) refl
   | inr h ↦ elim (chosen (nat_le 97 b && nat_le b 102) _ _ (Some d) h.1) [
-    | inl i ↦ let low : 97 ≤ b = leb-true _ _ (both (nat_le 97 b) (nat_le b 102) i.0).0 in rw (le-leb 65 b (omega (arith, low)), lt-leb b 70 (omega (arith, low))) refl
+    | inl i ↦ let low : 97 ≤ b = leb-true _ _ (both (nat_le 97 b) (nat_le b 102) i.0).0 in
+        rw (le-leb 65 b (omega (arith, low)), lt-leb b 70 (omega (arith, low))) refl
     | inr i ↦ absurd cc
   ]
 ]
@@ -189,12 +210,15 @@ group_whole text g e =
     let f = group_found g text e in
     pieces_whole text (cut_nowhere_in 58 text (rw f.0 (group_avoids 58 g (inr refl) f.1)))
 
-side_pieces : (ends : Bool) (text p q : List ℕ) (ps : List (List ℕ)) → pieces text ≡ p ∷ q ∷ ps → side_of ends text ≡ groups_in ends (pieces text)
+side_pieces : (ends : Bool) (text p q : List ℕ) (ps : List (List ℕ)) → pieces text ≡ p ∷ q ∷ ps → side_of ends text
+    ≡ groups_in ends (pieces text)
 unfolding side_of pieces
 side_pieces ends [] p q ps e = absurd cc
 side_pieces ends (b ∷ bs) p q ps e = refl
 
-eight_groups : (a b c d e f g h : List ℕ) (s t u v w x y z : ℕ) → any_group_of a ≡ Some s → any_group_of b ≡ Some t → any_group_of c ≡ Some u → any_group_of d ≡ Some v → any_group_of e ≡ Some w → any_group_of f ≡ Some x → any_group_of g ≡ Some y → any_group_of h ≡ Some z
+eight_groups : (a b c d e f g h : List ℕ) (s t u v w x y z : ℕ) → any_group_of a ≡ Some s → any_group_of b ≡ Some t
+    → any_group_of c ≡ Some u → any_group_of d ≡ Some v → any_group_of e ≡ Some w → any_group_of f ≡ Some x
+    → any_group_of g ≡ Some y → any_group_of h ≡ Some z
     → groups_in true (a ∷ b ∷ c ∷ d ∷ e ∷ f ∷ g ∷ h ∷ []) ≡ Some (s ∷ t ∷ u ∷ v ∷ w ∷ x ∷ y ∷ z ∷ [])
 unfolding groups_in last_of
 eight_groups a b c d e f g h s t u v w x y z ha hb hc hd he hf hg hh = rw (ha, hb, hc, hd, he, hf, hg, hh) refl
@@ -218,11 +242,24 @@ written_read text n is =
     by_some (group_of g.0) _ n ex (λ y py ey.
     by_some (group_of g.1) _ n ey (λ z pz ez.
     let cut : pieces text ≡ a.0 ∷ b.0 ∷ c.0 ∷ d.0 ∷ e.0 ∷ f.0 ∷ g.0 ∷ g.1 ∷ [] =
-    rw (pieces_cut text a pa, pieces_cut a.1 b pb, pieces_cut b.1 c pc, pieces_cut c.1 d pd, pieces_cut d.1 e pe, pieces_cut e.1 f pf, pieces_cut f.1 g pg, group_whole g.1 z pz) refl in
+    rw (
+      pieces_cut text a pa,
+      pieces_cut a.1 b pb,
+      pieces_cut b.1 c pc,
+      pieces_cut c.1 d pd,
+      pieces_cut d.1 e pe,
+      pieces_cut e.1 f pf,
+      pieces_cut f.1 g pg,
+      group_whole g.1 z pz,
+    ) refl in
     let read : groups_in true (pieces text) ≡ Some (s ∷ t ∷ u ∷ v ∷ w ∷ x ∷ y ∷ z ∷ []) =
-    ap (groups_in true) cut ∙ eight_groups a.0 b.0 c.0 d.0 e.0 f.0 g.0 g.1 s t u v w x y z (any_group a.0 s ps) (any_group b.0 t pt) (any_group c.0 u pu) (any_group d.0 v pv) (any_group e.0 w pw) (any_group f.0 x px) (any_group g.0 y py) (any_group g.1 z pz) in
-    let number : ((((((((0 * 65536 + s) * 65536 + t) * 65536 + u) * 65536 + v) * 65536 + w) * 65536 + x) * 65536 + y) * 65536 + z) ≡ n = omega (arith, some_is ez) in
-    eight_read text (s ∷ t ∷ u ∷ v ∷ w ∷ x ∷ y ∷ z ∷ []) (side_pieces true text a.0 b.0 _ cut ∙ read) ∙ eight_is (s ∷ t ∷ u ∷ v ∷ w ∷ x ∷ y ∷ z ∷ []) refl ∙ ap just number)))))))))))))))
+    ap (groups_in true) cut ∙ eight_groups a.0 b.0 c.0 d.0 e.0 f.0 g.0 g.1 s t u v w x y z (any_group a.0 s ps)
+    (any_group b.0 t pt) (any_group c.0 u pu) (any_group d.0 v pv) (any_group e.0 w pw) (any_group f.0 x px)
+    (any_group g.0 y py) (any_group g.1 z pz) in
+    let number : ((((((((0 * 65536 + s) * 65536 + t) * 65536 + u) * 65536 + v) * 65536 + w) * 65536 + x) * 65536 + y) *
+    65536 + z) ≡ n = omega (arith, some_is ez) in
+    eight_read text (s ∷ t ∷ u ∷ v ∷ w ∷ x ∷ y ∷ z ∷ []) (side_pieces true text a.0 b.0 _ cut ∙ read)
+    ∙ eight_is (s ∷ t ∷ u ∷ v ∷ w ∷ x ∷ y ∷ z ∷ []) refl ∙ ap just number)))))))))))))))
 
 pub groups_read : (v : ℕ) → v < 2 ^ 128 → address6_of (groups v) ≡ Some v
 groups_read v small = written_read (groups v) v (groups_text v small)

@@ -28,7 +28,8 @@ written_text Version v le = number_text 255 v (omega arith) le
 written_text Source6 v le = groups_text v (omega (arith, le))
 written_text Destination6 v le = groups_text v (omega (arith, le))
 
-pub written_found : (axis : Axis) (text : List ℕ) (v : ℕ) → written_on axis text ≡ Some v → (text ≡ value_text axis v) × Within axis v
+pub written_found : (axis : Axis) (text : List ℕ) (v : ℕ) → written_on axis text ≡ Some v → (text ≡ value_text axis v)
+    × Within axis v
 written_found Source text v e = let f = quad_found v text e in (f.0, omega (arith, f.1))
 written_found Destination text v e = let f = quad_found v text e in (f.0, omega (arith, f.1))
 written_found Protocol text v e = number_found 255 v text (omega arith) e
@@ -67,7 +68,8 @@ prefix6_fits text p e =
     let small = address6_fits a.0 v pv in
     subst (λ (q : ℕ × ℕ). (q.0 < 2 ^ 128) × (0 < q.1) × (q.1 ≤ 128)) s.1 (small, s.0, most))))
 
-pub prefix_fits : (axis : Axis) (text : List ℕ) (p : ℕ × ℕ) → prefix_on axis text ≡ Some p → (p.0 < 2 ^ axis_width axis) × (0 < p.1) × (p.1 ≤ axis_width axis)
+pub prefix_fits : (axis : Axis) (text : List ℕ) (p : ℕ × ℕ) → prefix_on axis text ≡ Some p → (p.0 < 2 ^ axis_width axis)
+    × (0 < p.1) × (p.1 ≤ axis_width axis)
 prefix_fits Source text p e = let f = prefix_found p text e in (f.1, f.2, f.3)
 prefix_fits Destination text p e = let f = prefix_found p text e in (f.1, f.2, f.3)
 prefix_fits Protocol text p e = absurd cc

@@ -101,7 +101,8 @@ abbrev axis_from : ℕ → Axis
 axis_from k = get_or axes k Source
 
 pub index_at : (k : ℕ) → k < axis_count → axis_index (get_or axes k Source) ≡ k
-index_at k lt = let at = placed k lt in ap (λ n. axis_index (get_or axes n Source)) (sym at.1) ∙ ap axis_index (axis_at at.0) ∙ at.1
+index_at k lt = let at = placed k lt in
+    ap (λ n. axis_index (get_or axes n Source)) (sym at.1) ∙ ap axis_index (axis_at at.0) ∙ at.1
 
 pub axis_is : (a b : Axis) → same_axis a b ≡ true → a ≡ b
 axis_is a b h = sym (axis_at a) ∙ ap axis_from (eqb-true (axis_index a) (axis_index b) h) ∙ axis_at b
@@ -126,7 +127,8 @@ top_small axis =
 
 -- ---- tests along the axes
 
-all_at : {A : Type 0} (p : A → Bool) (xs : List A) (k : ℕ) (d : A) → list_all p xs ≡ true → k < length xs → p (get_or xs k d) ≡ true
+all_at : {A : Type 0} (p : A → Bool) (xs : List A) (k : ℕ) (d : A) → list_all p xs ≡ true → k < length xs
+    → p (get_or xs k d) ≡ true
 all_at p [] k d h lt = absurd (omega arith)
 all_at p (x ∷ xs) zero d h lt = (and_parts (p x) (list_all p xs) h).0
 all_at p (x ∷ xs) (suc k) d h lt = all_at p xs k d (and_parts (p x) (list_all p xs) h).1 (omega arith)
@@ -135,7 +137,8 @@ all_if : {A : Type 0} (p : A → Bool) (xs : List A) → ((x : A) → p x ≡ tr
 all_if p [] h = refl
 all_if p (x ∷ xs) h = and_from _ _ (h x) (all_if p xs h)
 
-none_at : {A : Type 0} (p : A → Bool) (xs : List A) (k : ℕ) (d : A) → list_any p xs ≡ false → k < length xs → p (get_or xs k d) ≡ false
+none_at : {A : Type 0} (p : A → Bool) (xs : List A) (k : ℕ) (d : A) → list_any p xs ≡ false → k < length xs
+    → p (get_or xs k d) ≡ false
 none_at p [] k d h lt = absurd (omega arith)
 none_at p (x ∷ xs) zero d h lt = (or_parts (p x) (list_any p xs) h).0
 none_at p (x ∷ xs) (suc k) d h lt = none_at p xs k d (or_parts (p x) (list_any p xs) h).1 (omega arith)
@@ -161,18 +164,22 @@ on_no_axis p h = none axes where
 -- ---- values made one axis after another
 
 -- what holds of the items so far, and of a new one at the next place
-pub set_more : {A : Type 0} (P : ℕ → A → Type 0) (xs : List A) (i place : ℕ) (x d : A) → i < length xs → place ≡ i → P i x → ((k : ℕ) → k < i → P k (get_or xs k d)) → (k : ℕ) → k < i + 1 → P k (get_or (set xs place x) k d)
+pub set_more : {A : Type 0} (P : ℕ → A → Type 0) (xs : List A) (i place : ℕ) (x d : A) → i < length xs → place ≡ i
+    → P i x → ((k : ℕ) → k < i → P k (get_or xs k d)) → (k : ℕ) → k < i + 1 → P k (get_or (set xs place x) k d)
 set_more P xs i place x d len is here before k lt = elim (cases_lt k i) [
   | inl less ↦ subst (P k) (sym (get_or-set_other xs place k x d (λ e. omega (arith, less, is, e)))) (before k less)
   | inr more ↦
       let same : k ≡ i = omega (arith, lt, more) in
-      subst (λ n. P n (get_or (set xs place x) n d)) (sym same) (subst (P i) (sym (get_or-set_at xs place i x d (sym is) (omega (arith, len, is)))) here)
+      subst (λ n. P n (get_or (set xs place x) n d)) (sym same)
+      (subst (P i) (sym (get_or-set_at xs place i x d (sym is) (omega (arith, len, is)))) here)
 ]
 
 -- values at all places are those along the axes
-pub along : (g : Axis → ℕ) (xs : List ℕ) → length xs ≡ axis_count → ((k : ℕ) → k < axis_count → get_or xs k 0 ≡ g (get_or axes k Source)) → xs ≡ map g axes
+pub along : (g : Axis → ℕ) (xs : List ℕ) → length xs ≡ axis_count
+    → ((k : ℕ) → k < axis_count → get_or xs k 0 ≡ g (get_or axes k Source)) → xs ≡ map g axes
 along g xs len h =
-    ext_get_or 0 xs (map g axes) len (λ k. λ lt. let below : k < axis_count = omega (arith, len, lt) in h k below ∙ sym (get_or-map g axes k Source 0 below))
+    ext_get_or 0 xs (map g axes) len (λ k. λ lt. let below : k < axis_count = omega (arith, len, lt) in
+    h k below ∙ sym (get_or-map g axes k Source 0 below))
 
 -- a list of as many values as axes is made of its values on the axes
 pub fields_are : (fields : List ℕ) → length fields ≡ axis_count → map (λ axis. field fields axis) axes ≡ fields
@@ -180,8 +187,10 @@ fields_are fields len =
     sym (along (λ axis. field fields axis) fields len (λ k lt. ap (λ n. get_or fields n 0) (sym (index_at k lt))))
 
 -- values made along the axes, each on its axis
-pub each_on : (g : Axis → ℕ) → ((axis : Axis) → g axis ≤ get_or tops (axis_index axis) 0) → (k : ℕ) → k < axis_count → get_or (map g axes) k 0 ≤ get_or tops k 0
+pub each_on : (g : Axis → ℕ) → ((axis : Axis) → g axis ≤ get_or tops (axis_index axis) 0) → (k : ℕ) → k < axis_count
+    → get_or (map g axes) k 0 ≤ get_or tops k 0
 each_on g h k lt =
     let at = placed k lt in
-    let here : get_or (map g axes) (axis_index at.0) 0 ≤ get_or tops (axis_index at.0) 0 = omega (arith, value_at g at.0, h at.0) in
+    let here : get_or (map g axes) (axis_index at.0) 0 ≤ get_or tops (axis_index at.0) 0 =
+    omega (arith, value_at g at.0, h at.0) in
     subst (λ (n : ℕ). get_or (map g axes) n 0 ≤ get_or tops n 0) at.1 here

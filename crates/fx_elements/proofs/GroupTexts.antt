@@ -9,7 +9,8 @@ use Rattle.fx_elements.proofs.Addresses.{Avoids, by_some, just, some_is}
 
 -- ---- digits
 
-hex_range : (d : ℕ) → d < 16 → ((48 ≤ hex_digit d) × (hex_digit d ≤ 57) × (hex_digit d ≡ 48 + d)) ⊎ ((97 ≤ hex_digit d) × (hex_digit d ≤ 102) × (hex_digit d ≡ 87 + d))
+hex_range : (d : ℕ) → d < 16 → ((48 ≤ hex_digit d) × (hex_digit d ≤ 57) × (hex_digit d ≡ 48 + d))
+    ⊎ ((97 ≤ hex_digit d) × (hex_digit d ≤ 102) × (hex_digit d ≡ 87 + d))
 hex_range d lt = elim (cases_lt d 10) [
   | inl h ↦ rw (lt-ltb d 10 h) (inl (omega arith, omega arith, refl))
   | inr h ↦ rw (le-ltb d 10 h) (inr (omega arith, omega arith, refl))
@@ -18,8 +19,18 @@ hex_range d lt = elim (cases_lt d 10) [
 hex_text : (d : ℕ) → d < 16 → hex_of (hex_digit d) ≡ Some d
 unfolding hex_of
 hex_text d lt = elim (cases_lt d 10) [
-  | inl h ↦ let back : 48 + d - 48 ≡ d = omega arith in rw (lt-ltb d 10 h, le-leb 48 (48 + d) (omega arith), le-leb (48 + d) 57 (omega arith), back) refl
-  | inr h ↦ let back : 87 + d - 87 ≡ d = omega arith in rw (le-ltb d 10 h, le-leb 48 (87 + d) (omega arith), lt-leb (87 + d) 57 (omega arith), le-leb 97 (87 + d) (omega arith), le-leb (87 + d) 102 (omega arith), back) refl
+  | inl h ↦ let back : 48 + d - 48 ≡ d = omega arith in
+      rw (lt-ltb d 10 h, le-leb 48 (48 + d) (omega arith), le-leb (48 + d) 57 (omega arith), back) refl
+  | inr h ↦ let back : 87 + d - 87 ≡ d = omega arith in
+      rw (
+        le-ltb d 10 h,
+        le-leb 48 (87 + d) (omega arith),
+        lt-leb (87 + d) 57 (omega arith),
+        le-leb 97 (87 + d)
+            (omega arith),
+        le-leb (87 + d) 102 (omega arith),
+        back,
+      ) refl
 ]
 
 pub hex_found : (d b : ℕ) → hex_of b ≡ Some d → (b ≡ hex_digit d) × (d < 16)
@@ -48,7 +59,8 @@ hex_found d b e = elim (chosen (nat_le 48 b && nat_le b 57) _ _ (Some d) e) [
 
 -- a digit other than 0 isn't the byte of 0
 leads : (d : ℕ) → 0 < d → d < 16 → eqb (hex_digit d) 48 ≡ false
-leads d some lt = ne_eqb (hex_digit d) 48 (λ e. elim (hex_range d lt) [ inl h ↦ omega (arith, h.2, e) | inr h ↦ omega (arith, h.0, e) ])
+leads d some lt = ne_eqb (hex_digit d) 48
+    (λ e. elim (hex_range d lt) [ inl h ↦ omega (arith, h.2, e) | inr h ↦ omega (arith, h.0, e) ])
 
 -- ---- groups
 
@@ -59,14 +71,42 @@ group_text g lt = elim (cases_lt g 16) [
   | inr h ↦ elim (cases_lt g 256) [
     | inl i ↦
         let back : g / 16 * 16 + g % 16 ≡ g = omega arith in
-        rw (le-ltb g 16 h, lt-ltb g 256 i, leads (g / 16) (omega arith) (omega arith), hex_text (g / 16) (omega arith), hex_text (g % 16) (omega arith), back) refl
+        rw (
+          le-ltb g 16 h,
+          lt-ltb g 256 i,
+          leads (g / 16) (omega arith) (omega arith),
+          hex_text (g / 16) (omega arith),
+          hex_text (g % 16) (omega arith),
+          back,
+        ) refl
     | inr i ↦ elim (cases_lt g 4096) [
       | inl j ↦
           let back : (g / 256 * 16 + g / 16 % 16) * 16 + g % 16 ≡ g = omega arith in
-          rw (le-ltb g 16 h, le-ltb g 256 i, lt-ltb g 4096 j, leads (g / 256) (omega arith) (omega arith), hex_text (g / 256) (omega arith), hex_text (g / 16 % 16) (omega arith), hex_text (g % 16) (omega arith), back) refl
+          rw (
+            le-ltb g 16 h,
+            le-ltb g 256 i,
+            lt-ltb g 4096 j,
+            leads (g / 256) (omega arith) (omega arith),
+            hex_text
+                (g / 256) (omega arith),
+            hex_text (g / 16 % 16) (omega arith),
+            hex_text (g % 16) (omega arith),
+            back,
+          ) refl
       | inr j ↦
           let back : ((g / 4096 * 16 + g / 256 % 16) * 16 + g / 16 % 16) * 16 + g % 16 ≡ g = omega arith in
-          rw (le-ltb g 16 h, le-ltb g 256 i, le-ltb g 4096 j, leads (g / 4096) (omega arith) (omega arith), hex_text (g / 4096) (omega arith), hex_text (g / 256 % 16) (omega arith), hex_text (g / 16 % 16) (omega arith), hex_text (g % 16) (omega arith), back) refl
+          rw (
+            le-ltb g 16 h,
+            le-ltb g 256 i,
+            le-ltb g 4096 j,
+            leads (g / 4096) (omega arith) (omega arith),
+            hex_text
+                (g / 4096) (omega arith),
+            hex_text (g / 256 % 16) (omega arith),
+            hex_text (g / 16 % 16) (omega arith),
+            hex_text (g % 16) (omega arith),
+            back,
+          ) refl
     ]
   ]
 ]
@@ -78,26 +118,61 @@ leading_digit w a e h = elim (hex_range w h.1) [
   | inr r ↦ let k : hex_digit w ≡ 87 + w = r.2 in omega (arith, k, r.0)
 ]
 
-two_parts : (g w x a b : ℕ) → 0 < w → (a ≡ hex_digit w) × (w < 16) → (b ≡ hex_digit x) × (x < 16) → w * 16 + x ≡ g → (a ∷ b ∷ [] ≡ group g) × (g < 65536)
+two_parts : (g w x a b : ℕ) → 0 < w → (a ≡ hex_digit w) × (w < 16) → (b ≡ hex_digit x) × (x < 16) → w * 16 + x ≡ g
+    → (a ∷ b ∷ [] ≡ group g) × (g < 65536)
 two_parts g w x a b some hw hx is =
     let p : g / 16 ≡ w = omega (arith, is, hx.1) in
-    let q : g % 16 ≡ x = omega (arith, is, hx.1) in
-    (rw (le-ltb g 16 (omega (arith, some, is)), lt-ltb g 256 (omega (arith, is, hw.1, hx.1)), p, q, ← hw.0, ← hx.0) refl, omega (arith, is, hw.1, hx.1))
+    let q : g % 16 ≡ x = omega (arith, is, hx.1) in (
+      rw (le-ltb g 16 (omega (arith, some, is)), lt-ltb g 256 (omega (arith, is, hw.1, hx.1)), p, q, ← hw.0, ← hx.0)
+          refl,
+      omega (arith, is, hw.1, hx.1),
+    )
 
-three_parts : (g w x y a b c : ℕ) → 0 < w → (a ≡ hex_digit w) × (w < 16) → (b ≡ hex_digit x) × (x < 16) → (c ≡ hex_digit y) × (y < 16) → (w * 16 + x) * 16 + y ≡ g → (a ∷ b ∷ c ∷ [] ≡ group g) × (g < 65536)
+three_parts : (g w x y a b c : ℕ) → 0 < w → (a ≡ hex_digit w) × (w < 16) → (b ≡ hex_digit x) × (x < 16)
+    → (c ≡ hex_digit y) × (y < 16) → (w * 16 + x) * 16 + y ≡ g → (a ∷ b ∷ c ∷ [] ≡ group g) × (g < 65536)
 three_parts g w x y a b c some hw hx hy is =
     let p : g / 256 ≡ w = omega (arith, is, hx.1, hy.1) in
     let q : g / 16 % 16 ≡ x = omega (arith, is, hx.1, hy.1) in
-    let r : g % 16 ≡ y = omega (arith, is, hy.1) in
-    (rw (le-ltb g 16 (omega (arith, some, is)), le-ltb g 256 (omega (arith, some, is)), lt-ltb g 4096 (omega (arith, is, hw.1, hx.1, hy.1)), p, q, r, ← hw.0, ← hx.0, ← hy.0) refl, omega (arith, is, hw.1, hx.1, hy.1))
+    let r : g % 16 ≡ y = omega (arith, is, hy.1) in (
+      rw (
+        le-ltb g 16 (omega (arith, some, is)),
+        le-ltb g 256 (omega (arith, some, is)),
+        lt-ltb g 4096
+            (omega (arith, is, hw.1, hx.1, hy.1)),
+        p,
+        q,
+        r,
+        ← hw.0,
+        ← hx.0,
+        ← hy.0,
+      ) refl,
+      omega (arith, is, hw.1, hx.1, hy.1),
+    )
 
-four_parts : (g w x y z a b c d : ℕ) → 0 < w → (a ≡ hex_digit w) × (w < 16) → (b ≡ hex_digit x) × (x < 16) → (c ≡ hex_digit y) × (y < 16) → (d ≡ hex_digit z) × (z < 16) → ((w * 16 + x) * 16 + y) * 16 + z ≡ g → (a ∷ b ∷ c ∷ d ∷ [] ≡ group g) × (g < 65536)
+four_parts : (g w x y z a b c d : ℕ) → 0 < w → (a ≡ hex_digit w) × (w < 16) → (b ≡ hex_digit x) × (x < 16)
+    → (c ≡ hex_digit y) × (y < 16) → (d ≡ hex_digit z) × (z < 16) → ((w * 16 + x) * 16 + y) * 16 + z ≡ g
+    → (a ∷ b ∷ c ∷ d ∷ [] ≡ group g) × (g < 65536)
 four_parts g w x y z a b c d some hw hx hy hz is =
     let p : g / 4096 ≡ w = omega (arith, is, hx.1, hy.1, hz.1) in
     let q : g / 256 % 16 ≡ x = omega (arith, is, hx.1, hy.1, hz.1) in
     let r : g / 16 % 16 ≡ y = omega (arith, is, hy.1, hz.1) in
-    let s : g % 16 ≡ z = omega (arith, is, hz.1) in
-    (rw (le-ltb g 16 (omega (arith, some, is)), le-ltb g 256 (omega (arith, some, is)), le-ltb g 4096 (omega (arith, some, is)), p, q, r, s, ← hw.0, ← hx.0, ← hy.0, ← hz.0) refl, omega (arith, is, hw.1, hx.1, hy.1, hz.1))
+    let s : g % 16 ≡ z = omega (arith, is, hz.1) in (
+      rw (
+        le-ltb g 16 (omega (arith, some, is)),
+        le-ltb g 256 (omega (arith, some, is)),
+        le-ltb g 4096
+            (omega (arith, some, is)),
+        p,
+        q,
+        r,
+        s,
+        ← hw.0,
+        ← hx.0,
+        ← hy.0,
+        ← hz.0,
+      ) refl,
+      omega (arith, is, hw.1, hx.1, hy.1, hz.1),
+    )
 
 pub group_found : (g : ℕ) (text : List ℕ) → group_of text ≡ Some g → (text ≡ group g) × (g < 65536)
 unfolding group_of
@@ -108,7 +183,8 @@ group_found g (a ∷ b ∷ []) e = elim (chosen (eqb a 48) None _ (Some g) e) [
   | inr h ↦
       by_some (hex_of a) _ g h.1 (λ w pw ew.
       by_some (hex_of b) _ g ew (λ x px ex.
-      two_parts g w x a b (leading_digit w a h.0 (hex_found w a pw)) (hex_found w a pw) (hex_found x b px) (some_is ex)))
+      two_parts g w x a b (leading_digit w a h.0 (hex_found w a pw)) (hex_found w a pw) (hex_found x b px)
+      (some_is ex)))
 ]
 group_found g (a ∷ b ∷ c ∷ []) e = elim (chosen (eqb a 48) None _ (Some g) e) [
   | inl h ↦ absurd cc
@@ -116,7 +192,8 @@ group_found g (a ∷ b ∷ c ∷ []) e = elim (chosen (eqb a 48) None _ (Some g)
       by_some (hex_of a) _ g h.1 (λ w pw ew.
       by_some (hex_of b) _ g ew (λ x px ex.
       by_some (hex_of c) _ g ex (λ y py ey.
-      three_parts g w x y a b c (leading_digit w a h.0 (hex_found w a pw)) (hex_found w a pw) (hex_found x b px) (hex_found y c py) (some_is ey))))
+      three_parts g w x y a b c (leading_digit w a h.0 (hex_found w a pw)) (hex_found w a pw) (hex_found x b px)
+      (hex_found y c py) (some_is ey))))
 ]
 group_found g (a ∷ b ∷ c ∷ d ∷ []) e = elim (chosen (eqb a 48) None _ (Some g) e) [
   | inl h ↦ absurd cc
@@ -125,7 +202,8 @@ group_found g (a ∷ b ∷ c ∷ d ∷ []) e = elim (chosen (eqb a 48) None _ (S
       by_some (hex_of b) _ g ew (λ x px ex.
       by_some (hex_of c) _ g ex (λ y py ey.
       by_some (hex_of d) _ g ey (λ z pz ez.
-      four_parts g w x y z a b c d (leading_digit w a h.0 (hex_found w a pw)) (hex_found w a pw) (hex_found x b px) (hex_found y c py) (hex_found z d pz) (some_is ez)))))
+      four_parts g w x y z a b c d (leading_digit w a h.0 (hex_found w a pw)) (hex_found w a pw) (hex_found x b px)
+      (hex_found y c py) (hex_found z d pz) (some_is ez)))))
 ]
 group_found g (a ∷ b ∷ c ∷ d ∷ f ∷ fs) e = absurd cc
 
@@ -144,21 +222,32 @@ group_avoids c g h lt =
       | inr a ↦ elim (cases_lt g 256) [
         | inl b ↦ rw (le-ltb g 16 a, lt-ltb g 256 b) (no (g / 16) (omega arith), (no (g % 16) (omega arith), tt))
         | inr b ↦ elim (cases_lt g 4096) [
-          | inl d ↦ rw (le-ltb g 16 a, le-ltb g 256 b, lt-ltb g 4096 d) (no (g / 256) (omega arith), (no (g / 16 % 16) (omega arith), (no (g % 16) (omega arith), tt)))
-          | inr d ↦ rw (le-ltb g 16 a, le-ltb g 256 b, le-ltb g 4096 d) (no (g / 4096) (omega arith), (no (g / 256 % 16) (omega arith), (no (g / 16 % 16) (omega arith), (no (g % 16) (omega arith), tt))))
+          | inl d ↦ rw (le-ltb g 16 a, le-ltb g 256 b, lt-ltb g 4096 d)
+              (no (g / 256) (omega arith), (no (g / 16 % 16) (omega arith), (no (g % 16) (omega arith), tt)))
+          | inr d ↦ rw (le-ltb g 16 a, le-ltb g 256 b, le-ltb g 4096 d) (
+            no (g / 4096) (omega arith),
+            (
+              no (g / 256 % 16) (omega arith),
+              (no (g / 16 % 16) (omega arith), (no (g % 16) (omega arith), tt)),
+            ),
+          )
         ]
       ]
     ]
 
 -- ---- addresses
 
-joined : (a b c d rest : List ℕ) → (a ++ 58 ∷ (b ++ 58 ∷ (c ++ 58 ∷ d))) ++ rest ≡ a ++ 58 ∷ (b ++ 58 ∷ (c ++ 58 ∷ (d ++ rest)))
+joined : (a b c d rest : List ℕ) → (a ++ 58 ∷ (b ++ 58 ∷ (c ++ 58 ∷ d))) ++ rest ≡ a ++ 58
+    ∷ (b ++ 58 ∷ (c ++ 58 ∷ (d ++ rest)))
 joined a b c d rest =
-    append_assoc a _ rest ∙ ap (λ (x : List ℕ). a ++ 58 ∷ x) (append_assoc b _ rest ∙ ap (λ (x : List ℕ). b ++ 58 ∷ x) (append_assoc c _ rest))
+    append_assoc a _ rest ∙ ap (λ (x : List ℕ). a ++ 58 ∷ x)
+    (append_assoc b _ rest ∙ ap (λ (x : List ℕ). b ++ 58 ∷ x) (append_assoc c _ rest))
 
 -- what eight groups with colons between them are read as
-eight_text : (a b c d e f g h : ℕ) → a < 65536 → b < 65536 → c < 65536 → d < 65536 → e < 65536 → f < 65536 → g < 65536 → h < 65536
-    → groups_of (group a ++ 58 ∷ (group b ++ 58 ∷ (group c ++ 58 ∷ (group d ++ 58 ∷ (group e ++ 58 ∷ (group f ++ 58 ∷ (group g ++ 58 ∷ group h)))))))
+eight_text : (a b c d e f g h : ℕ) → a < 65536 → b < 65536 → c < 65536 → d < 65536 → e < 65536 → f < 65536 → g < 65536
+    → h < 65536
+    → groups_of (group a ++ 58 ∷ (group b ++ 58
+    ∷ (group c ++ 58 ∷ (group d ++ 58 ∷ (group e ++ 58 ∷ (group f ++ 58 ∷ (group g ++ 58 ∷ group h)))))))
     ≡ Some (((((((a * 65536 + b) * 65536 + c) * 65536 + d) * 65536 + e) * 65536 + f) * 65536 + g) * 65536 + h)
 unfolding groups_of
 eight_text a b c d e f g h la lb lc ld le lf lg lh =
@@ -180,7 +269,12 @@ eight_text a b c d e f g h la lb lc ld le lf lg lh =
       group_text h lh,
     ) refl
 
-groups_are : (v : ℕ) → groups v ≡ group (v / 2 ^ 64 / 2 ^ 48) ++ 58 ∷ (group (v / 2 ^ 64 / 2 ^ 32 % 65536) ++ 58 ∷ (group (v / 2 ^ 64 / 2 ^ 16 % 65536) ++ 58 ∷ (group (v / 2 ^ 64 % 65536) ++ 58 ∷ (group (v % 2 ^ 64 / 2 ^ 48) ++ 58 ∷ (group (v % 2 ^ 64 / 2 ^ 32 % 65536) ++ 58 ∷ (group (v % 2 ^ 64 / 2 ^ 16 % 65536) ++ 58 ∷ group (v % 2 ^ 64 % 65536)))))))
+groups_are : (v : ℕ) → groups v ≡ group (v / 2 ^ 64 / 2 ^ 48) ++ 58
+    ∷ (group (v / 2 ^ 64 / 2 ^ 32 % 65536) ++ 58
+    ∷ (group (v / 2 ^ 64 / 2 ^ 16 % 65536) ++ 58
+    ∷ (group (v / 2 ^ 64 % 65536) ++ 58 ∷ (group (v % 2 ^ 64 / 2 ^ 48) ++ 58
+    ∷ (group (v % 2 ^ 64 / 2 ^ 32 % 65536) ++ 58
+    ∷ (group (v % 2 ^ 64 / 2 ^ 16 % 65536) ++ 58 ∷ group (v % 2 ^ 64 % 65536)))))))
 unfolding groups half
 groups_are v = joined _ _ _ _ _
 
@@ -191,21 +285,57 @@ pub groups_text : (v : ℕ) → v < 2 ^ 128 → groups_of (groups v) ≡ Some v
 groups_text v small =
     let high = halves (v / 2 ^ 64) in
     let low = halves (v % 2 ^ 64) in
-    let sum : ((((((v / 2 ^ 64 / 2 ^ 48 * 65536 + v / 2 ^ 64 / 2 ^ 32 % 65536) * 65536 + v / 2 ^ 64 / 2 ^ 16 % 65536) * 65536 + v / 2 ^ 64 % 65536) * 65536 + v % 2 ^ 64 / 2 ^ 48) * 65536 + v % 2 ^ 64 / 2 ^ 32 % 65536) * 65536 + v % 2 ^ 64 / 2 ^ 16 % 65536) * 65536 + v % 2 ^ 64 % 65536 ≡ v = omega (arith, high, low) in
-    ap groups_of (groups_are v) ∙ eight_text _ _ _ _ _ _ _ _ (omega (arith, small)) (omega arith) (omega arith) (omega arith) (omega arith) (omega arith) (omega arith) (omega arith) ∙ ap (λ (x : ℕ). just x) sum
+    let sum :
+    ((((((v / 2 ^ 64 / 2 ^ 48 * 65536 + v / 2 ^ 64 / 2 ^ 32 % 65536) * 65536 + v / 2 ^ 64 / 2 ^ 16 % 65536) * 65536
+    + v / 2 ^ 64 % 65536) * 65536 + v % 2 ^ 64 / 2 ^ 48) * 65536 + v % 2 ^ 64 / 2 ^ 32 % 65536) * 65536
+    + v % 2 ^ 64 / 2 ^ 16 % 65536) * 65536 + v % 2 ^ 64 % 65536 ≡ v = omega (arith, high, low) in
+    ap groups_of (groups_are v) ∙ eight_text _ _ _ _ _ _ _ _ (omega (arith, small)) (omega arith) (omega arith)
+    (omega arith) (omega arith) (omega arith) (omega arith) (omega arith) ∙ ap (λ (x : ℕ). just x) sum
 
 groups_parts : (n s t u v w x y z : ℕ) (text r1 r2 r3 r4 r5 r6 a b c d e f g h : List ℕ)
-    → text ≡ a ++ 58 ∷ r1 → r1 ≡ b ++ 58 ∷ r2 → r2 ≡ c ++ 58 ∷ r3 → r3 ≡ d ++ 58 ∷ r4 → r4 ≡ e ++ 58 ∷ r5 → r5 ≡ f ++ 58 ∷ r6 → r6 ≡ g ++ 58 ∷ h
-    → (a ≡ group s) × (s < 65536) → (b ≡ group t) × (t < 65536) → (c ≡ group u) × (u < 65536) → (d ≡ group v) × (v < 65536) → (e ≡ group w) × (w < 65536) → (f ≡ group x) × (x < 65536) → (g ≡ group y) × (y < 65536) → (h ≡ group z) × (z < 65536)
-    → ((((((s * 65536 + t) * 65536 + u) * 65536 + v) * 65536 + w) * 65536 + x) * 65536 + y) * 65536 + z ≡ n → (text ≡ groups n) × (n < 2 ^ 128)
+    → text ≡ a ++ 58 ∷ r1 → r1 ≡ b ++ 58 ∷ r2 → r2 ≡ c ++ 58 ∷ r3 → r3 ≡ d ++ 58 ∷ r4 → r4 ≡ e ++ 58 ∷ r5 → r5 ≡ f ++ 58
+    ∷ r6 → r6 ≡ g ++ 58 ∷ h
+    → (a ≡ group s) × (s < 65536) → (b ≡ group t) × (t < 65536) → (c ≡ group u) × (u < 65536) → (d ≡ group v)
+    × (v < 65536) → (e ≡ group w) × (w < 65536) → (f ≡ group x) × (x < 65536) → (g ≡ group y) × (y < 65536)
+    → (h ≡ group z) × (z < 65536)
+    → ((((((s * 65536 + t) * 65536 + u) * 65536 + v) * 65536 + w) * 65536 + x) * 65536 + y) * 65536 + z ≡ n
+    → (text ≡ groups n) × (n < 2 ^ 128)
 groups_parts n s t u v w x y z text r1 r2 r3 r4 r5 r6 a b c d e f g h p1 p2 p3 p4 p5 p6 p7 hs ht hu hv hw hx hy hz is =
     let high : ((s * 65536 + t) * 65536 + u) * 65536 + v ≡ n / 2 ^ 64 = omega (arith, is, hw.1, hx.1, hy.1, hz.1) in
     let low : ((w * 65536 + x) * 65536 + y) * 65536 + z ≡ n % 2 ^ 64 = omega (arith, is, hw.1, hx.1, hy.1, hz.1) in
     let es = four s t u v (n / 2 ^ 64) ht.1 hu.1 hv.1 high in
-    let ew = four w x y z (n % 2 ^ 64) hx.1 hy.1 hz.1 low in
-    (rw (p1, p2, p3, p4, p5, p6, p7, hs.0, ht.0, hu.0, hv.0, hw.0, hx.0, hy.0, hz.0, groups_are n, es.0, es.1, es.2, es.3, ew.0, ew.1, ew.2, ew.3) refl, omega (arith, is, hs.1, ht.1, hu.1, hv.1, hw.1, hx.1, hy.1, hz.1))
+    let ew = four w x y z (n % 2 ^ 64) hx.1 hy.1 hz.1 low in (
+      rw (
+        p1,
+        p2,
+        p3,
+        p4,
+        p5,
+        p6,
+        p7,
+        hs.0,
+        ht.0,
+        hu.0,
+        hv.0,
+        hw.0,
+        hx.0,
+        hy.0,
+        hz.0,
+        groups_are n,
+        es.0,
+        es.1,
+        es.2,
+        es.3,
+        ew.0,
+        ew.1,
+        ew.2,
+        ew.3,
+      ) refl,
+      omega (arith, is, hs.1, ht.1, hu.1, hv.1, hw.1, hx.1, hy.1, hz.1),
+    )
   where
-    four : (a b c d m : ℕ) → b < 65536 → c < 65536 → d < 65536 → ((a * 65536 + b) * 65536 + c) * 65536 + d ≡ m → (m / 2 ^ 48 ≡ a) × (m / 2 ^ 32 % 65536 ≡ b) × (m / 2 ^ 16 % 65536 ≡ c) × (m % 65536 ≡ d)
+    four : (a b c d m : ℕ) → b < 65536 → c < 65536 → d < 65536 → ((a * 65536 + b) * 65536 + c) * 65536 + d ≡ m
+        → (m / 2 ^ 48 ≡ a) × (m / 2 ^ 32 % 65536 ≡ b) × (m / 2 ^ 16 % 65536 ≡ c) × (m % 65536 ≡ d)
     four a b c d m hb hc hd is = (omega arith, omega arith, omega arith, omega arith)
 
 pub groups_found : (n : ℕ) (text : List ℕ) → groups_of text ≡ Some n → (text ≡ groups n) × (n < 2 ^ 128)
@@ -226,5 +356,8 @@ groups_found n text is =
     by_some (group_of f.0) _ n ew (λ x px ex.
     by_some (group_of g.0) _ n ex (λ y py ey.
     by_some (group_of g.1) _ n ey (λ z pz ez.
-    groups_parts n s t u v w x y z text a.1 b.1 c.1 d.1 e.1 f.1 a.0 b.0 c.0 d.0 e.0 f.0 g.0 g.1 (cut_parts 58 text a pa) (cut_parts 58 a.1 b pb) (cut_parts 58 b.1 c pc) (cut_parts 58 c.1 d pd) (cut_parts 58 d.1 e pe) (cut_parts 58 e.1 f pf) (cut_parts 58 f.1 g pg)
-    (group_found s a.0 ps) (group_found t b.0 pt) (group_found u c.0 pu) (group_found v d.0 pv) (group_found w e.0 pw) (group_found x f.0 px) (group_found y g.0 py) (group_found z g.1 pz) (some_is ez))))))))))))))))
+    groups_parts n s t u v w x y z text a.1 b.1 c.1 d.1 e.1 f.1 a.0 b.0 c.0 d.0 e.0 f.0 g.0 g.1 (cut_parts 58 text a pa)
+    (cut_parts 58 a.1 b pb) (cut_parts 58 b.1 c pc) (cut_parts 58 c.1 d pd) (cut_parts 58 d.1 e pe)
+    (cut_parts 58 e.1 f pf) (cut_parts 58 f.1 g pg)
+    (group_found s a.0 ps) (group_found t b.0 pt) (group_found u c.0 pu) (group_found v d.0 pv) (group_found w e.0 pw)
+    (group_found x f.0 px) (group_found y g.0 py) (group_found z g.1 pz) (some_is ez))))))))))))))))

@@ -5,23 +5,28 @@ use Rattle.fx_elements.specs.Groups.{hex_of, group_of}
 use Rattle.fx_elements.specs.Address6.{any_hex_of, any_group_of}
 use Rattle.fx_elements.specs.Spelling.{◌>>=◌}
 
-by_two : (o p : Option ℕ) → (o >>= λ x. p >>= λ y. Some (x * 16 + y)) ≡ option_and_then (λ x. option_map (λ y. x * 16 + y) p) o
+by_two : (o p : Option ℕ) → (o >>= λ x. p >>= λ y. Some (x * 16 + y))
+    ≡ option_and_then (λ x. option_map (λ y. x * 16 + y) p) o
 by_two None p = refl
 by_two (Some x) None = refl
 by_two (Some x) (Some y) = refl
 
-by_three : (o p q : Option ℕ) → (o >>= λ x. p >>= λ y. q >>= λ z. Some ((x * 16 + y) * 16 + z)) ≡ (option_and_then (λ x. option_map (λ y. x * 16 + y) p) o >>= λ v. option_map (λ z. v * 16 + z) q)
+by_three : (o p q : Option ℕ) → (o >>= λ x. p >>= λ y. q >>= λ z. Some ((x * 16 + y) * 16 + z))
+    ≡ (option_and_then (λ x. option_map (λ y. x * 16 + y) p) o >>= λ v. option_map (λ z. v * 16 + z) q)
 by_three None p q = refl
 by_three (Some x) None q = refl
 by_three (Some x) (Some y) None = refl
 by_three (Some x) (Some y) (Some z) = refl
 
-by_four : (o p q r : Option ℕ) → (o >>= λ w. p >>= λ x. q >>= λ y. r >>= λ z. Some (((w * 16 + x) * 16 + y) * 16 + z)) ≡ (option_and_then (λ x. option_map (λ y. x * 16 + y) p) o >>= λ v. option_map (λ z. v * 256 + z) (option_and_then (λ x. option_map (λ y. x * 16 + y) r) q))
+by_four : (o p q r : Option ℕ) → (o >>= λ w. p >>= λ x. q >>= λ y. r >>= λ z. Some (((w * 16 + x) * 16 + y) * 16 + z))
+    ≡ (option_and_then (λ x. option_map (λ y. x * 16 + y) p) o >>= λ v. option_map (λ z. v * 256 + z)
+    (option_and_then (λ x. option_map (λ y. x * 16 + y) r) q))
 by_four None p q r = refl
 by_four (Some w) None q r = refl
 by_four (Some w) (Some x) None r = refl
 by_four (Some w) (Some x) (Some y) None = refl
-by_four (Some w) (Some x) (Some y) (Some z) = let same : ((w * 16 + x) * 16 + y) * 16 + z ≡ (w * 16 + x) * 256 + (y * 16 + z) = omega arith in ap Some same
+by_four (Some w) (Some x) (Some y) (Some z) = let same : ((w * 16 + x) * 16 + y) * 16 + z ≡ (w * 16 + x) * 256
+    + (y * 16 + z) = omega arith in ap Some same
 
 module _ (hex : ℕ → Option ℕ) where
   abbrev pub pair : ℕ → ℕ → Option ℕ
@@ -55,20 +60,24 @@ module _ (hex : ℕ → Option ℕ) where
   one_digit (a ∷ []) some few = refl
   one_digit (a ∷ b ∷ bs) some few = absurd (omega (arith, few))
 
-  pub two_digits : (text : List ℕ) → 2 ≤ length text → length text < 3 → digits text ≡ pair (get_or text 0 0) (get_or text 1 0)
+  pub two_digits : (text : List ℕ) → 2 ≤ length text → length text < 3 → digits text
+      ≡ pair (get_or text 0 0) (get_or text 1 0)
   two_digits [] some few = absurd (omega (arith, some))
   two_digits (a ∷ []) some few = absurd (omega (arith, some))
   two_digits (a ∷ b ∷ []) some few = by_two (hex a) (hex b)
   two_digits (a ∷ b ∷ c ∷ cs) some few = absurd (omega (arith, few))
 
-  three : (text : List ℕ) → 3 ≤ length text → length text < 4 → digits text ≡ (pair (get_or text 0 0) (get_or text 1 0) >>= λ v. option_map (λ z. v * 16 + z) (hex (get_or text 2 0)))
+  three : (text : List ℕ) → 3 ≤ length text → length text < 4 → digits text
+      ≡ (pair (get_or text 0 0) (get_or text 1 0) >>= λ v. option_map (λ z. v * 16 + z) (hex (get_or text 2 0)))
   three [] some few = absurd (omega (arith, some))
   three (a ∷ []) some few = absurd (omega (arith, some))
   three (a ∷ b ∷ []) some few = absurd (omega (arith, some))
   three (a ∷ b ∷ c ∷ []) some few = by_three (hex a) (hex b) (hex c)
   three (a ∷ b ∷ c ∷ d ∷ ds) some few = absurd (omega (arith, few))
 
-  four : (text : List ℕ) → 4 ≤ length text → length text < 5 → digits text ≡ (pair (get_or text 0 0) (get_or text 1 0) >>= λ v. option_map (λ z. v * 256 + z) (pair (get_or text 2 0) (get_or text 3 0)))
+  four : (text : List ℕ) → 4 ≤ length text → length text < 5 → digits text
+      ≡ (pair (get_or text 0 0) (get_or text 1 0) >>= λ v. option_map (λ z. v * 256 + z)
+      (pair (get_or text 2 0) (get_or text 3 0)))
   four [] some few = absurd (omega (arith, some))
   four (a ∷ []) some few = absurd (omega (arith, some))
   four (a ∷ b ∷ []) some few = absurd (omega (arith, some))
@@ -85,10 +94,14 @@ module _ (hex : ℕ → Option ℕ) where
   many_digits (a ∷ b ∷ c ∷ d ∷ e ∷ es) some = refl
 
   -- what the pairs and digits were read as
-  pub three_digits : (text : List ℕ) (o p : Option ℕ) → 3 ≤ length text → length text < 4 → o ≡ pair (get_or text 0 0) (get_or text 1 0) → p ≡ hex (get_or text 2 0) → digits text ≡ (o >>= λ v. option_map (λ z. v * 16 + z) p)
+  pub three_digits : (text : List ℕ) (o p : Option ℕ) → 3 ≤ length text → length text < 4 → o
+      ≡ pair (get_or text 0 0) (get_or text 1 0) → p ≡ hex (get_or text 2 0) → digits text
+      ≡ (o >>= λ v. option_map (λ z. v * 16 + z) p)
   three_digits text o p some few is is' = three text some few ∙ rw (is, is') refl
 
-  pub four_digits : (text : List ℕ) (o p : Option ℕ) → 4 ≤ length text → length text < 5 → o ≡ pair (get_or text 0 0) (get_or text 1 0) → p ≡ pair (get_or text 2 0) (get_or text 3 0) → digits text ≡ (o >>= λ v. option_map (λ z. v * 256 + z) p)
+  pub four_digits : (text : List ℕ) (o p : Option ℕ) → 4 ≤ length text → length text < 5 → o
+      ≡ pair (get_or text 0 0) (get_or text 1 0) → p ≡ pair (get_or text 2 0) (get_or text 3 0) → digits text
+      ≡ (o >>= λ v. option_map (λ z. v * 256 + z) p)
   four_digits text o p some few is is' = four text some few ∙ rw (is, is') refl
 
 pub wider : (o : Option ℕ) (few many : ℕ) → IfSome o (λ v. v < few) → few ≤ many → IfSome o (λ v. v < many)
@@ -97,7 +110,8 @@ wider (Some v) few many below le = omega (arith, below, le)
 
 -- ---- a group in its written form, and one in digits of either case
 
-pub group_digits : (text : List ℕ) → (nat_lt 1 (length text) && get_or text 0 0 == 48) ≡ false → group_of text ≡ digits hex_of text
+pub group_digits : (text : List ℕ) → (nat_lt 1 (length text) && get_or text 0 0 == 48) ≡ false → group_of text
+    ≡ digits hex_of text
 unfolding group_of
 group_digits [] none = refl
 group_digits (a ∷ []) none = refl

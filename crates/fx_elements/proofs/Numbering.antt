@@ -29,7 +29,8 @@ prefix_back Version a = absurd cc
 prefix_back Source6 a = refl
 prefix_back Destination6 a = refl
 
-pub prefix_length_back : (axis : Axis) → is_address axis ≡ true → element_numbered (prefix_length_number axis) 0 ≡ PrefixLength axis
+pub prefix_length_back : (axis : Axis) → is_address axis ≡ true → element_numbered (prefix_length_number axis) 0
+    ≡ PrefixLength axis
 prefix_length_back Source a = refl
 prefix_length_back Destination a = refl
 prefix_length_back Protocol a = absurd cc

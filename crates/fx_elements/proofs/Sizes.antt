@@ -81,14 +81,16 @@ either : {A : Type 0} (o p : Option A) (x : A) → option_or o p ≡ Some x → 
 either (Some y) p x e = inl e
 either None p x e = inr e
 
-mapped : {A B : Type 0} (f : A → B) (o : Option A) (y : B) → option_map f o ≡ Some y → (x : A) × (o ≡ Some x) × (f x ≡ y)
+mapped : {A B : Type 0} (f : A → B) (o : Option A) (y : B) → option_map f o ≡ Some y → (x : A) × (o ≡ Some x)
+    × (f x ≡ y)
 mapped f (Some x) y e = (x, refl, some_is e)
 mapped f None y e = absurd cc
 
 last_fits : (ends : Bool) (text gs : List ℕ) → last_of ends text ≡ Some gs → AreGroups gs × (0 < length gs)
 unfolding last_of
 last_fits ends text gs e = elim (either (option_map (λ g. g ∷ []) (any_group_of text)) _ gs e) [
-  | inl h ↦ let g = mapped (λ (g : ℕ). g ∷ []) (any_group_of text) gs h in rw (← g.2) ((any_group_fits text g.0 g.1, tt), omega arith)
+  | inl h ↦ let g = mapped (λ (g : ℕ). g ∷ []) (any_group_of text) gs h in
+      rw (← g.2) ((any_group_fits text g.0 g.1, tt), omega arith)
   | inr h ↦ elim (chosen ends (option_map (λ v. v / 65536 ∷ v % 65536 ∷ []) (quad_of text)) None (Some gs) h) [
     | inl i ↦
         let v = mapped (λ (v : ℕ). v / 65536 ∷ v % 65536 ∷ []) (quad_of text) gs i.1 in
@@ -98,7 +100,8 @@ last_fits ends text gs e = elim (either (option_map (λ g. g ∷ []) (any_group_
   ]
 ]
 
-pub groups_in_fit : (ends : Bool) (p : List ℕ) (ps : List (List ℕ)) (gs : List ℕ) → groups_in ends (p ∷ ps) ≡ Some gs → AreGroups gs × (0 < length gs)
+pub groups_in_fit : (ends : Bool) (p : List ℕ) (ps : List (List ℕ)) (gs : List ℕ) → groups_in ends (p ∷ ps) ≡ Some gs
+    → AreGroups gs × (0 < length gs)
 unfolding groups_in
 groups_in_fit ends p [] gs e = last_fits ends p gs e
 groups_in_fit ends p (q ∷ ps) gs e =

@@ -7,7 +7,8 @@ use Rattle.fx_elements.proofs.Cuts.{chosen}
 use Rattle.fx_elements.specs.Words.{words, none_left, first_word, words_left}
 use denote.Ref.{Bor}
 
-put_parts : (b : ℕ) (o : Option (List ℕ × List ℕ)) (p : List ℕ × List ℕ) → put_before b o ≡ Some p → (q : List ℕ × List ℕ) × (o ≡ Some q) × (p ≡ (b ∷ q.0, q.1))
+put_parts : (b : ℕ) (o : Option (List ℕ × List ℕ)) (p : List ℕ × List ℕ) → put_before b o ≡ Some p
+    → (q : List ℕ × List ℕ) × (o ≡ Some q) × (p ≡ (b ∷ q.0, q.1))
 put_parts b (Some q) p e = (q, refl, cc)
 put_parts b None p e = absurd cc
 
@@ -21,7 +22,8 @@ words_cut [] p e = absurd cc
 words_cut (b ∷ bs) p e =
     elim (chosen (eqb b 32) (Some ([], bs)) (put_before b (cut_at 32 bs)) (Some p) e) [
       | inl h ↦ let k : ([], bs) ≡ p = cc in rw h.0 (ap (λ (q : List ℕ × List ℕ). q.0 ∷ words q.1) k)
-      | inr h ↦ let q = put_parts b (cut_at 32 bs) p h.1 in rw (h.0, words_cut bs q.0 q.1) (ap (λ (r : List ℕ × List ℕ). r.0 ∷ words r.1) (sym q.2))
+      | inr h ↦ let q = put_parts b (cut_at 32 bs) p h.1 in
+          rw (h.0, words_cut bs q.0 q.1) (ap (λ (r : List ℕ × List ℕ). r.0 ∷ words r.1) (sym q.2))
     ]
 
 -- a line without a space is one word
@@ -53,10 +55,12 @@ left_is (Some rest) true e = absurd cc
 left_is (Some rest) false e = sym (words_some rest.now)
 
 -- the first word of what is left, and what is left behind it
-pub first_of_more : (rest : Option (Bor (List ℕ))) (text : Bor (List ℕ)) (ws : List (List ℕ)) (p : List ℕ × List ℕ) → words_left rest ≡ ws → rest ≡ Some text → Some p ≡ cut_at 32 text.now → Some (p.0, words p.1) ≡ first_word ws
+pub first_of_more : (rest : Option (Bor (List ℕ))) (text : Bor (List ℕ)) (ws : List (List ℕ)) (p : List ℕ × List ℕ)
+    → words_left rest ≡ ws → rest ≡ Some text → Some p ≡ cut_at 32 text.now → Some (p.0, words p.1) ≡ first_word ws
 first_of_more rest text ws p view is cut =
     let k : ws ≡ p.0 ∷ words p.1 = sym view ∙ ap words_left is ∙ words_cut text.now p (sym cut) in rw k refl
 
-pub first_of_one : (rest : Option (Bor (List ℕ))) (text : Bor (List ℕ)) (ws : List (List ℕ)) → words_left rest ≡ ws → rest ≡ Some text → None ≡ cut_at 32 text.now → Some (text.now, []) ≡ first_word ws
+pub first_of_one : (rest : Option (Bor (List ℕ))) (text : Bor (List ℕ)) (ws : List (List ℕ)) → words_left rest ≡ ws
+    → rest ≡ Some text → None ≡ cut_at 32 text.now → Some (text.now, []) ≡ first_word ws
 first_of_one rest text ws view is cut =
     let k : ws ≡ text.now ∷ [] = sym view ∙ ap words_left is ∙ words_none text.now (sym cut) in rw k refl

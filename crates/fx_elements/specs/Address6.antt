@@ -43,7 +43,8 @@ pieces (b ∷ bs) = if b == 58 then [] ∷ pieces bs else put_first b (pieces bs
 -- the last piece is a group or, if it ends the address, possibly a dotted quad, which is two groups
 unfoldable pub last_of : Bool → List ℕ → Option (List ℕ)
 last_of ends text =
-    option_or (option_map (λ g. g ∷ []) (any_group_of text)) (if ends then option_map (λ v. v / 65536 ∷ v % 65536 ∷ []) (quad_of text) else None)
+    option_or (option_map (λ g. g ∷ []) (any_group_of text))
+    (if ends then option_map (λ v. v / 65536 ∷ v % 65536 ∷ []) (quad_of text) else None)
 
 -- each piece before it is a group
 unfoldable pub groups_in : Bool → List (List ℕ) → Option (List ℕ)
@@ -77,7 +78,8 @@ uncompressed_of groups = if length groups == 8 then Some (number_behind 0 groups
 -- `::` is one or more groups of zeros, to make eight together with the groups before and after it
 unfoldable pub compressed_of : List ℕ → List ℕ → Option ℕ
 compressed_of before after =
-    if nat_le (length before + length after) 7 then uncompressed_of (before ++ (replicate (8 - (length before + length after)) 0 ++ after)) else None
+    if nat_le (length before + length after) 7 then uncompressed_of
+    (before ++ (replicate (8 - (length before + length after)) 0 ++ after)) else None
 
 -- without `::` all groups are on one side; with it there are two sides, and the second ends the address
 unfoldable pub address6_of : List ℕ → Option ℕ
@@ -117,4 +119,5 @@ no_groups = record { count = 0; value = 0 }
 unfoldable pub side_with : Side → Option (List ℕ) → Option Side
 side_with side None = None
 side_with side (Some gs) =
-    if nat_le (side.count + length gs) 8 then Some (record { count = side.count + length gs; value = number_behind side.value gs }) else None
+    if nat_le (side.count + length gs) 8 then Some (record
+    { count = side.count + length gs; value = number_behind side.value gs }) else None

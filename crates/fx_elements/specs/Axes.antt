@@ -9,7 +9,8 @@ axis_count = 9
 
 -- all axes, in order
 abbrev pub axes : List Axis
-axes = Source ∷ Destination ∷ Protocol ∷ SourcePort ∷ DestinationPort ∷ ClassOfService ∷ Version ∷ Source6 ∷ Destination6 ∷ []
+axes = Source ∷ Destination ∷ Protocol ∷ SourcePort ∷ DestinationPort ∷ ClassOfService ∷ Version ∷ Source6
+    ∷ Destination6 ∷ []
 
 -- the index of an axis, from 0
 abbrev pub axis_index : Axis → ℕ

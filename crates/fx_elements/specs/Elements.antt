@@ -1,4 +1,5 @@
--- The information elements that are distinguished, with their names and numbers in the IANA registry (RFC 7012, section 4).
+-- The information elements that are distinguished, with their names and numbers in the IANA registry (RFC 7012, section
+-- 4).
 use Rattle.std.specs.Prelude.{ℕ, ◌==◌, if◌then◌else◌, List, [], ◌∷◌, codes}
 use Rattle.std.specs.Str.{bytes_eq}
 use Rattle.fx_elements.specs.declared.axis.Axis.{Axis}

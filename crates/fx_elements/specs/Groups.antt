@@ -11,11 +11,14 @@ hex_digit d = if nat_lt d 10 then 48 + d else 87 + d
 -- a group of 16 bits is its hexadecimal text, which has no leading zero
 abbrev pub group : ℕ → List ℕ
 group g =
-    if nat_lt g 16 then hex_digit g ∷ [] else (if nat_lt g 256 then hex_digit (g / 16) ∷ hex_digit (g % 16) ∷ [] else (if nat_lt g 4096 then hex_digit (g / 256) ∷ hex_digit (g / 16 % 16) ∷ hex_digit (g % 16) ∷ [] else hex_digit (g / 4096) ∷ hex_digit (g / 256 % 16) ∷ hex_digit (g / 16 % 16) ∷ hex_digit (g % 16) ∷ []))
+    if nat_lt g 16 then hex_digit g ∷ [] else (if nat_lt g 256 then hex_digit (g / 16) ∷ hex_digit (g % 16)
+    ∷ [] else (if nat_lt g 4096 then hex_digit (g / 256) ∷ hex_digit (g / 16 % 16) ∷ hex_digit (g % 16)
+    ∷ [] else hex_digit (g / 4096) ∷ hex_digit (g / 256 % 16) ∷ hex_digit (g / 16 % 16) ∷ hex_digit (g % 16) ∷ []))
 
 -- half of an address of IPv6: four groups with colons between them
 unfoldable pub half : ℕ → List ℕ
-half h = group (h / 2 ^ 48) ++ 58 ∷ (group (h / 2 ^ 32 % 65536) ++ 58 ∷ (group (h / 2 ^ 16 % 65536) ++ 58 ∷ group (h % 65536)))
+half h = group (h / 2 ^ 48) ++ 58 ∷ (group (h / 2 ^ 32 % 65536) ++ 58
+    ∷ (group (h / 2 ^ 16 % 65536) ++ 58 ∷ group (h % 65536)))
 
 -- an address of IPv6 is its eight groups with colons between them
 unfoldable pub groups : ℕ → List ℕ
@@ -25,7 +28,8 @@ groups v = half (v / 2 ^ 64) ++ 58 ∷ half (v % 2 ^ 64)
 
 -- the value of a hexadecimal digit in lower case
 unfoldable pub hex_of : ℕ → Option ℕ
-hex_of b = if nat_le 48 b && nat_le b 57 then Some (b - 48) else (if nat_le 97 b && nat_le b 102 then Some (b - 87) else None)
+hex_of b = if nat_le 48 b && nat_le b 57 then Some (b - 48)
+    else (if nat_le 97 b && nat_le b 102 then Some (b - 87) else None)
 
 -- the number with this hexadecimal text of one to four digits, without a leading zero
 unfoldable pub group_of : List ℕ → Option ℕ

@@ -17,12 +17,18 @@ single width value = record { low = value; high = value; bits = width }
 -- the addresses of this width that begin with the leading bits of this one
 abbrev pub with_prefix : ℕ → ℕ × ℕ → Range
 with_prefix width p =
-    record { low = p.0 / 2 ^ (width - p.1) * 2 ^ (width - p.1); high = p.0 / 2 ^ (width - p.1) * 2 ^ (width - p.1) + (2 ^ (width - p.1) - 1); bits = p.1 }
+    record {
+      low = p.0 / 2 ^ (width - p.1) * 2 ^ (width - p.1);
+      high = p.0 / 2 ^ (width - p.1) * 2 ^ (width - p.1)
+          + (2 ^ (width - p.1) - 1);
+      bits = p.1;
+    }
 
 -- the value with this written form: addresses are dotted quads or eight groups, other values decimal numbers
 abbrev pub written_on : Axis → List ℕ → Option ℕ
 written_on axis text =
-    if is_wide axis then groups_of text else (if is_address axis then quad_of text else number_of (slice_index tops (axis_index axis)) text)
+    if is_wide axis then groups_of text else (if is_address axis then quad_of text else number_of
+    (slice_index tops (axis_index axis)) text)
 
 -- the value that a document may spell with this text: an address of IPv6 has many spellings
 abbrev pub value_on : Axis → List ℕ → Option ℕ
@@ -50,6 +56,7 @@ value_text axis value = if is_wide axis then groups value else (if is_address ax
 abbrev pub bits_text : Axis → ℕ → List ℕ
 bits_text axis bits = if nat_lt bits (axis_width axis) then 47 ∷ decimal bits else []
 
--- a value of leading bits: the first value that begins with them, and their number if it is less than the width of the axis
+-- a value of leading bits: the first value that begins with them, and their number if it is less than the width of the
+-- axis
 abbrev pub leading_text : Axis → ℕ → ℕ → List ℕ
 leading_text axis bits value = value_text axis (value * 2 ^ (axis_width axis - bits)) ++ bits_text axis bits

@@ -34,8 +34,8 @@ fn element_on(axis: Axis) -> &'static str {
     element_name(axis.element_number())
 }
 
-/// Returns a region: for each axis that it restricts, by the name of the information element, the least and the greatest
-/// value.
+/// Returns a region: for each axis that it restricts, by the name of the information element, the least and the
+/// greatest value.
 fn region_value(alloc: Global, region: &Region) -> Result<Value, AllocError> {
     let (least, greatest) = (region.corner(), region.far_corner());
     let mut members = Members::new(alloc);
@@ -150,8 +150,8 @@ fn add_target(
     add_path(members, alloc, documents, numbers, target.crossings);
 }
 
-/// Returns what a certificate is refused at: its line, if there is one, what the line had to be, and the class, path and
-/// region that it is about.
+/// Returns what a certificate is refused at: its line, if there is one, what the line had to be, and the class, path
+/// and region that it is about.
 ///
 /// Fails if out of memory.
 pub fn certificate_fact(

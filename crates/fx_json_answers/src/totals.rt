@@ -137,8 +137,8 @@ const REFUTED: &[u8] = b"refuted\nrun\n";
 /// The line before the plain sums.
 const PLAIN: &[u8] = b"plain\n";
 
-/// Returns what two totals are between: the end of the first one's text, and the beginning of the second one's. Both are
-/// the text's length if it has no line `plain`.
+/// Returns what two totals are between: the end of the first one's text, and the beginning of the second one's. Both
+/// are the text's length if it has no line `plain`.
 fn around_plain(text: &[u8]) -> (usize, usize) {
     for end in 0..text.len() {
         if text.get(end..).unwrap_or(&[]).starts_with(PLAIN) {

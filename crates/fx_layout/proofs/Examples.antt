@@ -38,11 +38,13 @@ key_of_octet : key_of (source 8 ∷ []) a_packet ≡ source_key 8 10
 key_of_octet = refl
 
 -- of 192 one bit is 1, and of 10 it is 0
-key_of_bits : key_of (source 1 ∷ destination 1 ∷ []) a_packet ≡ record { layout = source 1 ∷ destination 1 ∷ []; values = 0 ∷ 1 ∷ [] }
+key_of_bits : key_of (source 1 ∷ destination 1 ∷ []) a_packet
+    ≡ record { layout = source 1 ∷ destination 1 ∷ []; values = 0 ∷ 1 ∷ [] }
 key_of_bits = refl
 
 -- one value for each part, in order
-key_of_parts : key_of (source 24 ∷ destination 32 ∷ port ∷ []) a_packet ≡ record { layout = source 24 ∷ destination 32 ∷ port ∷ []; values = 655618 ∷ 3221225985 ∷ 80 ∷ [] }
+key_of_parts : key_of (source 24 ∷ destination 32 ∷ port ∷ []) a_packet
+    ≡ record { layout = source 24 ∷ destination 32 ∷ port ∷ []; values = 655618 ∷ 3221225985 ∷ 80 ∷ [] }
 key_of_parts = refl
 
 -- all packets have the key that has no parts
@@ -63,7 +65,8 @@ cut_to_24 : bits_on (source_key 24 655618) Source 24 ≡ 655618
 cut_to_24 = refl
 
 -- of the source and the destination, the leading bits of the one that is asked for
-cut_destination : bits_on (record { layout = source 24 ∷ destination 32 ∷ []; values = 655618 ∷ 3221225985 ∷ [] }) Destination 24 ≡ 12582914
+cut_destination : bits_on (record { layout = source 24 ∷ destination 32 ∷ []; values = 655618 ∷ 3221225985 ∷ [] })
+    Destination 24 ≡ 12582914
 cut_destination = refl
 
 -- 10.1.2.0/24 is in 10.1.0.0/16
@@ -71,7 +74,11 @@ project_to_16 : project (source_key 24 655618) (source 16 ∷ []) ≡ source_key
 project_to_16 = refl
 
 -- parts may be left out
-project_away : project (record { layout = source 24 ∷ destination 32 ∷ port ∷ []; values = 655618 ∷ 3221225985 ∷ 80 ∷ [] }) (source 8 ∷ port ∷ []) ≡ record { layout = source 8 ∷ port ∷ []; values = 10 ∷ 80 ∷ [] }
+project_away : project (record {
+  layout = source 24 ∷ destination 32 ∷ port ∷ [];
+  values = 655618 ∷ 3221225985 ∷ 80
+      ∷ [];
+}) (source 8 ∷ port ∷ []) ≡ record { layout = source 8 ∷ port ∷ []; values = 10 ∷ 80 ∷ [] }
 project_away = refl
 
 -- ---- which layouts can be read from which
@@ -128,7 +135,8 @@ in_order = refl
 
 -- ---- equal keys, and their order
 
-same_prefix : same_key (key_of (source 24 ∷ []) a_packet) (project (key_of (source 32 ∷ []) a_packet) (source 24 ∷ [])) ≡ true
+same_prefix : same_key (key_of (source 24 ∷ []) a_packet) (project (key_of (source 32 ∷ []) a_packet) (source 24 ∷ []))
+    ≡ true
 same_prefix = refl
 
 -- 10.1.2.0/24 isn't 10.1.3.0/24, and 0.10.1.2/32 has the same number but more bits

@@ -1,4 +1,5 @@
--- Layouts, and the keys that packets have under them (RFC 7015, section 2: a flow key, and the coarser one of an aggregated flow).
+-- Layouts, and the keys that packets have under them (RFC 7015, section 2: a flow key, and the coarser one of an
+-- aggregated flow).
 use Rattle.std.specs.Prelude.{◌≡◌, ℕ, suc, ◌-◌, ◌/◌, ◌^◌, ◌<◌, ◌≤◌, Bool, true, false, ◌&&◌, ◌||◌, ◌==◌, nat_le, nat_lt, if◌then◌else◌, List, [], ◌∷◌, map, bytes_eq, Option, Some, None}
 use Rattle.std.specs.List.{list_all}
 use Rattle.fx_elements.specs.declared.axis.Axis.{Axis}
@@ -34,12 +35,14 @@ refines layout other = list_all (λ part. reads layout part.axis part.bits) othe
 
 -- a part has all bits of an axis, or the leading bits of an address
 abbrev pub can_stand : Part → Bool
-can_stand part = nat_le 1 part.bits && (part.bits == axis_width part.axis || (is_address part.axis && nat_le part.bits (axis_width part.axis)))
+can_stand part = nat_le 1 part.bits && (part.bits == axis_width part.axis ||
+    (is_address part.axis && nat_le part.bits (axis_width part.axis)))
 
 -- the layout with a part added, before the first part of a later axis
 abbrev pub with_part : Layout → Part → Layout
 with_part [] new = new ∷ []
-with_part (part ∷ parts) new = if nat_lt (axis_index new.axis) (axis_index part.axis) then new ∷ part ∷ parts else part ∷ with_part parts new
+with_part (part ∷ parts) new = if nat_lt (axis_index new.axis) (axis_index part.axis) then new ∷ part ∷ parts else part
+    ∷ with_part parts new
 
 -- no part has more bits than its axis
 abbrev pub Fits : Layout → Type 0

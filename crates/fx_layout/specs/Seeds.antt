@@ -15,7 +15,8 @@ folded_product a b = bit_xor (bit_and (a * b) (2 ^ 64 - 1)) (a * b / 2 ^ 64)
 
 -- the number formed by the eight octets from this index on, the lowest first
 abbrev pub word : List ℕ → ℕ → ℕ
-word os i = from_le_bytes w64 (slice_index os i ∷ slice_index os (i + 1) ∷ slice_index os (i + 2) ∷ slice_index os (i + 3)
+word os i = from_le_bytes w64 (slice_index os i ∷ slice_index os (i + 1) ∷ slice_index os (i + 2)
+    ∷ slice_index os (i + 3)
     ∷ slice_index os (i + 4) ∷ slice_index os (i + 5) ∷ slice_index os (i + 6) ∷ slice_index os (i + 7) ∷ [])
 
 -- the state after the first n words

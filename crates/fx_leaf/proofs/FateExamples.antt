@@ -54,7 +54,11 @@ abbrev source : ℕ → Layout
 source bits = record { axis = Source; bits = bits } ∷ []
 
 abbrev all_fields : Bounds
-all_fields = record { low = 0 ∷ 0 ∷ 0 ∷ 0 ∷ 0 ∷ 0 ∷ 0 ∷ 0 ∷ 0 ∷ []; high = 4294967295 ∷ 4294967295 ∷ 255 ∷ 65535 ∷ 65535 ∷ 255 ∷ 255 ∷ 340282366920938463463374607431768211455 ∷ 340282366920938463463374607431768211455 ∷ [] }
+all_fields = record {
+  low = 0 ∷ 0 ∷ 0 ∷ 0 ∷ 0 ∷ 0 ∷ 0 ∷ 0 ∷ 0 ∷ [];
+  high = 4294967295 ∷ 4294967295 ∷ 255 ∷ 65535 ∷ 65535
+      ∷ 255 ∷ 255 ∷ 340282366920938463463374607431768211455 ∷ 340282366920938463463374607431768211455 ∷ [];
+}
 
 -- to 192.0.2.1, by TCP, from this address
 abbrev from : ℕ → Fields
@@ -63,11 +67,22 @@ from address = address ∷ 3221225985 ∷ 6 ∷ 1000 ∷ 80 ∷ 0 ∷ 4 ∷ 0 �
 abbrev inwards : List Crossing
 inwards = record { device = 1; interface = codes "eth0"; inwards = true } ∷ []
 
--- what selects the packets, where they are held, how records are sent, what comes to collect them and by which links, and the
+-- what selects the packets, where they are held, how records are sent, what comes to collect them and by which links,
+-- and the
 -- report of so many bits
 abbrev net : List Selection → List Holder → List Exporter → List Process → List ℕ → ℕ → ℕ → Net
 net selections holders exporters processes links report bits = record {
-  devices = record { points = record { interfaces = codes "eth0" ∷ []; ingress = true; egress = false; selections = selections } ∷ []; caches = []; processes = [] } ∷ [];
+  devices = record {
+    points = record {
+      interfaces = codes "eth0" ∷ [];
+      ingress = true;
+      egress = false;
+      selections =
+          selections;
+    } ∷ [];
+    caches = [];
+    processes = [];
+  } ∷ [];
   exporters = exporters;
   holders = holders;
   processes = processes;
@@ -101,7 +116,8 @@ ending = record { exporters = []; aggregations = [] }
 
 -- from the meter by one collector to another
 abbrev chain : Exporter → ℕ → ℕ → Net
-chain on report bits = net all_packets (cache (0 ∷ [])) (all_of (Some 0 ∷ []) ∷ on ∷ []) (sending_on 1 ∷ ending ∷ []) (0 ∷ 1 ∷ []) report bits
+chain on report bits = net all_packets (cache (0 ∷ [])) (all_of (Some 0 ∷ []) ∷ on ∷ []) (sending_on 1 ∷ ending ∷ [])
+    (0 ∷ 1 ∷ []) report bits
 
 counted_at_end : packet_fate (chain (all_of (Some 1 ∷ [])) 1 32) (from 167838211) inwards ≡ Once
 counted_at_end = refl
@@ -134,14 +150,16 @@ coarse_and_lost : fate (chain (all_of (None ∷ [])) 1 24) 0 (record { layout = 
 coarse_and_lost = refl
 
 -- a record that may be lost, and is unassigned where it isn't
-coarse_or_lost : fate (chain (one_of (None ∷ Some 1 ∷ [])) 1 24) 0 (record { layout = source 16; values = 2561 ∷ [] }) ≡ Unassigned
+coarse_or_lost : fate (chain (one_of (None ∷ Some 1 ∷ [])) 1 24) 0 (record { layout = source 16; values = 2561 ∷ [] })
+    ≡ Unassigned
 coarse_or_lost = refl
 
 -- ---- a fork
 
 -- by two collectors to the report
 abbrev fork : Exporter → Process → Net
-fork first second = net all_packets (cache (0 ∷ [])) (first ∷ all_of (Some 2 ∷ []) ∷ all_of (Some 3 ∷ []) ∷ []) (sending_on 1 ∷ second ∷ ending ∷ []) (0 ∷ 1 ∷ 2 ∷ 2 ∷ []) 2 32
+fork first second = net all_packets (cache (0 ∷ [])) (first ∷ all_of (Some 2 ∷ []) ∷ all_of (Some 3 ∷ []) ∷ [])
+    (sending_on 1 ∷ second ∷ ending ∷ []) (0 ∷ 1 ∷ 2 ∷ 2 ∷ []) 2 32
 
 -- by both of them
 by_both : packet_fate (fork (all_of (Some 0 ∷ Some 1 ∷ [])) (sending_on 2)) (from 167838211) inwards ≡ Many
@@ -160,18 +178,25 @@ by_first_if_chosen : packet_fate (fork (one_of (Some 0 ∷ Some 1 ∷ [])) endin
 by_first_if_chosen = refl
 
 -- a cache that names two exporting processes gives its records to both
-two_exporters : packet_fate (net all_packets (cache (0 ∷ 1 ∷ [])) (all_of (Some 0 ∷ []) ∷ all_of (Some 0 ∷ []) ∷ []) (ending ∷ []) (0 ∷ []) 0 32) (from 167838211) inwards ≡ Many
+two_exporters : packet_fate (net all_packets (cache (0 ∷ 1 ∷ [])) (all_of (Some 0 ∷ []) ∷ all_of (Some 0 ∷ []) ∷ [])
+    (ending ∷ []) (0 ∷ []) 0 32) (from 167838211) inwards ≡ Many
 two_exporters = refl
 
 -- ---- filters
 
 abbrev sources : ℕ → ℕ → Bounds
-sources low high = record { low = low ∷ 0 ∷ 0 ∷ 0 ∷ 0 ∷ 0 ∷ 0 ∷ 0 ∷ 0 ∷ []; high = high ∷ 4294967295 ∷ 255 ∷ 65535 ∷ 65535 ∷ 255 ∷ 255 ∷ 340282366920938463463374607431768211455 ∷ 340282366920938463463374607431768211455 ∷ [] }
+sources low high = record {
+  low = low ∷ 0 ∷ 0 ∷ 0 ∷ 0 ∷ 0 ∷ 0 ∷ 0 ∷ 0 ∷ [];
+  high = high ∷ 4294967295 ∷ 255 ∷ 65535
+      ∷ 65535 ∷ 255 ∷ 255 ∷ 340282366920938463463374607431768211455 ∷ 340282366920938463463374607431768211455 ∷ [];
+}
 
 -- the sources up to this one go to the cache, and those from the other on go there too
 abbrev shared : ℕ → ℕ → Net
 shared last first =
-    net (record { region = Some (sources 0 last); holder = Some 0 } ∷ record { region = Some (sources first 4294967295); holder = Some 0 } ∷ []) (cache (0 ∷ [])) (all_of (Some 0 ∷ []) ∷ []) (ending ∷ []) (0 ∷ []) 0 32
+    net (record { region = Some (sources 0 last); holder = Some 0 }
+    ∷ record { region = Some (sources first 4294967295); holder = Some 0 } ∷ []) (cache (0 ∷ []))
+    (all_of (Some 0 ∷ []) ∷ []) (ending ∷ []) (0 ∷ []) 0 32
 
 -- 128.0.0.0 where the halves meet, overlap, and leave it out
 halves : packet_fate (shared 2147483647 2147483648) (from 2147483648) inwards ≡ Once
@@ -191,5 +216,6 @@ both_halves : path_verdict (shared 2147483647 2147483648) all_fields inwards ≡
 both_halves = refl
 
 -- the second selection process counts the second half
-counts_second : counter (shared 2147483647 2147483648) (sources 2147483648 4294967295) inwards ≡ Some (record { crossing = 1; point = 1; process = 2; verdict = Some Once })
+counts_second : counter (shared 2147483647 2147483648) (sources 2147483648 4294967295) inwards
+    ≡ Some (record { crossing = 1; point = 1; process = 2; verdict = Some Once })
 counts_second = refl

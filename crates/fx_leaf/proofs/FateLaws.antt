@@ -78,7 +78,11 @@ pub good_both : (f g : Fate) → IsGood (both f g) → IsGood f × IsGood g
 good_both f g h =
     elim (both_good f g h) [
       | inl e ↦ (good_of f (inl e.0), good_of g (inl e.1))
-      | inr e ↦ elim e [ inl d ↦ (good_of f (inl d.0), good_of g (inr d.1)) | inr d ↦ (good_of f (inr d.0), good_of g (inl d.1)) ]
+      | inr e ↦ elim e [
+        | inl d ↦ (good_of f (inl d.0), good_of g (inr d.1))
+        | inr d ↦
+            (good_of f (inr d.0), good_of g (inl d.1))
+      ]
     ]
 
 pub weigh_both : (f g : Fate) (w : Weight) → IsGood (both f g) → plus (by_fate f w) (by_fate g w) ≡ by_fate (both f g) w
@@ -148,29 +152,37 @@ once_either f g h = (good_either f g (subst IsGood (sym h) tt)).0 ∙ h
 
 module _ {A : Type 0} (fate_of : A → Fate) where
   -- what happens to all parts weighs as much as the whole
-  pub all_weighed : (v : A → Weight) (w : Weight) (xs : List A) → Every (λ x. fate_of x ≡ Once → v x ≡ w) xs → IsGood (all_happen (map fate_of xs)) → weigh_all (λ x. by_fate (fate_of x) (v x)) xs ≡ by_fate (all_happen (map fate_of xs)) w
+  pub all_weighed : (v : A → Weight) (w : Weight) (xs : List A) → Every (λ x. fate_of x ≡ Once → v x ≡ w) xs
+      → IsGood (all_happen (map fate_of xs)) → weigh_all (λ x. by_fate (fate_of x) (v x)) xs
+      ≡ by_fate (all_happen (map fate_of xs)) w
   all_weighed v w [] same good = refl
   all_weighed v w (x ∷ xs) same good =
       let parts = good_both (fate_of x) (all_happen (map fate_of xs)) good in
-      ap₂ plus (same_by_fate (fate_of x) (v x) w same.0) (all_weighed v w xs same.1 parts.1) ∙ weigh_both (fate_of x) (all_happen (map fate_of xs)) w good
+      ap₂ plus (same_by_fate (fate_of x) (v x) w same.0) (all_weighed v w xs same.1 parts.1)
+      ∙ weigh_both (fate_of x) (all_happen (map fate_of xs)) w good
 
-  pub every_same : (v : A → Weight) (w : Weight) (xs : List A) → ((x : A) → v x ≡ w) → Every (λ x. fate_of x ≡ Once → v x ≡ w) xs
+  pub every_same : (v : A → Weight) (w : Weight) (xs : List A) → ((x : A) → v x ≡ w)
+      → Every (λ x. fate_of x ≡ Once → v x ≡ w) xs
   every_same v w [] h = tt
   every_same v w (x ∷ xs) h = (λ e. h x, every_same v w xs h)
 
   -- where all happen once, one of them does
-  pub some_once : (P : Type 0) (xs : List A) → Every (λ x. fate_of x ≡ Once → P) xs → all_happen (map fate_of xs) ≡ Once → P
+  pub some_once : (P : Type 0) (xs : List A) → Every (λ x. fate_of x ≡ Once → P) xs → all_happen (map fate_of xs) ≡ Once
+      → P
   some_once P [] same h = absurd (cc)
   some_once P (x ∷ xs) same h =
-      elim (once_both (fate_of x) (all_happen (map fate_of xs)) h) [ inl e ↦ same.0 e | inr e ↦ some_once P xs same.1 e ]
+      elim (once_both (fate_of x) (all_happen (map fate_of xs)) h)
+      [ inl e ↦ same.0 e | inr e ↦ some_once P xs same.1 e ]
 
-  pub one_once : (P : Type 0) (xs : List A) → Every (λ x. fate_of x ≡ Once → P) xs → one_happens (map fate_of xs) ≡ Once → P
+  pub one_once : (P : Type 0) (xs : List A) → Every (λ x. fate_of x ≡ Once → P) xs → one_happens (map fate_of xs) ≡ Once
+      → P
   one_once P [] same h = absurd (cc)
   one_once P (x ∷ []) same h = same.0 h
   one_once P (x ∷ y ∷ xs) same h = same.0 (once_either (fate_of x) (one_happens (map fate_of (y ∷ xs))) h)
 
   -- a choice that isn't wrong doesn't matter
-  pub any_choice : (xs : List A) (n : ℕ) (x : A) → slice_get xs n ≡ Some x → IsGood (one_happens (map fate_of xs)) → fate_of x ≡ one_happens (map fate_of xs)
+  pub any_choice : (xs : List A) (n : ℕ) (x : A) → slice_get xs n ≡ Some x → IsGood (one_happens (map fate_of xs))
+      → fate_of x ≡ one_happens (map fate_of xs)
   any_choice [] n x h good = absurd (cc)
   any_choice (y ∷ []) zero x h good = let e : x ≡ y = cc in ap fate_of e
   any_choice (y ∷ []) (suc n) x h good = absurd (cc)

@@ -28,16 +28,25 @@ use Rattle.fx_leaf.proofs.Ranks.{is_fate}
 use Rattle.fx_leaf.proofs.Trees.{sound_wanted}
 use Rattle.fx_leaf.proofs.OpeningQuantity.{opens, empty_weighs, plain_weight, plain_weighs, plain_modulo, total_modulo, plain_not_wrong}
 
-all_wanted : (net : Net) (classes : List Class) (packets : List Packet) → AllAsWanted net classes → All (λ p. IsOf p (entry_numbered classes p.class)) packets → Every (λ p. packet_fate net p.fields (path classes p) ≡ wanted_fate (exempts (entry_numbered classes p.class))) packets
+all_wanted : (net : Net) (classes : List Class) (packets : List Packet) → AllAsWanted net classes
+    → All (λ p. IsOf p (entry_numbered classes p.class)) packets
+    → Every (λ p. packet_fate net p.fields (path classes p) ≡ wanted_fate (exempts (entry_numbered classes p.class)))
+    packets
 all_wanted net classes [] sound h = tt
-all_wanted net classes (p ∷ ps) sound h =
-    (by_class (entry_numbered classes p.class) refl (h 0 p (omega arith)), all_wanted net classes ps sound (λ k. λ d. λ lt. h (suc k) d (omega arith)))
+all_wanted net classes (p ∷ ps) sound h = (
+  by_class (entry_numbered classes p.class) refl (h 0 p (omega arith)),
+  all_wanted net classes ps sound
+      (λ k. λ d. λ lt. h (suc k) d (omega arith)),
+)
   where
-    by_path : (class : Class) (o : Option (List Crossing)) → entry_numbered classes p.class ≡ Some class → entry_numbered class.paths p.path ≡ o → holds class.region p.fields ≡ true → o ≢ None → packet_fate net p.fields (entries o) ≡ wanted_fate class.exempt
+    by_path : (class : Class) (o : Option (List Crossing)) → entry_numbered classes p.class ≡ Some class
+        → entry_numbered class.paths p.path ≡ o → holds class.region p.fields ≡ true → o ≢ None
+        → packet_fate net p.fields (entries o) ≡ wanted_fate class.exempt
     by_path class None c m r some = absurd (some refl)
     by_path class (Some crossings) c m r some = sound p.class p.path class crossings p.fields c m r
 
-    by_class : (o : Option Class) → entry_numbered classes p.class ≡ o → IsOf p o → packet_fate net p.fields (entries (entry_numbered (paths_of o) p.path)) ≡ wanted_fate (exempts o)
+    by_class : (o : Option Class) → entry_numbered classes p.class ≡ o → IsOf p o
+        → packet_fate net p.fields (entries (entry_numbered (paths_of o) p.path)) ≡ wanted_fate (exempts o)
     by_class None c of = absurd of
     by_class (Some class) c of = by_path class (entry_numbered class.paths p.path) c refl of.0 of.1
 
@@ -53,11 +62,14 @@ none_unassigned (suc n) w h = absurd (h refl)
 
 pub opens_law : (net : Net) (classes : List Class) → IsNetwork net → AllAsWanted net classes → Opens net classes
 opens_law net classes is_net sound packets of fit total =
-    opens net is_net classes packets total (all_wanted net classes packets sound of) ∙ plain_weighs net.report_layout total (to_count classes packets) (fit total)
+    opens net is_net classes packets total (all_wanted net classes packets sound of)
+    ∙ plain_weighs net.report_layout total (to_count classes packets) (fit total)
 
-pub opens_modulo_law : (net : Net) (classes : List Class) → IsNetwork net → AllAsWanted net classes → OpensModulo net classes
+pub opens_modulo_law : (net : Net) (classes : List Class) → IsNetwork net → AllAsWanted net classes
+    → OpensModulo net classes
 opens_modulo_law net classes is_net sound packets of total =
-    ap wrapped_weight (opens net is_net classes packets total (all_wanted net classes packets sound of)) ∙ plain_modulo net.report_layout total (to_count classes packets)
+    ap wrapped_weight (opens net is_net classes packets total (all_wanted net classes packets sound of))
+    ∙ plain_modulo net.report_layout total (to_count classes packets)
 
 pub kept_law : (net : Net) (classes : List Class) (step : Step) → IsNetwork net → Keeps net classes step
 kept_law net classes step is_net packets total s new sized good h =
@@ -72,38 +84,56 @@ ends_law net classes packets total s complete =
     let at = fate net in
     let h = empty_weighs (held_weight at net total) s.held (λ n. refl) complete.nothing_held in
     let c = empty_weighs (carried_weight at net total) s.carried (λ n. refl) complete.nothing_carried in
-    let k : weigh_all (coming_weight at net classes packets total) s.coming ≡ Nothing = ap (weigh_all (coming_weight at net classes packets total)) complete.crossed in
+    let k : weigh_all (coming_weight at net classes packets total) s.coming ≡ Nothing =
+    ap (weigh_all (coming_weight at net classes packets total)) complete.crossed in
     let t = total_weight (total_at s.totals total) in
     ap (plus (unassigned_weight s.unassigned)) (ap (plus t) (ap₂ plus h (ap₂ plus c k)) ∙ plus_nothing t)
 
-module _ (net : Net) (is_net : IsNetwork net) (classes : List Class) (sound : AllAsWanted net classes) (packets : List Packet) (of : All (λ p. IsOf p (entry_numbered classes p.class)) packets) (steps : List Step) (final : State) (ran : run net classes packets steps (opening net classes packets) ≡ Ok final) (complete : Complete final) where
-  opening_is : (total : Key) → quantity net classes packets total (opening net classes packets) ≡ plain_weight net.report_layout total (to_count classes packets)
+module _ (net : Net) (is_net : IsNetwork net) (classes : List Class) (sound : AllAsWanted net classes)
+    (packets : List Packet) (of : All (λ p. IsOf p (entry_numbered classes p.class)) packets) (steps : List Step)
+    (final : State) (ran : run net classes packets steps (opening net classes packets) ≡ Ok final)
+    (complete : Complete final) where
+  opening_is : (total : Key) → quantity net classes packets total (opening net classes packets)
+      ≡ plain_weight net.report_layout total (to_count classes packets)
   opening_is total = opens net is_net classes packets total (all_wanted net classes packets sound of)
 
-  kept : (total : Key) → plus (unassigned_weight final.unassigned) (total_weight (total_at final.totals total)) ≡ plain_weight net.report_layout total (to_count classes packets)
+  kept : (total : Key) → plus (unassigned_weight final.unassigned) (total_weight (total_at final.totals total))
+      ≡ plain_weight net.report_layout total (to_count classes packets)
   kept total =
-      let good : quantity net classes packets total (opening net classes packets) ≢ Wrong = subst (λ q. q ≢ Wrong) (sym (opening_is total)) (plain_not_wrong net.report_layout total (to_count classes packets)) in
+      let good : quantity net classes packets total (opening net classes packets) ≢ Wrong =
+      subst (λ q. q ≢ Wrong) (sym (opening_is total))
+      (plain_not_wrong net.report_layout total (to_count classes packets)) in
       let sized = sized_law net classes packets in
-      sym (ends_law net classes packets total final complete) ∙ (run_keeps (fate net) net (is_fate net is_net.ranked) classes packets total steps (opening net classes packets) final good sized ran).kept ∙ opening_is total
+      sym (ends_law net classes packets total final complete)
+      ∙ (run_keeps (fate net) net (is_fate net is_net.ranked) classes packets total steps
+      (opening net classes packets) final good sized ran).kept ∙ opening_is total
 
   assigned : final.unassigned ≡ 0
   assigned =
       let total : Key = record { layout = []; values = [] } in
-      none_unassigned final.unassigned (total_weight (total_at final.totals total)) (subst (λ q. q ≢ Wrong) (sym (kept total)) (plain_not_wrong net.report_layout total (to_count classes packets)))
+      none_unassigned final.unassigned (total_weight (total_at final.totals total))
+      (subst (λ q. q ≢ Wrong) (sym (kept total))
+      (plain_not_wrong net.report_layout total (to_count classes packets)))
 
-  totals_weigh : (key : Key) → total_weight (total_at final.totals key) ≡ plain_weight net.report_layout key (to_count classes packets)
+  totals_weigh : (key : Key) → total_weight (total_at final.totals key)
+      ≡ plain_weight net.report_layout key (to_count classes packets)
   totals_weigh key =
       sym (ap (λ n. plus (unassigned_weight n) (total_weight (total_at final.totals key))) assigned) ∙ kept key
 
-  pub counts_each_once : SumsFit net.report_layout (to_count classes packets) → CountsEachOnce net (to_count classes packets) final
+  pub counts_each_once : SumsFit net.report_layout (to_count classes packets)
+      → CountsEachOnce net (to_count classes packets) final
   counts_each_once fit = record {
-    totals = λ key. same_total (total_at final.totals key) (plain_sum net.report_layout key (to_count classes packets)) (totals_weigh key ∙ plain_weighs net.report_layout key (to_count classes packets) (fit key));
+    totals = λ key. same_total (total_at final.totals key) (plain_sum net.report_layout key (to_count classes packets))
+        (totals_weigh key ∙ plain_weighs net.report_layout key (to_count classes packets) (fit key));
     assigned = assigned;
   }
 
   pub counts_each_modulo : CountsEachModulo net (to_count classes packets) final
   counts_each_modulo = record {
-    totals = λ key. same_total (option_map counts_modulo (total_at final.totals key)) (option_map counts_modulo (plain_sum net.report_layout key (to_count classes packets))) (total_modulo (total_at final.totals key) ∙ ap wrapped_weight (totals_weigh key) ∙ plain_modulo net.report_layout key (to_count classes packets));
+    totals = λ key. same_total (option_map counts_modulo (total_at final.totals key))
+        (option_map counts_modulo (plain_sum net.report_layout key (to_count classes packets)))
+        (total_modulo (total_at final.totals key) ∙ ap wrapped_weight (totals_weigh key)
+        ∙ plain_modulo net.report_layout key (to_count classes packets));
     assigned = assigned;
   }
 
@@ -111,10 +141,12 @@ module _ (net : Net) (is_net : IsNetwork net) (classes : List Class) (sound : Al
 pub exactly_once : Theorem
 exactly_once net classes trees is_net certified packets of fit final ran complete =
     let steps = steps_of net classes packets (opening net classes packets) final ran in
-    counts_each_once net is_net classes (sound_wanted net classes trees certified) packets of steps.0 final steps.1 complete fit
+    counts_each_once net is_net classes (sound_wanted net classes trees certified) packets of steps.0 final steps.1
+    complete fit
 
 -- and without a bound on the plain sums
 pub once_modulo : TheoremModulo
 once_modulo net classes trees is_net certified packets of final ran complete =
     let steps = steps_of net classes packets (opening net classes packets) final ran in
-    counts_each_modulo net is_net classes (sound_wanted net classes trees certified) packets of steps.0 final steps.1 complete
+    counts_each_modulo net is_net classes (sound_wanted net classes trees certified) packets of steps.0 final steps.1
+    complete

@@ -45,19 +45,24 @@ module _ {A : Type 0} (f : A → Verdict) where
   pub all_so : (xs : List A) → So (Some Never) xs 0
   all_so xs = never_joined (verdict_of_all (map f xs))
 
-  pub all_more : (joined : Verdict) (xs : List A) (k : ℕ) (d : A) → k < length xs → So joined xs k → So (verdict_of_both joined (f (get_or xs k d))) xs (k + 1)
+  pub all_more : (joined : Verdict) (xs : List A) (k : ℕ) (d : A) → k < length xs → So joined xs k
+      → So (verdict_of_both joined (f (get_or xs k d))) xs (k + 1)
   all_more joined xs k d lt h =
-      joined_assoc joined (f (get_or xs k d)) (verdict_of_all (map f (drop (k + 1) xs))) ∙ ap (λ ys. verdict_of_both joined (verdict_of_all (map f ys))) (sym (drop_here xs k d lt)) ∙ h
+      joined_assoc joined (f (get_or xs k d)) (verdict_of_all (map f (drop (k + 1) xs)))
+      ∙ ap (λ ys. verdict_of_both joined (verdict_of_all (map f ys))) (sym (drop_here xs k d lt)) ∙ h
 
   -- the same for the verdict on the element there
-  pub all_at : (joined now v : Verdict) (xs : List A) (k : ℕ) (x : A) → k < length xs → x ≡ get_or xs k x → v ≡ f x → now ≡ verdict_of_both joined v → So joined xs k → So now xs (k + 1)
+  pub all_at : (joined now v : Verdict) (xs : List A) (k : ℕ) (x : A) → k < length xs → x ≡ get_or xs k x → v ≡ f x
+      → now ≡ verdict_of_both joined v → So joined xs k → So now xs (k + 1)
   all_at joined now v xs k x lt is e j h =
       let here : now ≡ verdict_of_both joined (f (get_or xs k x)) = j ∙ ap (verdict_of_both joined) (e ∙ ap f is) in
       ap (λ w. verdict_of_both w (verdict_of_all (map f (drop (k + 1) xs)))) here ∙ all_more joined xs k x lt h
 
-  pub all_done : (joined : Verdict) (xs : List A) (k : ℕ) → length xs ≤ k → So joined xs k → joined ≡ verdict_of_all (map f xs)
+  pub all_done : (joined : Verdict) (xs : List A) (k : ℕ) → length xs ≤ k → So joined xs k → joined
+      ≡ verdict_of_all (map f xs)
   all_done joined xs k le h =
-      sym (joined_never joined) ∙ ap (λ ys. verdict_of_both joined (verdict_of_all (map f ys))) (sym (drop_none xs k le)) ∙ h
+      sym (joined_never joined) ∙ ap (λ ys. verdict_of_both joined (verdict_of_all (map f ys)))
+      (sym (drop_none xs k le)) ∙ h
 
 -- ---- either
 
@@ -188,13 +193,15 @@ either_assoc Unassigned Unassigned Many = refl
 either_assoc Unassigned Unassigned Differing = refl
 either_assoc Unassigned Unassigned Unassigned = refl
 
-chosen_assoc : (u v w : Verdict) → verdict_of_either (verdict_of_either u v) w ≡ verdict_of_either u (verdict_of_either v w)
+chosen_assoc : (u v w : Verdict) → verdict_of_either (verdict_of_either u v) w
+    ≡ verdict_of_either u (verdict_of_either v w)
 chosen_assoc None v w = refl
 chosen_assoc (Some f) None w = refl
 chosen_assoc (Some f) (Some g) None = refl
 chosen_assoc (Some f) (Some g) (Some h) = ap Some (either_assoc f g h)
 
-one_more_judged : (u v : Verdict) (vs : List Verdict) → verdict_of_one (verdict_of_either u v ∷ vs) ≡ verdict_of_one (u ∷ v ∷ vs)
+one_more_judged : (u v : Verdict) (vs : List Verdict) → verdict_of_one (verdict_of_either u v ∷ vs)
+    ≡ verdict_of_one (u ∷ v ∷ vs)
 one_more_judged u v [] = refl
 one_more_judged u v (w ∷ vs) = chosen_assoc u v (verdict_of_one (w ∷ vs))
 
@@ -203,11 +210,14 @@ module _ {A : Type 0} (f : A → Verdict) where
   abbrev pub OneSo : Verdict → Verdict → List A → ℕ → Type 0
   OneSo first joined xs k = verdict_of_one (joined ∷ map f (drop k xs)) ≡ verdict_of_one (first ∷ map f xs)
 
-  pub one_more : (first joined : Verdict) (xs : List A) (k : ℕ) (d : A) → k < length xs → OneSo first joined xs k → OneSo first (verdict_of_either joined (f (get_or xs k d))) xs (k + 1)
+  pub one_more : (first joined : Verdict) (xs : List A) (k : ℕ) (d : A) → k < length xs → OneSo first joined xs k
+      → OneSo first (verdict_of_either joined (f (get_or xs k d))) xs (k + 1)
   one_more first joined xs k d lt h =
-      one_more_judged joined (f (get_or xs k d)) (map f (drop (k + 1) xs)) ∙ ap (λ ys. verdict_of_one (joined ∷ map f ys)) (sym (drop_here xs k d lt)) ∙ h
+      one_more_judged joined (f (get_or xs k d)) (map f (drop (k + 1) xs))
+      ∙ ap (λ ys. verdict_of_one (joined ∷ map f ys)) (sym (drop_here xs k d lt)) ∙ h
 
-  pub one_done : (first joined : Verdict) (xs : List A) (k : ℕ) → length xs ≤ k → OneSo first joined xs k → joined ≡ verdict_of_one (first ∷ map f xs)
+  pub one_done : (first joined : Verdict) (xs : List A) (k : ℕ) → length xs ≤ k → OneSo first joined xs k → joined
+      ≡ verdict_of_one (first ∷ map f xs)
   one_done first joined xs k le h = ap (λ ys. verdict_of_one (joined ∷ map f ys)) (sym (drop_none xs k le)) ∙ h
 
 -- ---- the exporting processes at these places
@@ -215,14 +225,20 @@ module _ {A : Type 0} (f : A → Verdict) where
 abbrev pub at_place : {L : Type 0} → At L → Net → L → ℕ → Verdict
 at_place at net layout place = sent_verdict at net layout (before (slice_get net.exporters place) [])
 
-places_first : {L : Type 0} (at : At L) (net : Net) (layout : L) (o : Option Exporter) (es : List Exporter) → sent_verdict at net layout (before o es) ≡ verdict_of_both (sent_verdict at net layout (before o [])) (sent_verdict at net layout es)
+places_first : {L : Type 0} (at : At L) (net : Net) (layout : L) (o : Option Exporter) (es : List Exporter)
+    → sent_verdict at net layout (before o es)
+    ≡ verdict_of_both (sent_verdict at net layout (before o [])) (sent_verdict at net layout es)
 places_first at net layout None es = sym (never_joined (sent_verdict at net layout es))
-places_first at net layout (Some e) es = ap (λ v. verdict_of_both v (sent_verdict at net layout es)) (sym (joined_never (send_verdict at net layout e)))
+places_first at net layout (Some e) es =
+    ap (λ v. verdict_of_both v (sent_verdict at net layout es)) (sym (joined_never (send_verdict at net layout e)))
 
-pub places_joined : {L : Type 0} (at : At L) (net : Net) (layout : L) (places : List ℕ) → verdict_of_all (map (at_place at net layout) places) ≡ sent_verdict at net layout (at_places net.exporters places)
+pub places_joined : {L : Type 0} (at : At L) (net : Net) (layout : L) (places : List ℕ)
+    → verdict_of_all (map (at_place at net layout) places) ≡ sent_verdict at net layout (at_places net.exporters places)
 places_joined at net layout [] = refl
 places_joined at net layout (p ∷ ps) =
-    ap (verdict_of_both (at_place at net layout p)) (places_joined at net layout ps) ∙ sym (places_first at net layout (slice_get net.exporters p) (at_places net.exporters ps))
+    ap (verdict_of_both (at_place at net layout p)) (places_joined at net layout ps)
+    ∙ sym (places_first at net layout (slice_get net.exporters p) (at_places net.exporters ps))
 
-pub one_place : {L : Type 0} (at : At L) (net : Net) (layout : L) (e : Exporter) → send_verdict at net layout e ≡ sent_verdict at net layout (e ∷ [])
+pub one_place : {L : Type 0} (at : At L) (net : Net) (layout : L) (e : Exporter) → send_verdict at net layout e
+    ≡ sent_verdict at net layout (e ∷ [])
 one_place at net layout e = sym (joined_never (send_verdict at net layout e))

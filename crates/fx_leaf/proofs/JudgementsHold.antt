@@ -22,7 +22,8 @@ pub this_fate : (v : Verdict) (f g : Fate) → v ≡ Some f → f ≡ g → v �
 this_fate v f g is same = is ∙ ap Some same
 
 module _ (net : Net) (path : List Crossing) (region : Bounds) where
-  pub cut_judgement : (axis : Axis) (at : ℕ) → IsSplit net path region axis at → IsJudged net path region (judgements.Cut axis at)
+  pub cut_judgement : (axis : Axis) (at : ℕ) → IsSplit net path region axis at
+      → IsJudged net path region (judgements.Cut axis at)
   cut_judgement axis at split = (split_cuts net path region axis at split, split)
 
   module _ (is_net : IsNetwork net) (r : IsRegion region) (v : Verdict) (known : v ≡ path_verdict net region path) where
@@ -44,5 +45,7 @@ module _ (net : Net) (path : List Crossing) (region : Bounds) where
       pub once_judgement : (c : Counted) → o ≡ Some c → IsJudged net path region (judgements.Once c)
       once_judgement c this =
           let s = once_is_sound net path region is_net r (sym known ∙ is) in
-          let same : numbers_of (Some s.0) ≡ Some c = sym (names ∙ ap numbers_of s.1) ∙ this in
-          (subst (λ x. IfSome x (λ k. SoundLeaf net path region k.crossing k.point k.process)) same s.2, (fate_judgement Once is).1)
+          let same : numbers_of (Some s.0) ≡ Some c = sym (names ∙ ap numbers_of s.1) ∙ this in (
+            subst (λ x. IfSome x (λ k. SoundLeaf net path region k.crossing k.point k.process)) same s.2,
+            (fate_judgement Once is).1,
+          )

@@ -35,7 +35,8 @@ sure_parts v w s = let p = both_parts v w s.0 s.1 in ((p.one, p.one_is), (p.othe
 abbrev joint_verdict : List SelectionVerdict → Verdict
 joint_verdict ss = verdict_of_all (map (λ s. s.verdict) ss)
 
-pub sure_append : (xs ys : List SelectionVerdict) → Sure (joint_verdict (xs ++ ys)) → Sure (joint_verdict xs) × Sure (joint_verdict ys)
+pub sure_append : (xs ys : List SelectionVerdict) → Sure (joint_verdict (xs ++ ys)) → Sure (joint_verdict xs)
+    × Sure (joint_verdict ys)
 sure_append [] ys s = ((Never, refl), s)
 sure_append (x ∷ xs) ys s =
     let two = sure_parts x.verdict (joint_verdict (xs ++ ys)) s in
@@ -52,19 +53,25 @@ module _ (fate_of : Met → Fate) where
   abbrev pub Follow : List Met → List SelectionVerdict → Type 0
   Follow ms [] = ms ≡ []
   Follow ms (s ∷ ss) =
-      ((s.verdict ≡ Some Never) × Follow ms ss) ⊎ ((m : Met) × (rest : List Met) × (ms ≡ m ∷ rest) × (s.verdict ≡ Some (fate_of m)) × Names m s × Follow rest ss)
+      ((s.verdict ≡ Some Never) × Follow ms ss)
+      ⊎ ((m : Met) × (rest : List Met) × (ms ≡ m ∷ rest) × (s.verdict ≡ Some (fate_of m)) × Names m s
+      × Follow rest ss)
 
-  pub follow_append : (ms ns : List Met) (ss ts : List SelectionVerdict) → Follow ms ss → Follow ns ts → Follow (ms ++ ns) (ss ++ ts)
+  pub follow_append : (ms ns : List Met) (ss ts : List SelectionVerdict) → Follow ms ss → Follow ns ts
+      → Follow (ms ++ ns) (ss ++ ts)
   follow_append ms ns [] ts h k = subst (λ xs. Follow (xs ++ ns) ts) (sym h) k
   follow_append ms ns (s ∷ ss) ts (inl h) k = inl (h.0, follow_append ms ns ss ts h.1 k)
-  follow_append ms ns (s ∷ ss) ts (inr h) k = inr (h.0, h.1 ++ ns, ap (λ xs. xs ++ ns) h.2, h.3, h.4, follow_append h.1 ns ss ts h.5 k)
+  follow_append ms ns (s ∷ ss) ts (inr h) k =
+      inr (h.0, h.1 ++ ns, ap (λ xs. xs ++ ns) h.2, h.3, h.4, follow_append h.1 ns ss ts h.5 k)
 
-  pub follow_said : (ms : List Met) (ss : List SelectionVerdict) (f : Fate) → Follow ms ss → joint_verdict ss ≡ Some f → all_happen (map fate_of ms) ≡ f
+  pub follow_said : (ms : List Met) (ss : List SelectionVerdict) (f : Fate) → Follow ms ss → joint_verdict ss ≡ Some f
+      → all_happen (map fate_of ms) ≡ f
   follow_said ms [] f h e = ap (λ xs. all_happen (map fate_of xs)) h ∙ same_some e
   follow_said ms (s ∷ ss) f (inl h) e =
       let p = both_parts s.verdict (joint_verdict ss) f e in
       let one : p.one ≡ Never = same_some (sym p.one_is ∙ h.0) in
-      follow_said ms ss p.other h.1 p.other_is ∙ sym (never_both p.other) ∙ ap (λ x. both x p.other) (sym one) ∙ p.joined
+      follow_said ms ss p.other h.1 p.other_is ∙ sym (never_both p.other) ∙ ap (λ x. both x p.other) (sym one)
+      ∙ p.joined
   follow_said ms (s ∷ ss) f (inr h) e =
       let p = both_parts s.verdict (joint_verdict ss) f e in
       let one : fate_of h.0 ≡ p.one = same_some (sym h.3 ∙ p.one_is) in
@@ -82,7 +89,8 @@ module _ (fate_of : Met → Fate) where
     pub never_before : Every (λ m. fate_of m ≡ Never) before
     pub never_after : Every (λ m. fate_of m ≡ Never) after
 
-  never_followed : (ms : List Met) (ss : List SelectionVerdict) → Follow ms ss → joint_verdict ss ≡ Some Never → Every (λ m. fate_of m ≡ Never) ms
+  never_followed : (ms : List Met) (ss : List SelectionVerdict) → Follow ms ss → joint_verdict ss ≡ Some Never
+      → Every (λ m. fate_of m ≡ Never) ms
   never_followed ms [] h e = subst (Every (λ m. fate_of m ≡ Never)) (sym h) tt
   never_followed ms (s ∷ ss) (inl h) e =
       let p = both_parts s.verdict (joint_verdict ss) Never e in
@@ -90,19 +98,23 @@ module _ (fate_of : Met → Fate) where
   never_followed ms (s ∷ ss) (inr h) e =
       let p = both_parts s.verdict (joint_verdict ss) Never e in
       let two = both_never p.one p.other p.joined in
-      subst (Every (λ m. fate_of m ≡ Never)) (sym h.2) (same_some (sym h.3 ∙ p.one_is) ∙ two.0, never_followed h.1 ss h.5 (p.other_is ∙ ap Some two.1))
+      subst (Every (λ m. fate_of m ≡ Never)) (sym h.2)
+      (same_some (sym h.3 ∙ p.one_is) ∙ two.0, never_followed h.1 ss h.5 (p.other_is ∙ ap Some two.1))
 
   -- the one that is counted
-  pub one_counted : (found : Option SelectionVerdict) (ms : List Met) (ss : List SelectionVerdict) → Follow ms ss → joint_verdict ss ≡ Some Once → (s : SelectionVerdict) × (last_counter found ss ≡ Some s) × OneOf ms s
+  pub one_counted : (found : Option SelectionVerdict) (ms : List Met) (ss : List SelectionVerdict) → Follow ms ss
+      → joint_verdict ss ≡ Some Once → (s : SelectionVerdict) × (last_counter found ss ≡ Some s) × OneOf ms s
   one_counted found ms [] h e = absurd (cc)
   one_counted found ms (s ∷ ss) h e =
       let p = both_parts s.verdict (joint_verdict ss) Once e in
       by_head h p (both_once p.one p.other p.joined) (λ xs. λ k. λ j. one_counted found xs ss k j)
     where
-      next : (v : Verdict) → s.verdict ≡ v → last_counter found (s ∷ ss) ≡ last_counter (if is_once v then Some s else found) ss
+      next : (v : Verdict) → s.verdict ≡ v → last_counter found (s ∷ ss)
+          ≡ last_counter (if is_once v then Some s else found) ss
       next v is = ap (λ w. last_counter (if is_once w then Some s else found) ss) is
 
-      in_front : (m : Met) (rest : List Met) (t : SelectionVerdict) → fate_of m ≡ Never → ms ≡ m ∷ rest → OneOf rest t → OneOf ms t
+      in_front : (m : Met) (rest : List Met) (t : SelectionVerdict) → fate_of m ≡ Never → ms ≡ m ∷ rest → OneOf rest t
+          → OneOf ms t
       in_front m rest t never is one = record {
         before = m ∷ one.before;
         named = one.named;
@@ -114,7 +126,11 @@ module _ (fate_of : Met → Fate) where
         never_after = one.never_after;
       }
 
-      by_head : Follow ms (s ∷ ss) → (p : Parts both s.verdict (joint_verdict ss) Once) → ((p.one ≡ Once) × (p.other ≡ Never)) ⊎ ((p.one ≡ Never) × (p.other ≡ Once)) → ((xs : List Met) → Follow xs ss → joint_verdict ss ≡ Some Once → (t : SelectionVerdict) × (last_counter found ss ≡ Some t) × OneOf xs t) → (t : SelectionVerdict) × (last_counter found (s ∷ ss) ≡ Some t) × OneOf ms t
+      by_head : Follow ms (s ∷ ss) → (p : Parts both s.verdict (joint_verdict ss) Once)
+          → ((p.one ≡ Once) × (p.other ≡ Never)) ⊎ ((p.one ≡ Never) × (p.other ≡ Once))
+          → ((xs : List Met) → Follow xs ss → joint_verdict ss ≡ Some Once → (t : SelectionVerdict)
+          × (last_counter found ss ≡ Some t) × OneOf xs t) → (t : SelectionVerdict)
+          × (last_counter found (s ∷ ss) ≡ Some t) × OneOf ms t
       by_head (inl h) p (inl two) rest =
           let clash : Some Once ≡ Some Never = ap Some (sym two.0) ∙ sym p.one_is ∙ h.0 in absurd (cc)
       by_head (inl h) p (inr two) rest =
@@ -137,70 +153,125 @@ module _ (fate_of : Met → Fate) where
           )
       by_head (inr h) p (inr two) rest =
           let found' = rest h.1 h.5 (p.other_is ∙ ap Some two.1) in
-          let never : fate_of h.0 ≡ Never = same_some (sym h.3 ∙ p.one_is) ∙ two.0 in
-          (found'.0, next (Some Never) (p.one_is ∙ ap Some two.0) ∙ found'.1, in_front h.0 h.1 found'.0 never h.2 found'.2)
+          let never : fate_of h.0 ≡ Never = same_some (sym h.3 ∙ p.one_is) ∙ two.0 in (
+            found'.0,
+            next (Some Never) (p.one_is ∙ ap Some two.0)
+                ∙ found'.1,
+            in_front h.0 h.1 found'.0 never h.2 found'.2,
+          )
 
 -- ---- verdicts follow the occurrences
 
-module _ (net : Net) (fits : (holder : ℕ) → Fits (layout_of (slice_get net.holders holder))) (region : Bounds) (is_region : IsRegion region) (fields : Fields) (here : holds region fields ≡ true) where
+module _ (net : Net) (fits : (holder : ℕ) → Fits (layout_of (slice_get net.holders holder))) (region : Bounds)
+    (is_region : IsRegion region) (fields : Fields) (here : holds region fields ≡ true) where
   abbrev at_crossing : ℕ → Occurrence → Met
   at_crossing c o = record { crossing = c; occurrence = o }
 
   abbrev F : List Met → List SelectionVerdict → Type 0
   F = Follow (met_fate net fields)
 
-  if_followed : (c n p holder : ℕ) (selected : Option Bounds) (o : Overlap) → selection_overlap region selected ≡ o → Sure (verdict_of_both (overlap_verdict o (holder_verdict (verdict net region) net holder)) (Some Never)) → F (map (at_crossing c) (if selects selected fields then occurrence n p (Some holder) else [])) (record { crossing = c; point = n; process = p; verdict = overlap_verdict o (holder_verdict (verdict net region) net holder) } ∷ [])
+  if_followed : (c n p holder : ℕ) (selected : Option Bounds) (o : Overlap) → selection_overlap region selected ≡ o
+      → Sure (verdict_of_both (overlap_verdict o (holder_verdict (verdict net region) net holder)) (Some Never))
+      → F (map (at_crossing c) (if selects selected fields then occurrence n p (Some holder) else []))
+      (record {
+        crossing = c;
+        point = n;
+        process = p;
+        verdict =
+            overlap_verdict o (holder_verdict (verdict net region) net holder);
+      } ∷ [])
   if_followed c n p holder selected Part e sure = let k = sure.1 in absurd (cc)
   if_followed c n p holder selected Whole e sure =
       let on = (selection_overlap_is region selected is_region).whole e fields here in
       let v = holder_verdict (verdict net region) net holder in
       let own = (sure_parts v (Some Never) sure).0 in
-      let said = holder_said net fits region is_region fields here (verdict net region) (fate net) (verdict_says net fits region is_region fields here) holder own.0 own.1 in
+      let said = holder_said net fits region is_region fields here (verdict net region) (fate net)
+      (verdict_says net fits region is_region fields here) holder own.0 own.1 in
       let met : Met = at_crossing c (record { point = n; process = p; holder = holder }) in
-      inr (met, [], ap (λ t. map (at_crossing c) (cond t (occurrence n p (Some holder)) [])) on, own.1 ∙ ap Some (sym said), record { crossing_is = refl; point_is = refl; process_is = refl }, refl)
+      inr (
+        met,
+        [],
+        ap (λ t. map (at_crossing c) (cond t (occurrence n p (Some holder)) [])) on,
+        own.1
+            ∙ ap Some (sym said),
+        record { crossing_is = refl; point_is = refl; process_is = refl },
+        refl,
+      )
   if_followed c n p holder selected Nothing e sure =
       let off = (selection_overlap_is region selected is_region).nothing e fields here in
       inl (refl, ap (λ t. map (at_crossing c) (cond t (occurrence n p (Some holder)) [])) off)
 
-  selection_followed : (c n p : ℕ) (selected : Option Bounds) (holder : Option ℕ) → Sure (verdict_of_all (map (λ s. s.verdict) (selection_verdicts (verdict net region) net region c n p selected holder))) → F (map (at_crossing c) (if selects selected fields then occurrence n p holder else [])) (selection_verdicts (verdict net region) net region c n p selected holder)
+  selection_followed : (c n p : ℕ) (selected : Option Bounds) (holder : Option ℕ)
+      → Sure (verdict_of_all (map (λ s. s.verdict)
+      (selection_verdicts (verdict net region) net region c n p selected holder)))
+      → F (map (at_crossing c) (if selects selected fields then occurrence n p holder else []))
+      (selection_verdicts (verdict net region) net region c n p selected holder)
   selection_followed c n p selected None sure =
       elim (selects selected fields) as (λ t. map (at_crossing c) (cond t [] []) ≡ []) [ true ↦ refl | false ↦ refl ]
-  selection_followed c n p selected (Some holder) sure = if_followed c n p holder selected (selection_overlap region selected) refl sure
+  selection_followed c n p selected (Some holder) sure =
+      if_followed c n p holder selected (selection_overlap region selected) refl sure
 
-  by_followed : (c n p : ℕ) (ss : List Selection) → Sure (verdict_of_all (map (λ s. s.verdict) (point_verdicts (verdict net region) net region c n p ss))) → F (map (at_crossing c) (met_by n p ss fields)) (point_verdicts (verdict net region) net region c n p ss)
+  by_followed : (c n p : ℕ) (ss : List Selection)
+      → Sure (verdict_of_all (map (λ s. s.verdict) (point_verdicts (verdict net region) net region c n p ss)))
+      → F (map (at_crossing c) (met_by n p ss fields)) (point_verdicts (verdict net region) net region c n p ss)
   by_followed c n p [] sure = refl
   by_followed c n p (s ∷ ss) sure =
       let seen = selection_verdicts (verdict net region) net region c n p s.region s.holder in
       let more = point_verdicts (verdict net region) net region c n (p + 1) ss in
       let met = if selects s.region fields then occurrence n p s.holder else [] in
       let two = sure_append seen more sure in
-      subst (λ ms. F ms (seen ++ more)) (sym (map_append' (at_crossing c) met (met_by n (p + 1) ss fields))) (follow_append (met_fate net fields) (map (at_crossing c) met) (map (at_crossing c) (met_by n (p + 1) ss fields)) seen more (selection_followed c n p s.region s.holder two.0) (by_followed c n (p + 1) ss two.1))
+      subst (λ ms. F ms (seen ++ more)) (sym (map_append' (at_crossing c) met (met_by n (p + 1) ss fields)))
+      (follow_append (met_fate net fields) (map (at_crossing c) met)
+      (map (at_crossing c) (met_by n (p + 1) ss fields)) seen more
+      (selection_followed c n p s.region s.holder two.0) (by_followed c n (p + 1) ss two.1))
 
-  at_followed : (c n : ℕ) (points : List Point) (crossing : Crossing) → Sure (verdict_of_all (map (λ s. s.verdict) (crossing_verdicts (verdict net region) net region c n points crossing))) → F (map (at_crossing c) (met_at n points crossing fields)) (crossing_verdicts (verdict net region) net region c n points crossing)
+  at_followed : (c n : ℕ) (points : List Point) (crossing : Crossing)
+      → Sure (verdict_of_all (map (λ s. s.verdict)
+      (crossing_verdicts (verdict net region) net region c n points crossing)))
+      → F (map (at_crossing c) (met_at n points crossing fields))
+      (crossing_verdicts (verdict net region) net region c n points crossing)
   at_followed c n [] crossing sure = refl
   at_followed c n (point ∷ points) crossing sure =
-      let seen = if watches point crossing then point_verdicts (verdict net region) net region c n 1 point.selections else [] in
+      let seen = if watches point crossing then point_verdicts (verdict net region) net region c n 1 point.selections
+      else [] in
       let more = crossing_verdicts (verdict net region) net region c (n + 1) points crossing in
       let met = if watches point crossing then met_by n 1 point.selections fields else [] in
       let two = sure_append seen more sure in
-      let first : F (map (at_crossing c) met) seen = elim (watches point crossing) as (λ t. Sure (verdict_of_all (map (λ s. s.verdict) (cond t (point_verdicts (verdict net region) net region c n 1 point.selections) []))) → F (map (at_crossing c) (cond t (met_by n 1 point.selections fields) [])) (cond t (point_verdicts (verdict net region) net region c n 1 point.selections) [])) [
+      let first : F (map (at_crossing c) met) seen =
+      elim (watches point crossing) as (λ t. Sure
+      (verdict_of_all (map (λ s. s.verdict) (cond t
+      (point_verdicts (verdict net region) net region c n 1 point.selections) [])))
+      → F (map (at_crossing c) (cond t (met_by n 1 point.selections fields) []))
+      (cond t (point_verdicts (verdict net region) net region c n 1 point.selections) [])) [
         | true ↦ λ k. by_followed c n 1 point.selections k
         | false ↦ λ k. refl
       ] two.0 in
-      subst (λ ms. F ms (seen ++ more)) (sym (map_append' (at_crossing c) met (met_at (n + 1) points crossing fields))) (follow_append (met_fate net fields) (map (at_crossing c) met) (map (at_crossing c) (met_at (n + 1) points crossing fields)) seen more first (at_followed c (n + 1) points crossing two.1))
+      subst (λ ms. F ms (seen ++ more)) (sym (map_append' (at_crossing c) met (met_at (n + 1) points crossing fields)))
+      (follow_append (met_fate net fields) (map (at_crossing c) met)
+      (map (at_crossing c) (met_at (n + 1) points crossing fields)) seen more first
+      (at_followed c (n + 1) points crossing two.1))
 
-  pub along_followed : (c : ℕ) (path : List Crossing) → Sure (verdict_of_all (map (λ s. s.verdict) (path_verdicts (verdict net region) net region c path))) → F (met_along net fields c path) (path_verdicts (verdict net region) net region c path)
+  pub along_followed : (c : ℕ) (path : List Crossing)
+      → Sure (verdict_of_all (map (λ s. s.verdict) (path_verdicts (verdict net region) net region c path)))
+      → F (met_along net fields c path) (path_verdicts (verdict net region) net region c path)
   along_followed c [] sure = refl
   along_followed c (crossing ∷ path) sure =
-      let seen = crossing_verdicts (verdict net region) net region c 1 (points_of (entry_numbered net.devices crossing.device)) crossing in
+      let seen = crossing_verdicts (verdict net region) net region c 1
+      (points_of (entry_numbered net.devices crossing.device)) crossing in
       let more = path_verdicts (verdict net region) net region (c + 1) path in
       let two = sure_append seen more sure in
-      follow_append (met_fate net fields) (map (at_crossing c) (occurrences net crossing fields)) (met_along net fields (c + 1) path) seen more (at_followed c 1 (points_of (entry_numbered net.devices crossing.device)) crossing two.0) (along_followed (c + 1) path two.1)
+      follow_append (met_fate net fields) (map (at_crossing c) (occurrences net crossing fields))
+      (met_along net fields (c + 1) path) seen more
+      (at_followed c 1 (points_of (entry_numbered net.devices crossing.device)) crossing two.0)
+      (along_followed (c + 1) path two.1)
 
   -- the verdict is the fate of the packet
-  pub packet_said : (path : List Crossing) (f : Fate) → path_verdict net region path ≡ Some f → packet_fate net fields path ≡ f
+  pub packet_said : (path : List Crossing) (f : Fate) → path_verdict net region path ≡ Some f
+      → packet_fate net fields path ≡ f
   packet_said path f e =
-      sym (ap all_happen (fates_along net fields 1 path)) ∙ follow_said (met_fate net fields) (met_along net fields 1 path) (path_verdicts (verdict net region) net region 1 path) f (along_followed 1 path (f, e)) e
+      sym (ap all_happen (fates_along net fields 1 path))
+      ∙ follow_said (met_fate net fields) (met_along net fields 1 path)
+      (path_verdicts (verdict net region) net region 1 path) f (along_followed 1 path (f, e)) e
 
   every_all : {A : Type 0} (P : A → Type 0) (xs : List A) → Every P xs → All P xs
   every_all P [] h k d lt = absurd (omega arith)
@@ -208,9 +279,11 @@ module _ (net : Net) (fits : (holder : ℕ) → Fits (layout_of (slice_get net.h
   every_all P (x ∷ xs) h (suc k) d lt = every_all P xs h.1 k d (le_of_suc-le-suc lt)
 
   -- and where it is once, the counter counts the packet
-  pub packet_counted : (path : List Crossing) → path_verdict net region path ≡ Some Once → (s : SelectionVerdict) × (counter net region path ≡ Some s) × OneCounted net path s.crossing s.point s.process fields
+  pub packet_counted : (path : List Crossing) → path_verdict net region path ≡ Some Once → (s : SelectionVerdict)
+      × (counter net region path ≡ Some s) × OneCounted net path s.crossing s.point s.process fields
   packet_counted path e =
-      let one = one_counted (met_fate net fields) None (met_along net fields 1 path) (path_verdicts (verdict net region) net region 1 path) (along_followed 1 path (Once, e)) e in
+      let one = one_counted (met_fate net fields) None (met_along net fields 1 path)
+      (path_verdicts (verdict net region) net region 1 path) (along_followed 1 path (Once, e)) e in
       let of = one.2 in (
         one.0,
         one.1,

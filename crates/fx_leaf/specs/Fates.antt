@@ -11,7 +11,8 @@ use Rattle.fx_machine.specs.Steps.{crossing_acts, coming_to}
 
 -- ---- combining fates
 
--- both happen: unassigned takes precedence over differing, differing over many; twice once is many; never leaves the other fate
+-- both happen: unassigned takes precedence over differing, differing over many; twice once is many; never leaves the
+-- other fate
 abbrev pub both : Fate → Fate → Fate
 both Unassigned g = Unassigned
 both f Unassigned = Unassigned

@@ -23,27 +23,37 @@ pub record IsSized (net : Net) (s : State) : Type 0 where
 -- in the opening state the quantity equals the plain sums over the packets to count
 abbrev pub Opens : Net → List Class → Type 0
 Opens net classes =
-    (packets : List Packet) → All (λ p. IsOf p (entry_numbered classes p.class)) packets → SumsFit net.report_layout (to_count classes packets) → (total : Key) → quantity net classes packets total (opening net classes packets) ≡ total_weight (plain_sum net.report_layout total (to_count classes packets))
+    (packets : List Packet) → All (λ p. IsOf p (entry_numbered classes p.class)) packets
+    → SumsFit net.report_layout (to_count classes packets) → (total : Key)
+    → quantity net classes packets total (opening net classes packets)
+    ≡ total_weight (plain_sum net.report_layout total (to_count classes packets))
 
 -- the same modulo 2 to the 64, however large the sums are
 abbrev pub OpensModulo : Net → List Class → Type 0
 OpensModulo net classes =
-    (packets : List Packet) → All (λ p. IsOf p (entry_numbered classes p.class)) packets → (total : Key) → wrapped_weight (quantity net classes packets total (opening net classes packets)) ≡ total_weight (option_map counts_modulo (plain_sum net.report_layout total (to_count classes packets)))
+    (packets : List Packet) → All (λ p. IsOf p (entry_numbered classes p.class)) packets → (total : Key)
+    → wrapped_weight (quantity net classes packets total (opening net classes packets))
+    ≡ total_weight (option_map counts_modulo (plain_sum net.report_layout total (to_count classes packets)))
 
 -- a step preserves the quantity, unless it was wrong before
 abbrev pub Keeps : Net → List Class → Step → Type 0
 Keeps net classes step =
-    (packets : List Packet) (total : Key) (s new : State) → IsSized net s → quantity net classes packets total s ≢ Wrong → after net classes packets step s ≡ Ok new → (quantity net classes packets total new ≡ quantity net classes packets total s) × IsSized net new
+    (packets : List Packet) (total : Key) (s new : State) → IsSized net s → quantity net classes packets total s ≢ Wrong
+    → after net classes packets step s ≡ Ok new
+    → (quantity net classes packets total new ≡ quantity net classes packets total s) × IsSized net new
 
 -- in a complete state the quantity equals the totals
 abbrev pub Ends : Net → List Class → Type 0
 Ends net classes =
-    (packets : List Packet) (total : Key) (s : State) → Complete s → quantity net classes packets total s ≡ plus (unassigned_weight s.unassigned) (total_weight (total_at s.totals total))
+    (packets : List Packet) (total : Key) (s : State) → Complete s → quantity net classes packets total s
+    ≡ plus (unassigned_weight s.unassigned) (total_weight (total_at s.totals total))
 
 -- if a certificate is sound, each packet is counted once, and packets of exempt classes never
 abbrev pub Theorem : Type 0
-Theorem = (net : Net) (classes : List Class) (trees : List (List Tree)) → IsNetwork net → Sound net classes trees → ExactlyOnce net classes
+Theorem = (net : Net) (classes : List Class) (trees : List (List Tree)) → IsNetwork net → Sound net classes trees
+    → ExactlyOnce net classes
 
 -- the same modulo 2 to the 64, however large the sums are
 abbrev pub TheoremModulo : Type 0
-TheoremModulo = (net : Net) (classes : List Class) (trees : List (List Tree)) → IsNetwork net → Sound net classes trees → OnceModulo net classes
+TheoremModulo = (net : Net) (classes : List Class) (trees : List (List Tree)) → IsNetwork net → Sound net classes trees
+    → OnceModulo net classes

@@ -22,10 +22,12 @@ numbers_of (Some s) = Some (record { crossing = s.crossing; point = s.point; pro
 abbrev pub nothing_known : PathFate
 nothing_known = record { fate = Never; counted = None }
 
--- the state after adding these verdicts, none of which is cut: their combination, and the last selection process with verdict `Once`
+-- the state after adding these verdicts, none of which is cut: their combination, and the last selection process with
+-- verdict `Once`
 pub record AddsVerdicts (before after : PathFate) (verdicts : List SelectionVerdict) : Type 0 where
   pub verdict : Some after.fate ≡ verdict_of_both (Some before.fate) (verdict_of_all (map (λ s. s.verdict) verdicts))
-  pub counted : (found : Option SelectionVerdict) → before.counted ≡ numbers_of found → after.counted ≡ numbers_of (last_counter found verdicts)
+  pub counted : (found : Option SelectionVerdict) → before.counted ≡ numbers_of found → after.counted
+      ≡ numbers_of (last_counter found verdicts)
 
 -- the fate of a region's packets on a path and, if they are counted once, the selection process that counts them
 pub record IsPathFate (net : Net) (path : List Crossing) (region : Bounds) (t : PathFate) : Type 0 where
@@ -60,10 +62,14 @@ path_leaf net path region = leaf_of (path_verdict net region path) (numbers_of (
 -- why no leaf is sound for the region, as a fault number
 pub data NoneIsSound (net : Net) (path : List Crossing) (region : Bounds) : Fault → Type 0 where
   cut : (NothingCuts net path region → ⊥) → NoneIsSound net path region (fault_at cut_region places.None)
-  unassigned : NothingCuts net path region → AllHave net path region Unassigned → NoneIsSound net path region (fault_at unassigned_record places.None)
-  differing : NothingCuts net path region → AllHave net path region Differing → NoneIsSound net path region (fault_at destinations_differ places.None)
-  many : NothingCuts net path region → AllHave net path region Many → NoneIsSound net path region (fault_at counted_more_than_once places.None)
-  never : NothingCuts net path region → AllHave net path region Never → NoneIsSound net path region (fault_at never_counted places.None)
+  unassigned : NothingCuts net path region → AllHave net path region Unassigned
+      → NoneIsSound net path region (fault_at unassigned_record places.None)
+  differing : NothingCuts net path region → AllHave net path region Differing
+      → NoneIsSound net path region (fault_at destinations_differ places.None)
+  many : NothingCuts net path region → AllHave net path region Many
+      → NoneIsSound net path region (fault_at counted_more_than_once places.None)
+  never : NothingCuts net path region → AllHave net path region Never
+      → NoneIsSound net path region (fault_at never_counted places.None)
 
 -- ---- the answer for exempt packets
 
@@ -79,7 +85,11 @@ never_of (Some Never) = Ok tt
 -- why some packets of a region are counted, as a fault number
 pub data NeverIsUnsound (net : Net) (path : List Crossing) (region : Bounds) : Fault → Type 0 where
   cut : (NothingCuts net path region → ⊥) → NeverIsUnsound net path region (fault_at cut_region places.None)
-  unassigned : NothingCuts net path region → AllHave net path region Unassigned → NeverIsUnsound net path region (fault_at unassigned_record places.None)
-  differing : NothingCuts net path region → AllHave net path region Differing → NeverIsUnsound net path region (fault_at destinations_differ places.None)
-  many : NothingCuts net path region → AllHave net path region Many → NeverIsUnsound net path region (fault_at counted_more_than_once places.None)
-  once : NothingCuts net path region → AllHave net path region Once → NeverIsUnsound net path region (fault_at exempt_counted places.None)
+  unassigned : NothingCuts net path region → AllHave net path region Unassigned
+      → NeverIsUnsound net path region (fault_at unassigned_record places.None)
+  differing : NothingCuts net path region → AllHave net path region Differing
+      → NeverIsUnsound net path region (fault_at destinations_differ places.None)
+  many : NothingCuts net path region → AllHave net path region Many
+      → NeverIsUnsound net path region (fault_at counted_more_than_once places.None)
+  once : NothingCuts net path region → AllHave net path region Once
+      → NeverIsUnsound net path region (fault_at exempt_counted places.None)

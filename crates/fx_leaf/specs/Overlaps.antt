@@ -18,20 +18,27 @@ high_at b axis = slice_index b.high (axis_index axis)
 
 -- the intersection of two regions
 abbrev pub common : Bounds → Bounds → Bounds
-common a b = record { low = map (λ axis. max (low_at a axis) (low_at b axis)) axes; high = map (λ axis. min (high_at a axis) (high_at b axis)) axes }
+common a b = record {
+  low = map (λ axis. max (low_at a axis) (low_at b axis)) axes;
+  high =
+      map (λ axis. min (high_at a axis) (high_at b axis)) axes;
+}
 
 abbrev pub is_empty : Bounds → Bool
 is_empty b = list_any (λ axis. nat_lt (high_at b axis) (low_at b axis)) axes
 
 -- on each axis the first region is within the second
 abbrev pub is_within : Bounds → Bounds → Bool
-is_within a b = list_all (λ axis. nat_le (low_at b axis) (low_at a axis) && nat_le (high_at a axis) (high_at b axis)) axes
+is_within a b = list_all (λ axis. nat_le (low_at b axis) (low_at a axis) && nat_le (high_at a axis) (high_at b axis))
+    axes
 
 -- how much of a region is also in the other: only a part if the other cuts it
 abbrev pub region_overlap : Bounds → Bounds → Overlap
-region_overlap region other = if is_empty (common region other) then Nothing else if is_within region other then Whole else Part
+region_overlap region other = if is_empty (common region other) then Nothing else if is_within region other then Whole
+    else Part
 
--- how much of a region a selection process selects; the process selects either no packet or the packets of another region
+-- how much of a region a selection process selects; the process selects either no packet or the packets of another
+-- region
 abbrev pub selection_overlap : Bounds → Option Bounds → Overlap
 selection_overlap region None = Nothing
 selection_overlap region (Some other) = region_overlap region other

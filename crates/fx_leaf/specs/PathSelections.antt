@@ -7,7 +7,8 @@ use Rattle.fx_tables.specs.Network.{Net, Point, points_of}
 use Rattle.fx_base.specs.Entries.{entry_numbered}
 use Rattle.fx_tables.specs.Occurrences.{watches}
 
--- a selection process of a point that watches a crossing of the path, with the 1-based numbers of crossing, point and process
+-- a selection process of a point that watches a crossing of the path, with the 1-based numbers of crossing, point and
+-- process
 pub record PathSelection : Type 0 where
   pub crossing : ℕ
   pub point : ℕ
@@ -19,10 +20,12 @@ pub record PathSelection : Type 0 where
 abbrev pub point_selections : ℕ → ℕ → ℕ → List Selection → List PathSelection
 point_selections crossing point process [] = []
 point_selections crossing point process (s ∷ ss) =
-    record { crossing = crossing; point = point; process = process; selection = s } ∷ point_selections crossing point (process + 1) ss
+    record { crossing = crossing; point = point; process = process; selection = s }
+    ∷ point_selections crossing point (process + 1) ss
 
 abbrev pub watching_selections : ℕ → ℕ → Crossing → Point → List PathSelection
-watching_selections number n crossing point = if watches point crossing then point_selections number n 1 point.selections else []
+watching_selections number n crossing point =
+    if watches point crossing then point_selections number n 1 point.selections else []
 
 abbrev pub crossing_selections : ℕ → ℕ → List Point → Crossing → List PathSelection
 crossing_selections number n [] crossing = []
@@ -31,7 +34,8 @@ crossing_selections number n (point ∷ points) crossing =
 
 abbrev pub path_selections : Net → ℕ → List Crossing → List PathSelection
 path_selections net n [] = []
-path_selections net n (c ∷ cs) = crossing_selections n 1 (points_of (entry_numbered net.devices c.device)) c ++ path_selections net (n + 1) cs
+path_selections net n (c ∷ cs) = crossing_selections n 1 (points_of (entry_numbered net.devices c.device)) c
+    ++ path_selections net (n + 1) cs
 
 -- ---- selection processes that matter for a region
 
@@ -42,7 +46,8 @@ IsApart region s = (s.holder ≡ None) ⊎ ((other : Bounds) → s.region ≡ So
 -- all these selection processes from this index on are apart from the region
 abbrev pub IsNarrowed : List PathSelection → Bounds → ℕ → Type 0
 IsNarrowed selections region active =
-    (k : ℕ) (d : PathSelection) → active ≤ k → k < length selections → IsApart region (slice_index_or selections k d).selection
+    (k : ℕ) (d : PathSelection) → active ≤ k → k < length selections
+    → IsApart region (slice_index_or selections k d).selection
 
 -- each item has this number or more
 abbrev pub AllOver : {A : Type 0} → (A → ℕ) → ℕ → List A → Type 0
@@ -54,11 +59,13 @@ abbrev pub AllUnder : {A : Type 0} → (A → ℕ) → ℕ → List A → Type 0
 AllUnder active n [] = Unit {0}
 AllUnder active n (w ∷ ws) = (active w ≤ n) × AllUnder active n ws
 
--- regions, each with a number no greater than those before it: all selection processes from that number on are apart from the region
+-- regions, each with a number no greater than those before it: all selection processes from that number on are apart
+-- from the region
 abbrev pub AreNarrowed : {A : Type 0} → (A → Bounds) → (A → ℕ) → List PathSelection → List A → Type 0
 AreNarrowed region active selections [] = Unit {0}
 AreNarrowed region active selections (w ∷ ws) =
-    IsNarrowed selections (region w) (active w) × AllUnder active (active w) ws × AreNarrowed region active selections ws
+    IsNarrowed selections (region w) (active w) × AllUnder active (active w) ws
+    × AreNarrowed region active selections ws
 
 -- selection processes in some order, and the capacity of the list
 pub record SelectionRoom : Type 0 where

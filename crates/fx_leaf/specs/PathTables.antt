@@ -8,7 +8,8 @@ use Rattle.fx_leaf.specs.PathSelections.{PathSelection, path_selections}
 use Rattle.fx_leaf.specs.Tables.{Table, Tables}
 use Rattle.fx_leaf.specs.Reach.{HoldsAlongPath, IsClosed, IsFilled, IsMarked}
 
--- verdicts by collecting process, marks of the verdicts that are needed, whether these verdicts hold for every region, and the
+-- verdicts by collecting process, marks of the verdicts that are needed, whether these verdicts hold for every region,
+-- and the
 -- selection processes of the path, with the capacity of their list
 pub record PathTable : Type 0 where
   pub table : Table
@@ -33,7 +34,8 @@ HasNoMarkOrAggregation mark p = (mark ≡ 0) ⊎ (p.aggregations ≡ [])
 -- the same for each of these collecting processes
 abbrev pub TakeNoneIn : List Process → List ℕ → Type 0
 TakeNoneIn processes marks =
-    (process : ℕ) (p : Process) → slice_get processes process ≡ Some p → HasNoMarkOrAggregation (slice_index marks process) p
+    (process : ℕ) (p : Process) → slice_get processes process ≡ Some p
+    → HasNoMarkOrAggregation (slice_index marks process) p
 
 -- the path's marks are set, and the marked verdicts are filled in if they hold for every region
 pub record IsPathMarked (t : Tables) (path : List Crossing) (p : PathTable) : Type 0 where

@@ -62,19 +62,23 @@ act_weight at net total counts a = by_fate (act_fate at net a) (part_of net tota
 
 abbrev pub held_weight : FateAt → Net → Key → ℕ → List Record → Weight
 held_weight at net total holder records =
-    weigh_all (λ r. by_fate (held_fate at net r.key (slice_get net.holders holder)) (part_of net total r.key r.counts)) records
+    weigh_all (λ r. by_fate (held_fate at net r.key (slice_get net.holders holder)) (part_of net total r.key r.counts))
+    records
 
 abbrev pub carried_weight : FateAt → Net → Key → ℕ → List Record → Weight
 carried_weight at net total link records =
-    weigh_all (λ r. by_fate (process_fate at r.key (slice_get net.links link)) (part_of net total r.key r.counts)) records
+    weigh_all (λ r. by_fate (process_fate at r.key (slice_get net.links link)) (part_of net total r.key r.counts))
+    records
 
 abbrev pub packet_weight : FateAt → Net → List Class → Key → Option Packet → ℕ → Weight
 packet_weight at net classes total None crossing = Nothing
 packet_weight at net classes total (Some p) crossing =
-    weigh_all (act_weight at net total (one_packet p)) (crossing_acts net p.fields (entry_numbered (path classes p) crossing))
+    weigh_all (act_weight at net total (one_packet p))
+    (crossing_acts net p.fields (entry_numbered (path classes p) crossing))
 
 abbrev pub coming_weight : FateAt → Net → List Class → List Packet → Key → Coming → Weight
-coming_weight at net classes packets total c = packet_weight at net classes total (entry_numbered packets c.packet) c.crossing
+coming_weight at net classes packets total c =
+    packet_weight at net classes total (entry_numbered packets c.packet) c.crossing
 
 abbrev pub total_weight : Option Counts → Weight
 total_weight None = Nothing
@@ -90,11 +94,15 @@ abbrev pub unassigned_weight : ℕ → Weight
 unassigned_weight zero = Nothing
 unassigned_weight (suc n) = Wrong
 
--- the sum of the totals at a report key, each held record, each record on a link and each pending crossing; a record that
+-- the sum of the totals at a report key, each held record, each record on a link and each pending crossing; a record
+-- that
 -- is unassigned makes the sum wrong
 abbrev pub quantity_by : FateAt → Net → List Class → List Packet → Key → State → Weight
 quantity_by at net classes packets total s =
-    plus (unassigned_weight s.unassigned) (plus (total_weight (total_at s.totals total)) (plus (weigh_each (held_weight at net total) s.held) (plus (weigh_each (carried_weight at net total) s.carried) (weigh_all (coming_weight at net classes packets total) s.coming))))
+    plus (unassigned_weight s.unassigned) (plus (total_weight (total_at s.totals total))
+    (plus (weigh_each (held_weight at net total) s.held)
+    (plus (weigh_each (carried_weight at net total) s.carried)
+    (weigh_all (coming_weight at net classes packets total) s.coming))))
 
 abbrev pub quantity : Net → List Class → List Packet → Key → State → Weight
 quantity net = quantity_by (fate net) net

@@ -38,12 +38,15 @@ HoldsWhereSent net holds number exporters = (process : ℕ) → Feeds net export
 
 -- the property holds wherever the records of a holder are sent
 abbrev pub HoldsBehindHolder : Net → Numbering → (ℕ → ℕ → Type 0) → ℕ → Type 0
-HoldsBehindHolder net n holds holder = HoldsWhereSent net holds (number_of_layout n holder) (exporters_of net (slice_get net.holders holder))
+HoldsBehindHolder net n holds holder = HoldsWhereSent net holds (number_of_layout n holder)
+    (exporters_of net (slice_get net.holders holder))
 
--- the property holds wherever a collecting process sends records of the layout of this number, or its aggregations send theirs
+-- the property holds wherever a collecting process sends records of the layout of this number, or its aggregations send
+-- theirs
 abbrev pub HoldsBehindProcess : Net → Numbering → (ℕ → ℕ → Type 0) → ℕ → Process → Type 0
 HoldsBehindProcess net n holds number process =
-    HoldsWhereSent net holds number (at_places net.exporters process.exporters) × ((a : AggregationEntry) → Contains process.aggregations a → HoldsBehindHolder net n holds a.holder)
+    HoldsWhereSent net holds number (at_places net.exporters process.exporters)
+    × ((a : AggregationEntry) → Contains process.aggregations a → HoldsBehindHolder net n holds a.holder)
 
 abbrev pub HoldsBehind : Net → Numbering → (ℕ → ℕ → Type 0) → ℕ → Option Process → Type 0
 HoldsBehind net n holds number None = Unit {0}
@@ -54,7 +57,8 @@ abbrev pub HoldsBehindSelection : Net → Numbering → (ℕ → ℕ → Type 0)
 HoldsBehindSelection net n holds s = (holder : ℕ) → s.holder ≡ Some holder → HoldsBehindHolder net n holds holder
 
 abbrev pub HoldsBehindSelections : Net → Numbering → (ℕ → ℕ → Type 0) → List Selection → Type 0
-HoldsBehindSelections net n holds selections = (s : Selection) → Contains selections s → HoldsBehindSelection net n holds s
+HoldsBehindSelections net n holds selections = (s : Selection) → Contains selections s
+    → HoldsBehindSelection net n holds s
 
 abbrev pub HoldsBehindPoints : Net → Numbering → (ℕ → ℕ → Type 0) → List Point → Crossing → Type 0
 HoldsBehindPoints net n holds points crossing =
@@ -68,17 +72,20 @@ HoldsAlongPath net n holds path = (s : Selection) → Meets net path s → Holds
 -- if a layout is marked, so is every entry to which its records lead
 abbrev pub IsClosed : Net → Numbering → List ℕ → Type 0
 IsClosed net n marks =
-    (process number : ℕ) (p : Process) → IsMarked marks process number → slice_get net.processes process ≡ Some p → HoldsBehindProcess net n (IsMarked marks) number p
+    (process number : ℕ) (p : Process) → IsMarked marks process number → slice_get net.processes process ≡ Some p
+    → HoldsBehindProcess net n (IsMarked marks) number p
 
 -- the entry is the verdict
 abbrev pub IsVerdict : Net → Numbering → Bounds → Table → ℕ → ℕ → Type 0
 IsVerdict net n region table process number =
-    (layout : Layout) → slice_get n.layouts number ≡ Some layout → entry table process number ≡ verdict net region process layout
+    (layout : Layout) → slice_get n.layouts number ≡ Some layout → entry table process number
+    ≡ verdict net region process layout
 
 -- each marked entry has the value computed from the entries on which it depends
 abbrev pub Agrees : Net → Numbering → Bounds → List ℕ → Table → Type 0
 Agrees net n region marks table =
-    (process number : ℕ) (layout : Layout) → IsMarked marks process number → slice_get n.layouts number ≡ Some layout → entry table process number ≡ entry_from table net n region process number layout
+    (process number : ℕ) (layout : Layout) → IsMarked marks process number → slice_get n.layouts number ≡ Some layout
+    → entry table process number ≡ entry_from table net n region process number layout
 
 -- each marked entry is the verdict
 pub record IsFilled (net : Net) (n : Numbering) (region : Bounds) (marks : List ℕ) (table : Table) : Type 0 where
@@ -117,15 +124,18 @@ abbrev pub marks_by_holders : Net → Numbering → List ℕ → List ℕ → Li
 marks_by_holders net n marks [] = marks
 marks_by_holders net n marks (holder ∷ holders) = marks_by_holders net n (marks_by_holder net n marks holder) holders
 
--- the marks with the layouts marked at a collecting process added wherever it sends records, and those of its aggregations
+-- the marks with the layouts marked at a collecting process added wherever it sends records, and those of its
+-- aggregations
 abbrev pub marks_on : Net → Numbering → ℕ → List ℕ → Option Process → List ℕ
 marks_on net n layouts marks None = marks
 marks_on net n layouts marks (Some process) =
-    marks_by_holders net n (marks_by net layouts marks (at_places net.exporters process.exporters)) (map (λ a. a.holder) process.aggregations)
+    marks_by_holders net n (marks_by net layouts marks (at_places net.exporters process.exporters))
+    (map (λ a. a.holder) process.aggregations)
 
 abbrev pub marks_from : Net → Numbering → List ℕ → ℕ → List ℕ
 marks_from net n marks process =
-    if slice_index marks process == 0 then marks else marks_on net n (slice_index marks process) marks (slice_get net.processes process)
+    if slice_index marks process == 0 then marks else marks_on net n (slice_index marks process) marks
+    (slice_get net.processes process)
 
 -- the marks spread from these collecting processes, the last first
 abbrev pub spread : Net → Numbering → List ℕ → List ℕ → List ℕ
@@ -140,7 +150,8 @@ holders_by (s ∷ ss) = before s.holder (holders_by ss)
 
 abbrev pub holders_at : List Point → Crossing → List ℕ
 holders_at [] crossing = []
-holders_at (point ∷ points) crossing = (if watches point crossing then holders_by point.selections else []) ++ holders_at points crossing
+holders_at (point ∷ points) crossing = (if watches point crossing then holders_by point.selections else [])
+    ++ holders_at points crossing
 
 abbrev pub holders_along : Net → List Crossing → List ℕ
 holders_along net [] = []

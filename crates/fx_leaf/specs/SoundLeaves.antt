@@ -21,7 +21,8 @@ use Rattle.fx_leaf.specs.Fates.{act_fate, fate, acts_along}
 
 -- a test passes for all packets of the region, or for none of them
 abbrev pub Uncut : Bounds → (Fields → Bool) → Type 0
-Uncut region test = ((fields : Fields) → holds region fields ≡ true → test fields ≡ true) ⊎ ((fields : Fields) → holds region fields ≡ true → test fields ≡ false)
+Uncut region test = ((fields : Fields) → holds region fields ≡ true → test fields ≡ true)
+    ⊎ ((fields : Fields) → holds region fields ≡ true → test fields ≡ false)
 
 -- an exporting process sends a key to this collecting process through one of its destinations
 abbrev pub SentTo : Net → Exporter → Key → ℕ → Key → Type 0
@@ -32,31 +33,41 @@ abbrev pub LeadsTo : Net → Act → ℕ → Key → Type 0
 LeadsTo net (Tally key) process sent = ⊥
 LeadsTo net (Send exporter key) process sent = SentTo net exporter key process sent
 LeadsTo net (Hold holder key) process sent =
-    (exporter : Exporter) × Contains (exporters_of net (slice_get net.holders holder)) exporter × SentTo net exporter key process sent
+    (exporter : Exporter) × Contains (exporters_of net (slice_get net.holders holder)) exporter
+    × SentTo net exporter key process sent
 
 -- for some choices a record of the packet reaches the collecting process with this key
 pub data Reached (net : Net) (path : List Crossing) (fields : Fields) : ℕ → Key → Type 0 where
-  first : (a : Act) (process : ℕ) (key : Key) → Contains (acts_along net fields path) a → LeadsTo net a process key → Reached net path fields process key
-  next : (from : ℕ) (earlier : Key) (a : Act) (process : ℕ) (key : Key) → Reached net path fields from earlier → Contains (coming_to net earlier from) a → LeadsTo net a process key → Reached net path fields process key
+  first : (a : Act) (process : ℕ) (key : Key) → Contains (acts_along net fields path) a → LeadsTo net a process key
+      → Reached net path fields process key
+  next : (from : ℕ) (earlier : Key) (a : Act) (process : ℕ) (key : Key) → Reached net path fields from earlier
+      → Contains (coming_to net earlier from) a → LeadsTo net a process key → Reached net path fields process key
 
 -- an aggregation's key and match can be read from a key
 abbrev pub can_read : Net → Key → AggregationEntry → Bool
 can_read net key aggregation =
-    refines key.layout (layout_of (slice_get net.holders aggregation.holder)) && list_all (λ e. reads key.layout e.axis e.bits) aggregation.matches
+    refines key.layout (layout_of (slice_get net.holders aggregation.holder)) && list_all
+    (λ e. reads key.layout e.axis e.bits) aggregation.matches
 
 -- the packet satisfies the whole match
 abbrev pub matches_packet : List MatchEntry → Fields → Bool
-matches_packet entries fields = list_all (λ e. leading_bits (axis_width e.axis) e.bits (field fields e.axis) == e.value) entries
+matches_packet entries fields = list_all (λ e. leading_bits (axis_width e.axis) e.bits (field fields e.axis) == e.value)
+    entries
 
 -- no selection process with a cache that the path meets cuts the region
 abbrev pub SelectionsUncut : Net → List Crossing → Bounds → Type 0
 SelectionsUncut net path region =
-    (c : Crossing) (p : Point) (s : Selection) → Contains path c → Contains (points_of (entry_numbered net.devices c.device)) p → watches p c ≡ true → Contains p.selections s → s.holder ≢ None → Uncut region (selects s.region)
+    (c : Crossing) (p : Point) (s : Selection) → Contains path c
+    → Contains (points_of (entry_numbered net.devices c.device)) p → watches p c ≡ true → Contains p.selections s
+    → s.holder ≢ None → Uncut region (selects s.region)
 
--- no match cuts the region, of an aggregation that a record of the packets can reach and whose key and match can be read from it
+-- no match cuts the region, of an aggregation that a record of the packets can reach and whose key and match can be
+-- read from it
 abbrev pub MatchesUncut : Net → List Crossing → Bounds → Type 0
 MatchesUncut net path region =
-    (fields : Fields) (process : ℕ) (key : Key) (a : AggregationEntry) → holds region fields ≡ true → Reached net path fields process key → Contains (aggregations_of (slice_get net.processes process)) a → can_read net key a ≡ true → Uncut region (matches_packet a.matches)
+    (fields : Fields) (process : ℕ) (key : Key) (a : AggregationEntry) → holds region fields ≡ true
+    → Reached net path fields process key → Contains (aggregations_of (slice_get net.processes process)) a
+    → can_read net key a ≡ true → Uncut region (matches_packet a.matches)
 
 -- ---- one occurrence is counted
 

@@ -45,8 +45,10 @@ pub record Reaches (net : Net) (path : List Crossing) (region : Bounds) (a : Agg
 
 -- a bound, strictly inside the region, of something that cuts it
 pub data IsSplit (net : Net) (path : List Crossing) (region : Bounds) (axis : Axis) (at : ℕ) : Type 0 where
-  of_selection : (s : Selection) (other : Bounds) → Meets net path s → s.holder ≢ None → s.region ≡ Some other → (Uncut region (holds other) → ⊥) → IsSplitBy region other axis at → IsSplit net path region axis at
-  of_match : (a : AggregationEntry) → Reaches net path region a → (Uncut region (matches_packet a.matches) → ⊥) → IsSplitBy region (match_fields a.matches) axis at → IsSplit net path region axis at
+  of_selection : (s : Selection) (other : Bounds) → Meets net path s → s.holder ≢ None → s.region ≡ Some other
+      → (Uncut region (holds other) → ⊥) → IsSplitBy region other axis at → IsSplit net path region axis at
+  of_match : (a : AggregationEntry) → Reaches net path region a → (Uncut region (matches_packet a.matches) → ⊥)
+      → IsSplitBy region (match_fields a.matches) axis at → IsSplit net path region axis at
 
 -- ---- what the parts mean
 
@@ -62,4 +64,5 @@ joint_verdict verdicts = verdict_of_all (map (λ s. s.verdict) verdicts)
 -- the least packet of the region is held by this holder
 abbrev pub HeldAlong : Net → List Crossing → Bounds → ℕ → Type 0
 HeldAlong net path region holder =
-    Contains (acts_along net region.low path) (Hold holder (key_of (layout_of (slice_get net.holders holder)) region.low))
+    Contains (acts_along net region.low path)
+    (Hold holder (key_of (layout_of (slice_get net.holders holder)) region.low))

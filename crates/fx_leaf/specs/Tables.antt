@@ -29,7 +29,8 @@ number_of_layout n holder = or_first (slice_get n.numbers holder)
 -- each holder has the number of its layout
 abbrev pub Numbers : Net → Numbering → Type 0
 Numbers net n =
-    (holder : ℕ) (h : Holder) → slice_get net.holders holder ≡ Some h → slice_get n.layouts (number_of_layout n holder) ≡ Some h.layout
+    (holder : ℕ) (h : Holder) → slice_get net.holders holder ≡ Some h → slice_get n.layouts (number_of_layout n holder)
+    ≡ Some h.layout
 
 -- ---- the table
 
@@ -53,17 +54,21 @@ entry table process layout = entry_in (slice_get table process) layout
 abbrev pub taken_entry : Table → Net → Numbering → Bounds → Layout → AggregationEntry → Verdict
 taken_entry table net n region layout a =
     if layout_reads net layout a
-    then overlap_verdict (region_overlap region (match_fields a.matches)) (sent_verdict (entry table) net (number_of_layout n a.holder) (exporters_of net (slice_get net.holders a.holder)))
+    then overlap_verdict (region_overlap region (match_fields a.matches))
+    (sent_verdict (entry table) net (number_of_layout n a.holder)
+    (exporters_of net (slice_get net.holders a.holder)))
     else Some Never
 
 abbrev pub handled_entry : Table → Net → Numbering → Bounds → ℕ → Layout → Option Process → Verdict
 handled_entry table net n region number layout None = Some Never
 handled_entry table net n region number layout (Some process) =
-    verdict_of_both (sent_verdict (entry table) net number (at_places net.exporters process.exporters)) (verdict_of_all (map (taken_entry table net n region layout) process.aggregations))
+    verdict_of_both (sent_verdict (entry table) net number (at_places net.exporters process.exporters))
+    (verdict_of_all (map (taken_entry table net n region layout) process.aggregations))
 
 abbrev pub entry_from : Table → Net → Numbering → Bounds → ℕ → ℕ → Layout → Verdict
 entry_from table net n region process number layout =
-    verdict_of_both (tally_verdict net layout process) (handled_entry table net n region number layout (slice_get net.processes process))
+    verdict_of_both (tally_verdict net layout process)
+    (handled_entry table net n region number layout (slice_get net.processes process))
 
 -- ---- what a plan provides
 

@@ -76,7 +76,8 @@ sent_verdict at net layout exporters = verdict_of_all (map (send_verdict at net 
 
 -- a holder's records have its layout
 abbrev pub holder_verdict : VerdictAt → Net → ℕ → Verdict
-holder_verdict at net holder = sent_verdict at net (layout_of (slice_get net.holders holder)) (exporters_of net (slice_get net.holders holder))
+holder_verdict at net holder = sent_verdict at net (layout_of (slice_get net.holders holder))
+    (exporters_of net (slice_get net.holders holder))
 
 -- an aggregation's key and match can be read from a layout
 abbrev pub layout_reads : Net → Layout → AggregationEntry → Bool
@@ -85,28 +86,33 @@ layout_reads net layout a =
 
 abbrev pub taken_verdict : VerdictAt → Net → Bounds → Layout → AggregationEntry → Verdict
 taken_verdict at net region layout a =
-    if layout_reads net layout a then overlap_verdict (region_overlap region (match_fields a.matches)) (holder_verdict at net a.holder) else Some Never
+    if layout_reads net layout a then overlap_verdict (region_overlap region (match_fields a.matches))
+    (holder_verdict at net a.holder) else Some Never
 
 abbrev pub tally_verdict : Net → Layout → ℕ → Verdict
 tally_verdict net layout process =
-    if process == net.report then (if refines layout net.report_layout then Some Once else Some Unassigned) else Some Never
+    if process == net.report then (if refines layout net.report_layout then Some Once else Some Unassigned)
+    else Some Never
 
 abbrev pub handled_verdict : VerdictAt → Net → Bounds → Layout → Option Process → Verdict
 handled_verdict at net region layout None = Some Never
 handled_verdict at net region layout (Some process) =
-    verdict_of_both (sent_verdict at net layout (at_places net.exporters process.exporters)) (verdict_of_all (map (taken_verdict at net region layout) process.aggregations))
+    verdict_of_both (sent_verdict at net layout (at_places net.exporters process.exporters))
+    (verdict_of_all (map (taken_verdict at net region layout) process.aggregations))
 
 -- records that arrive at a collecting process
 abbrev pub coming_verdict : VerdictAt → Net → Bounds → ℕ → Layout → Verdict
 coming_verdict at net region process layout =
-    verdict_of_both (tally_verdict net layout process) (handled_verdict at net region layout (slice_get net.processes process))
+    verdict_of_both (tally_verdict net layout process)
+    (handled_verdict at net region layout (slice_get net.processes process))
 
 -- ---- the verdict on records of a layout at a collecting process
 
 -- the verdict computed for at most this number of consecutive processes
 abbrev pub verdict_within : Net → Bounds → ℕ → VerdictAt
 verdict_within net region zero process layout = Some Never
-verdict_within net region (suc n) process layout = coming_verdict (verdict_within net region n) net region process layout
+verdict_within net region (suc n) process layout =
+    coming_verdict (verdict_within net region n) net region process layout
 
 abbrev pub verdict : Net → Bounds → VerdictAt
 verdict net region = verdict_within net region (length net.processes)
@@ -123,31 +129,42 @@ pub record SelectionVerdict : Type 0 where
 abbrev pub selection_verdicts : VerdictAt → Net → Bounds → ℕ → ℕ → ℕ → Option Bounds → Option ℕ → List SelectionVerdict
 selection_verdicts at net region crossing point process selected None = []
 selection_verdicts at net region crossing point process selected (Some holder) =
-    record { crossing = crossing; point = point; process = process; verdict = overlap_verdict (selection_overlap region selected) (holder_verdict at net holder) } ∷ []
+    record {
+      crossing = crossing;
+      point = point;
+      process = process;
+      verdict =
+          overlap_verdict (selection_overlap region selected) (holder_verdict at net holder);
+    } ∷ []
 
 abbrev pub point_verdicts : VerdictAt → Net → Bounds → ℕ → ℕ → ℕ → List Selection → List SelectionVerdict
 point_verdicts at net region crossing point process [] = []
 point_verdicts at net region crossing point process (s ∷ ss) =
-    selection_verdicts at net region crossing point process s.region s.holder ++ point_verdicts at net region crossing point (process + 1) ss
+    selection_verdicts at net region crossing point process s.region s.holder
+    ++ point_verdicts at net region crossing point (process + 1) ss
 
 abbrev pub crossing_verdicts : VerdictAt → Net → Bounds → ℕ → ℕ → List Point → Crossing → List SelectionVerdict
 crossing_verdicts at net region number n [] crossing = []
 crossing_verdicts at net region number n (point ∷ points) crossing =
-    (if watches point crossing then point_verdicts at net region number n 1 point.selections else []) ++ crossing_verdicts at net region number (n + 1) points crossing
+    (if watches point crossing then point_verdicts at net region number n 1 point.selections else [])
+    ++ crossing_verdicts at net region number (n + 1) points crossing
 
 abbrev pub path_verdicts : VerdictAt → Net → Bounds → ℕ → List Crossing → List SelectionVerdict
 path_verdicts at net region n [] = []
 path_verdicts at net region n (c ∷ cs) =
-    crossing_verdicts at net region n 1 (points_of (entry_numbered net.devices c.device)) c ++ path_verdicts at net region (n + 1) cs
+    crossing_verdicts at net region n 1 (points_of (entry_numbered net.devices c.device)) c
+    ++ path_verdicts at net region (n + 1) cs
 
 -- the same for the selection processes along a path, in some order
 abbrev pub verdicts_of : VerdictAt → Net → Bounds → List PathSelection → List SelectionVerdict
 verdicts_of at net region [] = []
 verdicts_of at net region (s ∷ ss) =
-    selection_verdicts at net region s.crossing s.point s.process s.selection.region s.selection.holder ++ verdicts_of at net region ss
+    selection_verdicts at net region s.crossing s.point s.process s.selection.region s.selection.holder
+    ++ verdicts_of at net region ss
 
 abbrev pub path_verdict : Net → Bounds → List Crossing → Verdict
-path_verdict net region path = verdict_of_all (map (λ s. s.verdict) (path_verdicts (verdict net region) net region 1 path))
+path_verdict net region path = verdict_of_all
+    (map (λ s. s.verdict) (path_verdicts (verdict net region) net region 1 path))
 
 abbrev pub is_once : Verdict → Bool
 is_once (Some Once) = true

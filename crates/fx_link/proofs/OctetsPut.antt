@@ -11,7 +11,8 @@ use Rattle.fx_link.specs.Records.{prefix_of}
 use Rattle.fx_link.proofs.KeyTrip.{prefix_fits, stands_few}
 
 -- one part and then another
-pub then_more : {A E : Type 0} (r : Result A E) (old a b mid new : List ℕ) → mid ≡ old ++ a → OnOk r (new ≡ mid ++ b) → OnOk r (new ≡ old ++ (a ++ b))
+pub then_more : {A E : Type 0} (r : Result A E) (old a b mid new : List ℕ) → mid ≡ old ++ a → OnOk r (new ≡ mid ++ b)
+    → OnOk r (new ≡ old ++ (a ++ b))
 then_more (Ok x) old a b mid new p q = q ∙ ap (λ (l : List ℕ). l ++ b) p ∙ append_assoc old a b
 then_more (Err e) old a b mid new p q = tt
 
@@ -20,8 +21,10 @@ if_ok (Ok x) new mid all e = e
 if_ok (Err n) new mid all e = tt
 
 -- a prefix has the octets of its address, and its length one
-pub prefix_shifts : (part : Part) (v width : ℕ) → can_stand part ≡ true → v < 2 ^ part.bits → width ≡ axis_width part.axis
-    → (v * 2 ^ (width - part.bits) % 2 ^ 128 ≡ prefix_of part v) × (prefix_of part v < 2 ^ axis_width part.axis) × (part.bits < 256)
+pub prefix_shifts : (part : Part) (v width : ℕ) → can_stand part ≡ true → v < 2 ^ part.bits → width
+    ≡ axis_width part.axis
+    → (v * 2 ^ (width - part.bits) % 2 ^ 128 ≡ prefix_of part v) × (prefix_of part v < 2 ^ axis_width part.axis)
+    × (part.bits < 256)
 prefix_shifts part v width c h w =
     let fits : prefix_of part v < 2 ^ axis_width part.axis = prefix_fits part v c h in
     let most : 2 ^ axis_width part.axis ≤ 2 ^ 128 = pow-le-pow_right {n = 2} (omega arith) (width_most part.axis) in (

@@ -1,4 +1,5 @@
--- Flow records as encoded in messages (RFC 7011, sections 3.2, 3.4.1 and 3.4.3): the key's fields in axis order, then the octet
+-- Flow records as encoded in messages (RFC 7011, sections 3.2, 3.4.1 and 3.4.3): the key's fields in axis order, then
+-- the octet
 -- count and the packet count, each in the full width of its element.
 use Rattle.std.specs.Prelude.{ℕ, ◌-◌, ◌*◌, ◌/◌, ◌^◌, ◌==◌, Bool, if◌then◌else◌, List, [], ◌∷◌, ◌++◌, length, None}
 use Rattle.std.specs.Int.{w16, to_be_bytes, bytes_high_first}
@@ -52,7 +53,8 @@ specifiers_octets (f ∷ fs) = specifier_octets f ++ specifiers_octets fs
 
 -- the id, the number of fields, and the fields
 abbrev pub template_octets : ℕ → Layout → List ℕ
-template_octets id layout = to_be_bytes w16 id ++ (to_be_bytes w16 (length (fields_of layout)) ++ specifiers_octets (fields_of layout))
+template_octets id layout = to_be_bytes w16 id
+    ++ (to_be_bytes w16 (length (fields_of layout)) ++ specifiers_octets (fields_of layout))
 
 -- ---- data records
 
@@ -66,7 +68,8 @@ prefix_of part value = value * 2 ^ (axis_width part.axis - part.bits)
 
 abbrev pub value_octets : Part → ℕ → List ℕ
 value_octets part value =
-    if is_whole part then whole_octets part.axis value else whole_octets part.axis (prefix_of part value) ++ part.bits ∷ []
+    if is_whole part then whole_octets part.axis value else whole_octets part.axis (prefix_of part value) ++ part.bits
+    ∷ []
 
 abbrev pub key_octets : Layout → List ℕ → List ℕ
 key_octets [] values = []

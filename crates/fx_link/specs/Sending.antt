@@ -43,7 +43,11 @@ template_sets layouts layout =
 -- the template set, if any, then the records
 abbrev pub message_sets : List Layout → List Record → List SetParts
 message_sets layouts rs =
-    template_sets layouts (layout_of rs) ++ record { id = template_id layouts (layout_of rs); content = records_octets rs } ∷ []
+    template_sets layouts (layout_of rs) ++ record {
+      id = template_id layouts (layout_of rs);
+      content =
+          records_octets rs;
+    } ∷ []
 
 -- the sequence number is the number of records put on the link before, and the observation domain is 0
 abbrev pub header_at : ℕ → Sender → Header
@@ -181,6 +185,7 @@ BatchesAreRead =
 abbrev pub RecordsAreRead : Type 0
 RecordsAreRead =
     (time : ℕ) (s : Sender) (st : SessionState) (rs : List Record)
-    → time < 2 ^ 32 → IsSender s → AllByRecursion IsSent rs → 256 + length (after_sent s rs).layouts < 2 ^ 16 → KeepsUp s st
+    → time < 2 ^ 32 → IsSender s → AllByRecursion IsSent rs → 256 + length (after_sent s rs).layouts < 2 ^ 16
+    → KeepsUp s st
     → KeepsUp (after_sent s rs) (after_piece st (sent_octets time s rs))
     × ReadsMore st (after_piece st (sent_octets time s rs)) rs

@@ -54,4 +54,5 @@ abbrev pub CarryingTakes : Type 0
 CarryingTakes =
     (n : ℕ) (wire : Wire) → InStep wire
     → InStep (after_octets (suc n) wire)
-    × (on_link wire ≡ (after_piece wire.receiver (take (suc n) wire.queue)).known.waiting ++ on_link (after_octets (suc n) wire))
+    × (on_link wire ≡ (after_piece wire.receiver (take (suc n) wire.queue)).known.waiting
+    ++ on_link (after_octets (suc n) wire))

@@ -39,11 +39,13 @@ module _ (named : Axis → Bool) where
       let most = (holds_is b f h (axis_index axis) (index_below axis)).1 in
       omega (arith, most, (only axis is).1)
 
-  class_fits : (c : Option Class) (p : Packet) → IfSome c (λ (class : Class). RegionNamesOnly named class.region) → IsOf p c → FitsElsewhere named p.fields
+  class_fits : (c : Option Class) (p : Packet) → IfSome c (λ (class : Class). RegionNamesOnly named class.region)
+      → IsOf p c → FitsElsewhere named p.fields
   class_fits None p only is = absurd is
   class_fits (Some class) p only is = region_fits class.region p.fields only is.0
 
-  all_fit : (classes : List Class) → ClassesNameOnly named classes → (ps : List Packet) → All (IsOfItsClass classes) ps → All (λ (p : Packet). FitsElsewhere named p.fields) ps
+  all_fit : (classes : List Class) → ClassesNameOnly named classes → (ps : List Packet) → All (IsOfItsClass classes) ps
+      → All (λ (p : Packet). FitsElsewhere named p.fields) ps
   all_fit classes only [] of_classes = all_nil (λ (p : Packet). FitsElsewhere named p.fields)
   all_fit classes only (p ∷ ps) of_classes =
       all_cons (λ (p : Packet). FitsElsewhere named p.fields) p ps
@@ -52,7 +54,8 @@ module _ (named : Axis → Bool) where
       (all_head (IsOfItsClass classes) p ps of_classes))
       (all_fit classes only ps (all_tail (IsOfItsClass classes) p ps of_classes))
 
-  all_of_classes : (classes : List Class) → ClassesNameOnly named classes → (ps qs : List Packet) → AreAlike named ps qs → All (IsOfItsClass classes) ps → All (IsOfItsClass classes) qs
+  all_of_classes : (classes : List Class) → ClassesNameOnly named classes → (ps qs : List Packet) → AreAlike named ps qs
+      → All (IsOfItsClass classes) ps → All (IsOfItsClass classes) qs
   all_of_classes classes only [] [] alike of_classes = of_classes
   all_of_classes classes only [] (q ∷ qs) alike of_classes = absurd alike
   all_of_classes classes only (p ∷ ps) [] alike of_classes = absurd alike
@@ -68,17 +71,21 @@ module _ (named : Axis → Bool) where
   Covers IsOfKind = (p : Packet) → FitsElsewhere named p.fields → (q : Packet) × IsOfKind q × IsAlike named p q
 
   module _ (IsOfKind : Packet → Type 0) (covers : Covers IsOfKind) where
-    others : (ps : List Packet) → All (λ (p : Packet). FitsElsewhere named p.fields) ps → (qs : List Packet) × All IsOfKind qs × AreAlike named ps qs
+    others : (ps : List Packet) → All (λ (p : Packet). FitsElsewhere named p.fields) ps → (qs : List Packet)
+        × All IsOfKind qs × AreAlike named ps qs
     others [] fit = ([], all_nil IsOfKind, tt)
     others (p ∷ ps) fit =
         let first = covers p (all_head (λ (p : Packet). FitsElsewhere named p.fields) p ps fit) in
         let rest = others ps (all_tail (λ (p : Packet). FitsElsewhere named p.fields) p ps fit) in
         (first.0 ∷ rest.0, all_cons IsOfKind first.0 rest.0 first.1 rest.1, (first.2, rest.2))
 
-    module _ (net : Net) (classes : List Class) (only : NamesOnly named net) (classes_only : ClassesNameOnly named classes) where
-      run_of_others : (ps qs : List Packet) → AreAlike named ps qs → (final : State) → Runs net classes ps (opening net classes ps) final → Runs net classes qs (opening net classes qs) final
+    module _ (net : Net) (classes : List Class) (only : NamesOnly named net)
+        (classes_only : ClassesNameOnly named classes) where
+      run_of_others : (ps qs : List Packet) → AreAlike named ps qs → (final : State)
+          → Runs net classes ps (opening net classes ps) final → Runs net classes qs (opening net classes qs) final
       run_of_others ps qs alike final runs =
-          subst (λ (s : State). Runs net classes qs s final) (opening_same named net classes ps qs alike) (runs_same named net classes only ps qs alike (opening net classes ps) final runs)
+          subst (λ (s : State). Runs net classes qs s final) (opening_same named net classes ps qs alike)
+          (runs_same named net classes only ps qs alike (opening net classes ps) final runs)
 
       once_of_all : ExactlyOnceOf IsOfKind net classes → ExactlyOnce net classes
       once_of_all claim packets of_classes fit final runs complete =
@@ -86,11 +93,13 @@ module _ (named : Axis → Bool) where
           let counted = to_count_alike named classes packets picked.0 picked.2 in
           let each : CountsEachOnce net (to_count classes picked.0) final =
           claim picked.0 picked.1 (all_of_classes classes classes_only packets picked.0 picked.2 of_classes)
-          (fit_same named net.report_layout only.report (to_count classes packets) (to_count classes picked.0) counted fit)
+          (fit_same named net.report_layout only.report (to_count classes packets) (to_count classes picked.0) counted
+          fit)
           final (run_of_others packets picked.0 picked.2 final runs) complete
           in
           record {
-            totals = λ key. each.totals key ∙ sym (sum_same named net.report_layout only.report key (to_count classes packets) (to_count classes picked.0) counted);
+            totals = λ key. each.totals key ∙ sym (sum_same named net.report_layout only.report key
+                (to_count classes packets) (to_count classes picked.0) counted);
             assigned = each.assigned;
           }
 
@@ -103,7 +112,9 @@ module _ (named : Axis → Bool) where
           final (run_of_others packets picked.0 picked.2 final runs) complete
           in
           record {
-            totals = λ key. each.totals key ∙ ap (λ (c : Option Counts). option_map counts_modulo c) (sym (sum_same named net.report_layout only.report key (to_count classes packets) (to_count classes picked.0) counted));
+            totals = λ key. each.totals key ∙ ap (λ (c : Option Counts). option_map counts_modulo c)
+                (sym (sum_same named net.report_layout only.report key (to_count classes packets)
+                (to_count classes picked.0) counted));
             assigned = each.assigned;
           }
 
@@ -142,7 +153,8 @@ module _ (named : Axis → Bool) where
 -- ---- six axes
 
 abbrev six_values : Fields → Fields
-six_values f = field f Source ∷ field f Destination ∷ field f Protocol ∷ field f SourcePort ∷ field f DestinationPort ∷ field f ClassOfService ∷ []
+six_values f = field f Source ∷ field f Destination ∷ field f Protocol ∷ field f SourcePort ∷ field f DestinationPort
+    ∷ field f ClassOfService ∷ []
 
 abbrev of_six : Packet → Packet
 of_six p = record p { fields = six_values p.fields }
@@ -182,10 +194,12 @@ six_cover p fits =
     (of_six p, refl, alike)
 
 -- the axes outside the six are the three of IPv6
-pub zeros_are : (p : Packet) → HasZerosElsewhere is_of_six p ↔ ((field p.fields Version ≡ 0) × (field p.fields Source6 ≡ 0) × (field p.fields Destination6 ≡ 0))
+pub zeros_are : (p : Packet) → HasZerosElsewhere is_of_six p
+    ↔ ((field p.fields Version ≡ 0) × (field p.fields Source6 ≡ 0) × (field p.fields Destination6 ≡ 0))
 zeros_are p = (λ zeros. (zeros Version refl, zeros Source6 refl, zeros Destination6 refl), only)
   where
-    only : (field p.fields Version ≡ 0) × (field p.fields Source6 ≡ 0) × (field p.fields Destination6 ≡ 0) → HasZerosElsewhere is_of_six p
+    only : (field p.fields Version ≡ 0) × (field p.fields Source6 ≡ 0) × (field p.fields Destination6 ≡ 0)
+        → HasZerosElsewhere is_of_six p
     only h Source is = absurd (cc)
     only h Destination is = absurd (cc)
     only h Protocol is = absurd (cc)

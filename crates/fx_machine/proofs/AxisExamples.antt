@@ -23,11 +23,20 @@ use Rattle.fx_machine.proofs.AlikeClaims.{all_cons, all_nil}
 
 -- the fields of the versions from one to another, and all else
 abbrev of_versions : ℕ → ℕ → Bounds
-of_versions low high = record { low = 0 ∷ 0 ∷ 0 ∷ 0 ∷ 0 ∷ 0 ∷ low ∷ 0 ∷ 0 ∷ []; high = 4294967295 ∷ 4294967295 ∷ 255 ∷ 65535 ∷ 65535 ∷ 255 ∷ high ∷ 340282366920938463463374607431768211455 ∷ 340282366920938463463374607431768211455 ∷ [] }
+of_versions low high = record {
+  low = 0 ∷ 0 ∷ 0 ∷ 0 ∷ 0 ∷ 0 ∷ low ∷ 0 ∷ 0 ∷ [];
+  high = 4294967295 ∷ 4294967295 ∷ 255
+      ∷ 65535 ∷ 65535 ∷ 255 ∷ high ∷ 340282366920938463463374607431768211455 ∷ 340282366920938463463374607431768211455
+      ∷ [];
+}
 
 -- by TCP to port 443, whatever else
 abbrev to_port_443 : Bounds
-to_port_443 = record { low = 0 ∷ 0 ∷ 6 ∷ 0 ∷ 443 ∷ 0 ∷ 0 ∷ 0 ∷ 0 ∷ []; high = 4294967295 ∷ 4294967295 ∷ 6 ∷ 65535 ∷ 443 ∷ 255 ∷ 255 ∷ 340282366920938463463374607431768211455 ∷ 340282366920938463463374607431768211455 ∷ [] }
+to_port_443 = record {
+  low = 0 ∷ 0 ∷ 6 ∷ 0 ∷ 443 ∷ 0 ∷ 0 ∷ 0 ∷ 0 ∷ [];
+  high = 4294967295 ∷ 4294967295 ∷ 6 ∷ 65535 ∷ 443
+      ∷ 255 ∷ 255 ∷ 340282366920938463463374607431768211455 ∷ 340282366920938463463374607431768211455 ∷ [];
+}
 
 abbrev part : Axis → ℕ → Part
 part axis bits = record { axis = axis; bits = bits }
@@ -42,7 +51,13 @@ abbrev selection : Bounds → Selection
 selection region = record { region = Some region; holder = Some 0 }
 
 abbrev point : Bounds → Point
-point region = record { interfaces = codes "eth0" ∷ []; ingress = true; egress = false; selections = selection region ∷ [] }
+point region = record {
+  interfaces = codes "eth0" ∷ [];
+  ingress = true;
+  egress = false;
+  selections = selection region
+      ∷ [];
+}
 
 abbrev device : Bounds → DeviceEntry
 device region = record { points = point region ∷ []; caches = 0 ∷ []; processes = 0 ∷ [] }
@@ -91,7 +106,9 @@ port_is_of_six Source6 is = (refl, refl)
 port_is_of_six Destination6 is = (refl, refl)
 
 -- the net of a meter of what names only the six does so
-meter_of_six : (region : Bounds) (kept reported : Layout) → RegionNamesOnly is_of_six region → LayoutNamesOnly is_of_six kept → LayoutNamesOnly is_of_six reported → NamesOnly is_of_six (meter region kept reported)
+meter_of_six : (region : Bounds) (kept reported : Layout) → RegionNamesOnly is_of_six region
+    → LayoutNamesOnly is_of_six kept → LayoutNamesOnly is_of_six reported
+    → NamesOnly is_of_six (meter region kept reported)
 meter_of_six region kept reported selects keeps reports = record {
   holders = all_of_one (λ (h : Holder). LayoutNamesOnly is_of_six h.layout) (holder kept) keeps;
   report = reports;
@@ -112,7 +129,8 @@ classes_are_of_six = all_of_one (λ (c : Class). RegionNamesOnly is_of_six c.reg
 -- in what is kept
 not_kept : NamesOnly is_of_six (meter to_port_443 by_version by_source) → ⊥
 not_kept only =
-    let is : false ≡ true = only.holders 0 (record { layout = []; exporters = [] }) (omega arith) 1 (part Version 8) (omega arith) in
+    let is : false ≡ true = only.holders 0 (record { layout = []; exporters = [] }) (omega arith) 1 (part Version 8)
+    (omega arith) in
     absurd (cc)
 
 -- in what is reported
@@ -125,7 +143,8 @@ version_is_named only = let is : 4 ≡ 0 = (only Version refl).0 in absurd (omeg
 
 not_selected : NamesOnly is_of_six (meter (of_versions 4 4) by_source by_source) → ⊥
 not_selected only =
-    version_is_named (only.selections 0 (device to_port_443) (omega arith) 0 (point to_port_443) (omega arith) 0 (selection to_port_443) (omega arith))
+    version_is_named (only.selections 0 (device to_port_443) (omega arith) 0 (point to_port_443) (omega arith) 0
+    (selection to_port_443) (omega arith))
 
 not_of_class : ClassesNameOnly is_of_six (class (of_versions 4 4) ∷ []) → ⊥
 not_of_class only = version_is_named (only 0 (class to_port_443) (omega arith))
@@ -181,7 +200,13 @@ not_alike h = let most : 256 ≤ 255 = h.second_fits Version refl in absurd (ome
 zeros : (version : ℕ) → HasZerosElsewhere is_of_six (packet version) → version ≡ 0
 zeros version h = h Version refl
 
-six : HasSixValues (record { fields = 167838211 ∷ 3221225985 ∷ 6 ∷ 49152 ∷ 443 ∷ 0 ∷ []; octets = 100; class = 1; path = 1 })
+six : HasSixValues (record {
+  fields = 167838211 ∷ 3221225985 ∷ 6 ∷ 49152 ∷ 443 ∷ 0 ∷ [];
+  octets = 100;
+  class = 1;
+  path =
+      1;
+})
 six = refl
 
 -- so they are of the same class, and go the same way
@@ -189,7 +214,8 @@ abbrev customers : List Class
 customers = class to_port_443 ∷ []
 
 of_class : (version : ℕ) → version < 256 → IsOf (packet version) (entry_numbered customers 1)
-of_class version lt = of_class_same is_of_six customers (packet 4) (packet version) classes_are_of_six (alike_to version lt) (refl, λ e. absurd (cc))
+of_class version lt = of_class_same is_of_six customers (packet 4) (packet version) classes_are_of_six
+    (alike_to version lt) (refl, λ e. absurd (cc))
 
 abbrev net : Net
 net = meter to_port_443 by_source by_source
@@ -199,7 +225,13 @@ crossed version =
     let packets : List Packet = packet version ∷ [] in
     after net customers packets (Cross 1 1 (None ∷ [])) (opening net customers packets)
 
-crosses : crossed 4 ≡ Ok (record (opening net customers []) { held = (record { key = record { layout = by_source; values = 167838211 ∷ 6 ∷ [] }; counts = record { packets = 1; octets = 100 } } ∷ []) ∷ [] })
+crosses : crossed 4 ≡ Ok (record (opening net customers []) {
+  held = (record {
+    key = record { layout = by_source; values = 167838211 ∷ 6 ∷ [] };
+    counts =
+        record { packets = 1; octets = 100 };
+  } ∷ []) ∷ [];
+})
 unfolding crossed
 crosses = refl
 
@@ -208,7 +240,8 @@ unfolding crossed
 crosses_too = refl
 
 -- one that selects by the version does tell such packets apart
-of_version_4 : occurrences (meter (of_versions 4 4) by_source by_source) at (packet 4).fields ≡ record { point = 1; process = 1; holder = 0 } ∷ []
+of_version_4 : occurrences (meter (of_versions 4 4) by_source by_source) at (packet 4).fields
+    ≡ record { point = 1; process = 1; holder = 0 } ∷ []
 of_version_4 = refl
 
 of_version_6 : occurrences (meter (of_versions 4 4) by_source by_source) at (packet 6).fields ≡ []

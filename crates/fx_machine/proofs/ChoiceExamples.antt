@@ -14,7 +14,8 @@ after_both : Exporter → List Step → Outcome
 after_both exporter steps = run (net exporter) customers two (cross_both steps) (opening (net exporter) customers two)
 
 -- the first destination is the link
-chosen_first : after_both by_choice (Expire (Cache 1 1) 2 (Some 1 ∷ []) ∷ []) ≡ Ok (having (first ∷ []) (second ∷ []) [])
+chosen_first : after_both by_choice (Expire (Cache 1 1) 2 (Some 1 ∷ []) ∷ [])
+    ≡ Ok (having (first ∷ []) (second ∷ []) [])
 unfolding after_both
 chosen_first = refl
 

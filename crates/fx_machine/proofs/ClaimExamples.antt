@@ -1,4 +1,5 @@
--- What it means that each packet is counted once, and exempt ones never, worked out for networks that lose one, count one twice or though it is exempt, or can't tell one.
+-- What it means that each packet is counted once, and exempt ones never, worked out for networks that lose one, count
+-- one twice or though it is exempt, or can't tell one.
 use Rattle.std.proofs.Common.{◌≡◌, ℕ, zero, suc, Bool, true, false, List, [], ◌∷◌, All, Option, Some, None, IfSome, Ok, refl, ap, if◌then◌else◌, arith}
 use Rattle.std.specs.Prelude.{codes}
 use Rattle.fx_base.specs.declared.counts.Counts.{Counts}
@@ -31,11 +32,18 @@ counts packets octets = record { packets = packets; octets = octets }
 
 -- a packet from this address to port 443 of 192.0.2.1, by TCP
 abbrev packet : ℕ → ℕ → Packet
-packet address octets = record { fields = address ∷ 3221225985 ∷ 6 ∷ 49152 ∷ 443 ∷ 0 ∷ 4 ∷ 0 ∷ 0 ∷ []; octets = octets; class = 1; path = 1 }
+packet address octets = record {
+  fields = address ∷ 3221225985 ∷ 6 ∷ 49152 ∷ 443 ∷ 0 ∷ 4 ∷ 0 ∷ 0 ∷ [];
+  octets =
+      octets;
+  class = 1;
+  path = 1;
+}
 
 -- ---- a meter and a collector
 
--- whether packets that go out are metered too, the leading bits of the source by which they are, how records are sent, and the
+-- whether packets that go out are metered too, the leading bits of the source by which they are, how records are sent,
+-- and the
 -- bits of the report
 abbrev net_with : Bool → ℕ → Exporter → ℕ → Net
 net_with egress metered exporter reported = record {
@@ -44,7 +52,15 @@ net_with egress metered exporter reported = record {
       interfaces = codes "eth0" ∷ codes "eth1" ∷ [];
       ingress = true;
       egress = egress;
-      selections = record { region = Some (record { low = 0 ∷ 0 ∷ 0 ∷ 0 ∷ 0 ∷ 0 ∷ 0 ∷ 0 ∷ 0 ∷ []; high = 4294967295 ∷ 4294967295 ∷ 255 ∷ 65535 ∷ 65535 ∷ 255 ∷ 255 ∷ 340282366920938463463374607431768211455 ∷ 340282366920938463463374607431768211455 ∷ [] }); holder = Some 0 } ∷ [];
+      selections = record {
+        region = Some (record {
+          low = 0 ∷ 0 ∷ 0 ∷ 0 ∷ 0 ∷ 0 ∷ 0 ∷ 0 ∷ 0 ∷ [];
+          high = 4294967295 ∷ 4294967295 ∷ 255 ∷ 65535 ∷ 65535 ∷ 255
+              ∷ 255 ∷ 340282366920938463463374607431768211455 ∷ 340282366920938463463374607431768211455 ∷ [];
+        });
+        holder =
+            Some 0;
+      } ∷ [];
     } ∷ [];
     caches = 0 ∷ [];
     processes = [];
@@ -70,7 +86,11 @@ outwards = record { device = 1; interface = codes "eth1"; inwards = false }
 -- the packets from 10.0.0.0/8, all of which make these crossings, and may be exempt
 abbrev class_of : Bool → List Crossing → List Class
 class_of exempt path = record {
-  region = record { low = 167772160 ∷ 0 ∷ 0 ∷ 0 ∷ 0 ∷ 0 ∷ 0 ∷ 0 ∷ 0 ∷ []; high = 184549375 ∷ 4294967295 ∷ 255 ∷ 65535 ∷ 65535 ∷ 255 ∷ 255 ∷ 340282366920938463463374607431768211455 ∷ 340282366920938463463374607431768211455 ∷ [] };
+  region = record {
+    low = 167772160 ∷ 0 ∷ 0 ∷ 0 ∷ 0 ∷ 0 ∷ 0 ∷ 0 ∷ 0 ∷ [];
+    high = 184549375 ∷ 4294967295 ∷ 255 ∷ 65535
+        ∷ 65535 ∷ 255 ∷ 255 ∷ 340282366920938463463374607431768211455 ∷ 340282366920938463463374607431768211455 ∷ [];
+  };
   paths = path ∷ [];
   exempt = exempt;
 } ∷ []
@@ -97,7 +117,14 @@ cross_both steps = Cross 1 1 (None ∷ []) ∷ Cross 2 1 (None ∷ []) ∷ steps
 
 -- the state with these records in the cache, on the link and in the totals
 abbrev pub having : List Record → List Record → List Record → State
-having held carried totals = record { coming = []; held = held ∷ []; carried = carried ∷ []; totals = totals; unassigned = 0 }
+having held carried totals = record {
+  coming = [];
+  held = held ∷ [];
+  carried = carried ∷ [];
+  totals =
+      totals;
+  unassigned = 0;
+}
 
 abbrev pub first : Record
 first = record { key = key 32 167772161; counts = counts 1 1500 }
@@ -138,7 +165,8 @@ are_customers (suc zero) d h = (refl, λ e. absurd (cc))
 are_customers (suc (suc k)) d h = absurd (omega (arith, h))
 
 -- whose sums are small, whichever of them a key has
-are_small : (a b : Bool) → IfSome (if a then Some (one_more 1500 (if b then Some (one_more 60 None) else None)) else (if b then Some (one_more 60 None) else None)) IsBelow
+are_small : (a b : Bool) → IfSome (if a then Some (one_more 1500 (if b then Some (one_more 60 None) else None))
+    else (if b then Some (one_more 60 None) else None)) IsBelow
 are_small true true = (omega arith, omega arith)
 are_small true false = (omega arith, omega arith)
 are_small false true = (omega arith, omega arith)
@@ -157,12 +185,16 @@ sent = refl
 -- so this network doesn't count each packet once
 pub not_exactly_once : ExactlyOnce fallback customers → ⊥
 not_exactly_once claim =
-    let each : CountsEachOnce fallback two lost = claim two are_customers sums_fit lost (runs_of fallback customers two losing (opening fallback customers two) lost loses) is_complete in
+    let each : CountsEachOnce fallback two lost =
+    claim two are_customers sums_fit lost (runs_of fallback customers two losing (opening fallback customers two)
+    lost loses) is_complete in
     let same : None ≡ Some (counts 1 60) = each.totals (key 32 167772162) in
     absurd (cc)
 
 -- though a run over one packet that goes to the first destination does, at each key
-one_counted : run fallback customers one (Cross 1 1 (None ∷ []) ∷ Expire (Cache 1 1) 1 (Some 1 ∷ []) ∷ Arrive 1 1 [] ∷ []) (opening fallback customers one) ≡ Ok (having [] [] (first ∷ []))
+one_counted : run fallback customers one
+    (Cross 1 1 (None ∷ []) ∷ Expire (Cache 1 1) 1 (Some 1 ∷ []) ∷ Arrive 1 1 [] ∷ []) (opening fallback customers one)
+    ≡ Ok (having [] [] (first ∷ []))
 one_counted = refl
 
 counts_one : CountsEachOnce fallback one (having [] [] (first ∷ []))
@@ -170,7 +202,8 @@ counts_one = record { totals = λ key. refl; assigned = refl }
 
 -- ---- a packet that is counted twice, and one that isn't assigned
 
-of_class : (exempt : Bool) (path : List Crossing) → All (λ p. IsOf p (entry_numbered (class_of exempt path) p.class)) one
+of_class : (exempt : Bool) (path : List Crossing)
+    → All (λ p. IsOf p (entry_numbered (class_of exempt path) p.class)) one
 of_class exempt path zero d h = (refl, λ e. absurd (cc))
 of_class exempt path (suc k) d h = absurd (omega (arith, h))
 
@@ -188,7 +221,8 @@ doubled = having [] [] (record { key = key 32 167772161; counts = counts 2 3000 
 abbrev doubling : List Step
 doubling = Cross 1 1 (None ∷ []) ∷ Cross 1 2 (Some 1 ∷ []) ∷ Expire (Cache 1 1) 1 [] ∷ Arrive 1 1 [] ∷ []
 
-doubles : run metering_both (crossing (inwards ∷ outwards ∷ [])) one doubling (opening metering_both (crossing (inwards ∷ outwards ∷ [])) one) ≡ Ok doubled
+doubles : run metering_both (crossing (inwards ∷ outwards ∷ [])) one doubling
+    (opening metering_both (crossing (inwards ∷ outwards ∷ [])) one) ≡ Ok doubled
 doubles = refl
 
 abbrev packets_of : Option Counts → ℕ
@@ -197,7 +231,10 @@ packets_of (Some c) = c.packets
 
 pub not_once_but_twice : ExactlyOnce metering_both (crossing (inwards ∷ outwards ∷ [])) → ⊥
 not_once_but_twice claim =
-    let each : CountsEachOnce metering_both one doubled = claim one (of_class false (inwards ∷ outwards ∷ [])) (λ key. is_small _) doubled (runs_of _ _ one doubling _ doubled doubles) (record { crossed = refl; nothing_held = refl; nothing_carried = refl }) in
+    let each : CountsEachOnce metering_both one doubled =
+    claim one (of_class false (inwards ∷ outwards ∷ [])) (λ key. is_small _) doubled
+    (runs_of _ _ one doubling _ doubled doubles)
+    (record { crossed = refl; nothing_held = refl; nothing_carried = refl }) in
     let same : 2 ≡ 1 = ap packets_of (each.totals (key 32 167772161)) in
     absurd (omega (arith, same))
 
@@ -216,7 +253,10 @@ does_not_tell = refl
 
 pub not_once_but_unassigned : ExactlyOnce metering_less customers → ⊥
 not_once_but_unassigned claim =
-    let each : CountsEachOnce metering_less one opaque = claim one (of_class false (inwards ∷ [])) (λ key. is_small _) opaque (runs_of _ _ one reaching _ opaque does_not_tell) (record { crossed = refl; nothing_held = refl; nothing_carried = refl }) in
+    let each : CountsEachOnce metering_less one opaque =
+    claim one (of_class false (inwards ∷ [])) (λ key. is_small _) opaque
+    (runs_of _ _ one reaching _ opaque does_not_tell)
+    (record { crossed = refl; nothing_held = refl; nothing_carried = refl }) in
     let none : 1 ≡ 0 = each.assigned in
     absurd (omega (arith, none))
 
@@ -233,6 +273,9 @@ counts_exempt = refl
 
 pub not_never_but_once : ExactlyOnce counting exempted → ⊥
 not_never_but_once claim =
-    let each : CountsEachOnce counting [] (having [] [] (first ∷ [])) = claim one (of_class true (inwards ∷ [])) (λ key. tt) (having [] [] (first ∷ [])) (runs_of _ _ one reaching _ (having [] [] (first ∷ [])) counts_exempt) (record { crossed = refl; nothing_held = refl; nothing_carried = refl }) in
+    let each : CountsEachOnce counting [] (having [] [] (first ∷ [])) =
+    claim one (of_class true (inwards ∷ [])) (λ key. tt) (having [] [] (first ∷ []))
+    (runs_of _ _ one reaching _ (having [] [] (first ∷ [])) counts_exempt)
+    (record { crossed = refl; nothing_held = refl; nothing_carried = refl }) in
     let same : Some (counts 1 1500) ≡ None = each.totals (key 32 167772161) in
     absurd (cc)

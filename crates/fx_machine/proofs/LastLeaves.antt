@@ -23,17 +23,20 @@ last_removed : {A : Type 0} (xs : List A) (x : A) → remove (xs ++ x ∷ []) (l
 last_removed [] x = refl
 last_removed (y ∷ ys) x = ap (λ vs. y ∷ vs) (last_removed ys x)
 
-pub put_is_set : (rss : List (List Record)) (n : ℕ) (rs : List Record) (r : Record) → slice_get rss n ≡ Some rs → put_last rss n r ≡ slice_set rss n (rs ++ r ∷ [])
+pub put_is_set : (rss : List (List Record)) (n : ℕ) (rs : List Record) (r : Record) → slice_get rss n ≡ Some rs
+    → put_last rss n r ≡ slice_set rss n (rs ++ r ∷ [])
 put_is_set [] n rs r h = absurd (cc)
 put_is_set (ss ∷ rss) zero rs r h = let e : ss ≡ rs = cc in ap (λ vs. (vs ++ r ∷ []) ∷ rss) e
 put_is_set (ss ∷ rss) (suc n) rs r h = ap (λ vs. ss ∷ vs) (put_is_set rss n rs r h)
 
-put_here : (rss : List (List Record)) (n : ℕ) (rs : List Record) (r : Record) → slice_get rss n ≡ Some rs → slice_get (put_last rss n r) n ≡ Some (rs ++ r ∷ [])
+put_here : (rss : List (List Record)) (n : ℕ) (rs : List Record) (r : Record) → slice_get rss n ≡ Some rs
+    → slice_get (put_last rss n r) n ≡ Some (rs ++ r ∷ [])
 put_here [] n rs r h = absurd (cc)
 put_here (ss ∷ rss) zero rs r h = let e : ss ≡ rs = cc in ap (λ vs. Some (vs ++ r ∷ [])) e
 put_here (ss ∷ rss) (suc n) rs r h = put_here rss n rs r h
 
-put_back : (rss : List (List Record)) (n : ℕ) (rs : List Record) (r : Record) → slice_get rss n ≡ Some rs → slice_set (put_last rss n r) n (without (rs ++ r ∷ []) (suc (length rs))) ≡ rss
+put_back : (rss : List (List Record)) (n : ℕ) (rs : List Record) (r : Record) → slice_get rss n ≡ Some rs
+    → slice_set (put_last rss n r) n (without (rs ++ r ∷ []) (suc (length rs))) ≡ rss
 put_back rss n rs r h = ap (slice_set (put_last rss n r) n) (last_removed rs r) ∙ go rss n h
   where
     go : (rss : List (List Record)) (n : ℕ) → slice_get rss n ≡ Some rs → slice_set (put_last rss n r) n rs ≡ rss
@@ -42,10 +45,19 @@ put_back rss n rs r h = ap (slice_set (put_last rss n r) n) (last_removed rs r) 
     go (ss ∷ rss) (suc n) h = ap (λ vs. ss ∷ vs) (go rss n h)
 
 module _ (net : Net) (classes : List Class) (packets : List Packet) where
-  pub leaves_holder : (holder : ℕ) → IsHolder net holder → (rs : List Record) (r : Record) (s new : State) → slice_get s.held holder ≡ Some rs → MayDoAll net r.counts (acts_of_leaving net holder r.key) s new → Moves net classes packets (record s { held = put_last s.held holder r }) new
+  pub leaves_holder : (holder : ℕ) → IsHolder net holder → (rs : List Record) (r : Record) (s new : State)
+      → slice_get s.held holder ≡ Some rs → MayDoAll net r.counts (acts_of_leaving net holder r.key) s new
+      → Moves net classes packets (record s { held = put_last s.held holder r }) new
   leaves_holder holder h rs r s new at may =
-      expires h.name holder (suc (length rs)) (rs ++ r ∷ []) r h.named (put_here s.held holder rs r at) (last_here rs r) (subst (λ (rss : List (List Record)). MayDoAll net r.counts (acts_of_leaving net holder r.key) (record s { held = rss }) new) (sym (put_back s.held holder rs r at)) may)
+      expires h.name holder (suc (length rs)) (rs ++ r ∷ []) r h.named (put_here s.held holder rs r at) (last_here rs r)
+      (subst (λ (rss : List (List Record)). MayDoAll net r.counts (acts_of_leaving net holder r.key)
+      (record s { held = rss }) new) (sym (put_back s.held holder rs r at)) may)
 
-  pub leaves_link : (link : ℕ) (rs : List Record) (r : Record) (s new : State) → slice_get s.carried link ≡ Some rs → MayDoAll net r.counts (acts_of_arrival net r.key (slice_get net.links link)) s new → Moves net classes packets (record s { carried = put_last s.carried link r }) new
+  pub leaves_link : (link : ℕ) (rs : List Record) (r : Record) (s new : State) → slice_get s.carried link ≡ Some rs
+      → MayDoAll net r.counts (acts_of_arrival net r.key (slice_get net.links link)) s new
+      → Moves net classes packets (record s { carried = put_last s.carried link r }) new
   leaves_link link rs r s new at may =
-      arrives link (suc (length rs)) (rs ++ r ∷ []) r (put_here s.carried link rs r at) (last_here rs r) (subst (λ (rss : List (List Record)). MayDoAll net r.counts (acts_of_arrival net r.key (slice_get net.links link)) (record s { carried = rss }) new) (sym (put_back s.carried link rs r at)) may)
+      arrives link (suc (length rs)) (rs ++ r ∷ []) r (put_here s.carried link rs r at) (last_here rs r)
+      (subst (λ (rss : List (List Record)). MayDoAll net r.counts
+      (acts_of_arrival net r.key (slice_get net.links link)) (record s { carried = rss }) new)
+      (sym (put_back s.carried link rs r at)) may)

@@ -20,20 +20,40 @@ abbrev source : ℕ → Layout
 source bits = record { axis = Source; bits = bits } ∷ []
 
 abbrev all_fields : Bounds
-all_fields = record { low = 0 ∷ 0 ∷ 0 ∷ 0 ∷ 0 ∷ 0 ∷ 0 ∷ 0 ∷ 0 ∷ []; high = 4294967295 ∷ 4294967295 ∷ 255 ∷ 65535 ∷ 65535 ∷ 255 ∷ 255 ∷ 340282366920938463463374607431768211455 ∷ 340282366920938463463374607431768211455 ∷ [] }
+all_fields = record {
+  low = 0 ∷ 0 ∷ 0 ∷ 0 ∷ 0 ∷ 0 ∷ 0 ∷ 0 ∷ 0 ∷ [];
+  high = 4294967295 ∷ 4294967295 ∷ 255 ∷ 65535 ∷ 65535
+      ∷ 255 ∷ 255 ∷ 340282366920938463463374607431768211455 ∷ 340282366920938463463374607431768211455 ∷ [];
+}
 
 -- 10.0.0.0/8
 abbrev ten : Bounds
-ten = record { low = 167772160 ∷ 0 ∷ 0 ∷ 0 ∷ 0 ∷ 0 ∷ 0 ∷ 0 ∷ 0 ∷ []; high = 184549375 ∷ 4294967295 ∷ 255 ∷ 65535 ∷ 65535 ∷ 255 ∷ 255 ∷ 340282366920938463463374607431768211455 ∷ 340282366920938463463374607431768211455 ∷ [] }
+ten = record {
+  low = 167772160 ∷ 0 ∷ 0 ∷ 0 ∷ 0 ∷ 0 ∷ 0 ∷ 0 ∷ 0 ∷ [];
+  high = 184549375 ∷ 4294967295 ∷ 255 ∷ 65535 ∷ 65535
+      ∷ 255 ∷ 255 ∷ 340282366920938463463374607431768211455 ∷ 340282366920938463463374607431768211455 ∷ [];
+}
 
 -- a packet from this address to 192.0.2.1
 abbrev packet : ℕ → ℕ → Packet
-packet address octets = record { fields = address ∷ 3221225985 ∷ 6 ∷ 1000 ∷ 80 ∷ 0 ∷ 4 ∷ 0 ∷ 0 ∷ []; octets = octets; class = 1; path = 1 }
+packet address octets = record {
+  fields = address ∷ 3221225985 ∷ 6 ∷ 1000 ∷ 80 ∷ 0 ∷ 4 ∷ 0 ∷ 0 ∷ [];
+  octets =
+      octets;
+  class = 1;
+  path = 1;
+}
 
 -- a device with a point at these interfaces, all of whose packets go to one cache
 abbrev meter : List (List ℕ) → DeviceEntry
 meter names = record {
-  points = record { interfaces = names; ingress = true; egress = true; selections = record { region = Some all_fields; holder = Some 0 } ∷ [] } ∷ [];
+  points = record {
+    interfaces = names;
+    ingress = true;
+    egress = true;
+    selections =
+        record { region = Some all_fields; holder = Some 0 } ∷ [];
+  } ∷ [];
   caches = 0 ∷ [];
   processes = [];
 }
@@ -45,7 +65,11 @@ abbrev to_link : ℕ → Exporter
 to_link link = record { parallel = true; destinations = Some link ∷ [] }
 
 abbrev total : ℕ → ℕ → ℕ → ℕ → Record
-total bits value packets octets = record { key = record { layout = source bits; values = value ∷ [] }; counts = record { packets = packets; octets = octets } }
+total bits value packets octets = record {
+  key = record { layout = source bits; values = value ∷ [] };
+  counts =
+      record { packets = packets; octets = octets };
+}
 
 -- ---- a meter and a collector
 
@@ -74,7 +98,9 @@ two last = packet 167772161 18446744073709551614 ∷ packet 167772161 last ∷ [
 
 after_two : ℕ → Outcome
 after_two last =
-    run (pair (codes "eth0" ∷ [])) (class_of (inwards ∷ [])) (two last) (Cross 1 1 (None ∷ []) ∷ Cross 2 1 (Some 1 ∷ []) ∷ Expire (Cache 1 1) 1 [] ∷ Arrive 1 1 [] ∷ []) (opening (pair (codes "eth0" ∷ [])) (class_of (inwards ∷ [])) (two last))
+    run (pair (codes "eth0" ∷ [])) (class_of (inwards ∷ [])) (two last)
+    (Cross 1 1 (None ∷ []) ∷ Cross 2 1 (Some 1 ∷ []) ∷ Expire (Cache 1 1) 1 [] ∷ Arrive 1 1 [] ∷ [])
+    (opening (pair (codes "eth0" ∷ [])) (class_of (inwards ∷ [])) (two last))
 
 abbrev done_with : List Record → State
 done_with totals = record { coming = []; held = [] ∷ []; carried = [] ∷ []; totals = totals; unassigned = 0 }
@@ -91,9 +117,18 @@ wraps = refl
 -- without its last step a record is on the link
 after_three : Outcome
 after_three =
-    run (pair (codes "eth0" ∷ [])) (class_of (inwards ∷ [])) (two 1) (Cross 1 1 (None ∷ []) ∷ Cross 2 1 (Some 1 ∷ []) ∷ Expire (Cache 1 1) 1 [] ∷ []) (opening (pair (codes "eth0" ∷ [])) (class_of (inwards ∷ [])) (two 1))
+    run (pair (codes "eth0" ∷ [])) (class_of (inwards ∷ [])) (two 1)
+    (Cross 1 1 (None ∷ []) ∷ Cross 2 1 (Some 1 ∷ []) ∷ Expire (Cache 1 1) 1 [] ∷ [])
+    (opening (pair (codes "eth0" ∷ [])) (class_of (inwards ∷ [])) (two 1))
 
-carries : after_three ≡ Ok (record { coming = []; held = [] ∷ []; carried = (total 32 167772161 2 18446744073709551615 ∷ []) ∷ []; totals = []; unassigned = 0 })
+carries : after_three ≡ Ok (record {
+  coming = [];
+  held = [] ∷ [];
+  carried =
+      (total 32 167772161 2 18446744073709551615 ∷ []) ∷ [];
+  totals = [];
+  unassigned = 0;
+})
 unfolding after_three
 carries = refl
 
@@ -107,7 +142,9 @@ through = class_of (inwards ∷ outwards ∷ [])
 
 after_both : Outcome
 after_both =
-    run both through (packet 167772161 100 ∷ []) (Cross 1 1 (None ∷ []) ∷ Cross 1 2 (Some 1 ∷ []) ∷ Expire (Cache 1 1) 1 [] ∷ Arrive 1 1 [] ∷ []) (opening both through (packet 167772161 100 ∷ []))
+    run both through (packet 167772161 100 ∷ [])
+    (Cross 1 1 (None ∷ []) ∷ Cross 1 2 (Some 1 ∷ []) ∷ Expire (Cache 1 1) 1 [] ∷ Arrive 1 1 [] ∷ [])
+    (opening both through (packet 167772161 100 ∷ []))
 
 counts_twice : after_both ≡ Ok (done_with (total 32 167772161 2 200 ∷ []))
 unfolding after_both
@@ -116,7 +153,8 @@ counts_twice = refl
 -- the crossings of a packet may be made in any order, each once
 after_again : Outcome
 after_again =
-    run both through (packet 167772161 100 ∷ []) (Cross 1 2 (None ∷ []) ∷ Cross 1 2 (None ∷ []) ∷ []) (opening both through (packet 167772161 100 ∷ []))
+    run both through (packet 167772161 100 ∷ []) (Cross 1 2 (None ∷ []) ∷ Cross 1 2 (None ∷ []) ∷ [])
+    (opening both through (packet 167772161 100 ∷ []))
 
 made_once : after_again ≡ Err 851
 unfolding after_again
@@ -129,8 +167,15 @@ abbrev chain : ℕ → Net
 chain bits = record {
   devices = meter (codes "eth0" ∷ []) ∷ collector 0 ∷ collector 1 ∷ collector 2 ∷ [];
   exporters = to_link 0 ∷ to_link 1 ∷ to_link 2 ∷ [];
-  holders = record { layout = source 32; exporters = 0 ∷ [] } ∷ record { layout = source bits; exporters = 1 ∷ [] } ∷ record { layout = source 16; exporters = 2 ∷ [] } ∷ [];
-  processes = record { exporters = []; aggregations = record { holder = 1; matches = [] } ∷ [] } ∷ record { exporters = []; aggregations = record { holder = 2; matches = record { axis = Source; bits = 24; value = 655618 } ∷ [] } ∷ [] } ∷ record { exporters = []; aggregations = [] } ∷ [];
+  holders = record { layout = source 32; exporters = 0 ∷ [] } ∷ record { layout = source bits; exporters = 1 ∷ [] }
+      ∷ record { layout = source 16; exporters = 2 ∷ [] } ∷ [];
+  processes = record { exporters = []; aggregations = record { holder = 1; matches = [] } ∷ [] }
+      ∷ record {
+        exporters = [];
+        aggregations =
+            record { holder = 2; matches = record { axis = Source; bits = 24; value = 655618 } ∷ [] } ∷ [];
+      }
+      ∷ record { exporters = []; aggregations = [] } ∷ [];
   links = 0 ∷ 1 ∷ 2 ∷ [];
   report = 2;
   report_layout = source 16;
@@ -141,19 +186,29 @@ from_two = packet 167838211 100 ∷ packet 167838212 50 ∷ []
 
 abbrev up_to_first : List Step
 up_to_first =
-    Cross 1 1 (None ∷ []) ∷ Cross 2 1 (None ∷ []) ∷ Expire (Cache 1 1) 1 [] ∷ Expire (Cache 1 1) 1 [] ∷ Arrive 1 1 (None ∷ []) ∷ Arrive 1 1 (Some 1 ∷ []) ∷ Expire (AggregationOf 2 1 1) 1 [] ∷ []
+    Cross 1 1 (None ∷ []) ∷ Cross 2 1 (None ∷ []) ∷ Expire (Cache 1 1) 1 [] ∷ Expire (Cache 1 1) 1 []
+    ∷ Arrive 1 1 (None ∷ []) ∷ Arrive 1 1 (Some 1 ∷ []) ∷ Expire (AggregationOf 2 1 1) 1 [] ∷ []
 
 abbrev then_do : List Step → List Step → List Step
 then_do [] more = more
 then_do (step ∷ steps) more = step ∷ then_do steps more
 
 abbrev gone_through : List Record → State
-gone_through totals = record { coming = []; held = [] ∷ [] ∷ [] ∷ []; carried = [] ∷ [] ∷ [] ∷ []; totals = totals; unassigned = 0 }
+gone_through totals = record {
+  coming = [];
+  held = [] ∷ [] ∷ [] ∷ [];
+  carried = [] ∷ [] ∷ [] ∷ [];
+  totals =
+      totals;
+  unassigned = 0;
+}
 
 after_chain : ℕ → List Step → Outcome
-after_chain bits more = run (chain bits) (class_of (inwards ∷ [])) from_two (then_do up_to_first more) (opening (chain bits) (class_of (inwards ∷ [])) from_two)
+after_chain bits more = run (chain bits) (class_of (inwards ∷ [])) from_two (then_do up_to_first more)
+    (opening (chain bits) (class_of (inwards ∷ [])) from_two)
 
-aggregates : after_chain 24 (Arrive 2 1 (None ∷ []) ∷ Expire (AggregationOf 3 1 1) 1 [] ∷ Arrive 3 1 [] ∷ []) ≡ Ok (gone_through (total 16 2561 2 150 ∷ []))
+aggregates : after_chain 24 (Arrive 2 1 (None ∷ []) ∷ Expire (AggregationOf 3 1 1) 1 [] ∷ Arrive 3 1 [] ∷ [])
+    ≡ Ok (gone_through (total 16 2561 2 150 ∷ []))
 unfolding after_chain
 aggregates = refl
 

@@ -24,21 +24,24 @@ sending_on e places = record (net e) { processes = record { exporters = places; 
 
 -- no crossing is to come, and these records are in the cache, on the link and in the totals
 abbrev standing : List Record → List Record → List Record → ℕ → State
-standing held carried totals unassigned = record { coming = []; held = held ∷ []; carried = carried ∷ []; totals = totals; unassigned = unassigned }
+standing held carried totals unassigned =
+    record { coming = []; held = held ∷ []; carried = carried ∷ []; totals = totals; unassigned = unassigned }
 
 none_numbered : {A : Type 0} (n : ℕ) (x : A) → entry_numbered [] n ≡ Some x → ⊥
 none_numbered zero x h = absurd (cc)
 none_numbered (suc n) x h = absurd (cc)
 
 -- no record leaves where there is none
-none_leaves : (place number : ℕ) (rs : List Record) (r : Record) → slice_get ([] ∷ []) place ≡ Some rs → entry_numbered rs number ≡ Some r → ⊥
+none_leaves : (place number : ℕ) (rs : List Record) (r : Record) → slice_get ([] ∷ []) place ≡ Some rs
+    → entry_numbered rs number ≡ Some r → ⊥
 none_leaves zero number rs r h k =
     let e : rs ≡ [] = cc in
     none_numbered number r (subst (λ (xs : List Record). entry_numbered xs number ≡ Some r) e k)
 none_leaves (suc place) number rs r h k = absurd (cc)
 
 -- and none is left where the only one leaves
-one_leaves : (number : ℕ) (rs : List Record) (r q : Record) → Some (r ∷ []) ≡ Some rs → entry_numbered rs number ≡ Some q → without rs number ≡ []
+one_leaves : (number : ℕ) (rs : List Record) (r q : Record) → Some (r ∷ []) ≡ Some rs → entry_numbered rs number
+    ≡ Some q → without rs number ≡ []
 one_leaves zero rs r q h k = absurd (cc)
 one_leaves (suc zero) rs r q h k = let e : rs ≡ r ∷ [] = cc in ap (λ (xs : List Record). remove xs 0) e
 one_leaves (suc (suc n)) rs r q h k =
@@ -46,7 +49,8 @@ one_leaves (suc (suc n)) rs r q h k =
     let none : None ≡ Some q = subst (λ (xs : List Record). slice_get xs (suc n) ≡ Some q) e k in
     absurd (cc)
 
-first_taken_in : (rs : List Record) (r : Record) (new : List Record) → Some [] ≡ Some rs → MayTakeIn rs r new → new ≡ r ∷ []
+first_taken_in : (rs : List Record) (r : Record) (new : List Record) → Some [] ≡ Some rs → MayTakeIn rs r new → new ≡ r
+    ∷ []
 first_taken_in rs r new e may =
     let none : rs ≡ [] = cc in
     elim (subst (λ xs. MayTakeIn xs r new) none may) [
@@ -75,14 +79,19 @@ module _ (e : Exporter) (places : List ℕ) where
   is_runnable : HasDestinations network e → IsRunnable network
   is_runnable has = record {
     destinations = All-cons (HasDestinations network) e [] has (All-nil (HasDestinations network));
-    aggregations = All-cons (HasAggregations network) (record { exporters = places; aggregations = [] }) [] (All-nil _) (All-nil (HasAggregations network));
+    aggregations = All-cons (HasAggregations network) (record { exporters = places; aggregations = [] }) [] (All-nil _)
+        (All-nil (HasAggregations network));
     caches = has_caches;
   }
 
   -- the crossing puts a record in the cache
-  crossed : (p : Packet) (n : ℕ) (new : State) → first_packet ≡ p → 0 ≡ n → MayDoAll network (one_packet p) (crossing_acts network p.fields (entry_numbered (path customers p) 1)) (record start { coming = remove start.coming n }) new → (r : Record) × (new ≡ standing (r ∷ []) [] [] 0)
+  crossed : (p : Packet) (n : ℕ) (new : State) → first_packet ≡ p → 0 ≡ n
+      → MayDoAll network (one_packet p) (crossing_acts network p.fields (entry_numbered (path customers p) 1))
+      (record start { coming = remove start.coming n }) new → (r : Record) × (new ≡ standing (r ∷ []) [] [] 0)
   crossed p n new is at may =
-      let Does : Packet → ℕ → Type 0 = λ q k. MayDoAll network (one_packet q) (crossing_acts network q.fields (entry_numbered (path customers q) 1)) (record start { coming = remove start.coming k }) new in
+      let Does : Packet → ℕ → Type 0 = λ q k. MayDoAll network (one_packet q)
+      (crossing_acts network q.fields (entry_numbered (path customers q) 1))
+      (record start { coming = remove start.coming k }) new in
       let m : Does first_packet 0 = subst (λ q. Does q 0) (sym is) (subst (λ k. Does p k) (sym at) may) in
       let r : Record = record { key = key_of (source 32) first_packet.fields; counts = one_packet first_packet } in
       (r, sym m.2 ∙ m.1.4 ∙ ap (λ (rs : List Record). standing rs [] [] 0) (first_taken_in m.1.0 r m.1.1 m.1.2 m.1.3))
@@ -97,7 +106,8 @@ module _ (e : Exporter) (places : List ℕ) where
       let first : 0 ≡ n = cc in
       crossed p n new same first m
   from_start new (crosses (suc zero) (suc (suc crossing)) n p e k m) =
-      let bad : None ≡ Some n = subst (λ b. cond b (Some 0) None ≡ Some n) (ne_eqb 1 (suc (suc crossing)) (λ same. omega (arith, same))) k in
+      let bad : None ≡ Some n = subst (λ b. cond b (Some 0) None ≡ Some n)
+      (ne_eqb 1 (suc (suc crossing)) (λ same. omega (arith, same))) k in
       absurd (cc)
   from_start new (crosses (suc (suc packet)) crossing n p e k m) = let bad : None ≡ Some p = e in absurd (cc)
   from_start new (expires name holder number rs r h e k m) = absurd (none_leaves holder number rs r e k)
@@ -106,10 +116,14 @@ module _ (e : Exporter) (places : List ℕ) where
   not_at_start : Complete start → ⊥
   not_at_start c = let none : start.coming ≡ [] = c.crossed in absurd (cc)
 
--- where moves lead from states of a kind only to states of that kind, none of which is complete, no run from one is complete
-never_complete : (net : Net) (Goes : State → Type 0) → ((s new : State) → Goes s → Moves net customers one s new → Goes new) → ((s : State) → Goes s → Complete s → ⊥) → (s final : State) → Runs net customers one s final → Goes s → Complete final → ⊥
+-- where moves lead from states of a kind only to states of that kind, none of which is complete, no run from one is
+-- complete
+never_complete : (net : Net) (Goes : State → Type 0)
+    → ((s new : State) → Goes s → Moves net customers one s new → Goes new) → ((s : State) → Goes s → Complete s → ⊥)
+    → (s final : State) → Runs net customers one s final → Goes s → Complete final → ⊥
 never_complete net Goes on not_yet _ _ (ended s final same) goes c = not_yet final (subst Goes same goes) c
-never_complete net Goes on not_yet _ _ (moved s next final m rest) goes c = never_complete net Goes on not_yet next final rest (on s next goes m) c
+never_complete net Goes on not_yet _ _ (moved s next final m rest) goes c =
+    never_complete net Goes on not_yet next final rest (on s next goes m) c
 
 -- ---- to the link or to a destination that has none
 
@@ -133,7 +147,8 @@ is_ranked e = record {
 -- whatever the packets are
 pub runs_by_choice : (packets : List Packet) → HasCompleteRun (net by_choice) customers packets
 runs_by_choice packets =
-    complete_runs_exist (net by_choice) customers packets (is_ranked by_choice) (is_runnable by_choice [] (record { links = has_links; some = λ e. omega arith }))
+    complete_runs_exist (net by_choice) customers packets (is_ranked by_choice)
+    (is_runnable by_choice [] (record { links = has_links; some = λ e. omega arith }))
 
 -- ---- to one of no destinations
 
@@ -169,7 +184,8 @@ not_while_stuck s stuck c =
 pub ranks_are_not_enough : ((net : Net) → IsRanked net → HasCompleteRun net customers one) → ⊥
 ranks_are_not_enough law =
     let run = law (net to_none) (is_ranked to_none) in
-    never_complete (net to_none) IsStuck stays_stuck not_while_stuck (start to_none []) run.final run.runs (inl refl) run.complete
+    never_complete (net to_none) IsStuck stays_stuck not_while_stuck (start to_none []) run.final run.runs (inl refl)
+    run.complete
 
 -- ---- from the collector back to itself
 
@@ -193,14 +209,23 @@ to_link_from_cache r new (expires name zero number rs q h e k m) =
 to_link_from_cache r new (expires name (suc holder) number rs q h e k m) = let bad : None ≡ Some rs = e in absurd (cc)
 to_link_from_cache r new (arrives link number rs q e k m) = absurd (none_leaves link number rs q e k)
 
-to_link_from_link : (r : Record) (totals : List Record) (unassigned : ℕ) (new : State) → Moves ring customers one (standing [] (r ∷ []) totals unassigned) new → OnLink new
-to_link_from_link r totals unassigned new (crosses packet crossing n p e k m) = let bad : None ≡ Some n = k in absurd (cc)
-to_link_from_link r totals unassigned new (expires name holder number rs q h e k m) = absurd (none_leaves holder number rs q e k)
+to_link_from_link : (r : Record) (totals : List Record) (unassigned : ℕ) (new : State)
+    → Moves ring customers one (standing [] (r ∷ []) totals unassigned) new → OnLink new
+to_link_from_link r totals unassigned new (crosses packet crossing n p e k m) = let bad : None ≡ Some n = k in
+    absurd (cc)
+to_link_from_link r totals unassigned new (expires name holder number rs q h e k m) =
+    absurd (none_leaves holder number rs q e k)
 to_link_from_link r totals unassigned new (arrives zero number rs q e k m) =
     let t = tally_tells ring customers one q.counts q.key (standing [] (without rs number) totals unassigned) in
-    let sent : State → State = λ s. record s { carried = put_last s.carried 0 q } in
-    (q, t.0, t.1, sym m.2.2 ∙ m.2.1 ∙ ap sent (m.1 ∙ t.2) ∙ ap (λ (xs : List Record). standing [] (xs ++ q ∷ []) t.0 t.1) (one_leaves number rs r q e k))
-to_link_from_link r totals unassigned new (arrives (suc link) number rs q e k m) = let bad : None ≡ Some rs = e in absurd (cc)
+    let sent : State → State = λ s. record s { carried = put_last s.carried 0 q } in (
+      q,
+      t.0,
+      t.1,
+      sym m.2.2 ∙ m.2.1 ∙ ap sent (m.1 ∙ t.2)
+          ∙ ap (λ (xs : List Record). standing [] (xs ++ q ∷ []) t.0 t.1) (one_leaves number rs r q e k),
+    )
+to_link_from_link r totals unassigned new (arrives (suc link) number rs q e k m) = let bad : None ≡ Some rs = e in
+    absurd (cc)
 
 keeps_going : (s new : State) → IsGoing s → Moves ring customers one s new → IsGoing new
 keeps_going s new going m =
@@ -225,6 +250,8 @@ not_while_going s going c =
 -- nor that none is stuck
 pub no_stuck_record_is_not_enough : ((net : Net) → IsRunnable net → HasCompleteRun net customers one) → ⊥
 no_stuck_record_is_not_enough law =
-    let links : All (λ d. IfSome d (λ link. link < length ring.links)) to_link.destinations = All-cons (λ d. IfSome d (λ link. link < 1)) (Some 0) [] (omega arith) (All-nil _) in
+    let links : All (λ d. IfSome d (λ link. link < length ring.links)) to_link.destinations =
+    All-cons (λ d. IfSome d (λ link. link < 1)) (Some 0) [] (omega arith) (All-nil _) in
     let run = law ring (is_runnable to_link (0 ∷ []) (record { links = links; some = λ e. absurd (cc) })) in
-    never_complete ring IsGoing keeps_going not_while_going (start to_link (0 ∷ [])) run.final run.runs (inl refl) run.complete
+    never_complete ring IsGoing keeps_going not_while_going (start to_link (0 ∷ [])) run.final run.runs (inl refl)
+    run.complete

@@ -19,7 +19,13 @@ counts packets octets = record { packets = packets; octets = octets }
 
 -- a packet from this address to port 443 of 192.0.2.1, by TCP
 abbrev packet : ℕ → ℕ → Packet
-packet address octets = record { fields = address ∷ 3221225985 ∷ 6 ∷ 49152 ∷ 443 ∷ 0 ∷ 4 ∷ 0 ∷ 0 ∷ []; octets = octets; class = 1; path = 1 }
+packet address octets = record {
+  fields = address ∷ 3221225985 ∷ 6 ∷ 49152 ∷ 443 ∷ 0 ∷ 4 ∷ 0 ∷ 0 ∷ [];
+  octets =
+      octets;
+  class = 1;
+  path = 1;
+}
 
 -- from 10.1.2.3, 10.1.2.4 and 10.1.3.1
 abbrev three : List Packet
@@ -49,11 +55,13 @@ of_other_layout : plain_sum (source 16) (key 15 2561) three ≡ None
 of_other_layout = refl
 
 -- plain sums don't wrap
-beyond : plain_sum (source 16) (key 16 2561) (packet 167838211 18446744073709551615 ∷ packet 167838212 1 ∷ []) ≡ Some (counts 2 18446744073709551616)
+beyond : plain_sum (source 16) (key 16 2561) (packet 167838211 18446744073709551615 ∷ packet 167838212 1 ∷ [])
+    ≡ Some (counts 2 18446744073709551616)
 beyond = refl
 
 abbrev two_totals : List Record
-two_totals = record { key = key 24 655618; counts = counts 2 150 } ∷ record { key = key 24 655619; counts = counts 1 7 } ∷ []
+two_totals = record { key = key 24 655618; counts = counts 2 150 } ∷ record { key = key 24 655619; counts = counts 1 7 }
+    ∷ []
 
 second_total : total_at two_totals (key 24 655619) ≡ Some (counts 1 7)
 second_total = refl

@@ -47,13 +47,15 @@ module _ (net : Net) where
   handled_count key (Some process) =
       let sends = count_sends (at_places net.exporters process.exporters) key in
       let takes' = count_takes key (filter (takes net key) process.aggregations) in
-      let all = count_append (map (λ e. Send e key) (at_places net.exporters process.exporters)) (map (take_in net key) (filter (takes net key) process.aggregations)) in
+      let all = count_append (map (λ e. Send e key) (at_places net.exporters process.exporters))
+      (map (take_in net key) (filter (takes net key) process.aggregations)) in
       omega arith
 
   coming_count : (key : Key) (process : ℕ) → tally_count (coming_to net key process) ≤ 1
   coming_count key process =
       let rest = handled_count key (slice_get net.processes process) in
-      elim (process == net.report) as (λ b. tally_count (cond b (Tally key ∷ []) [] ++ acts_of net key (slice_get net.processes process)) ≤ 1) [
+      elim (process == net.report) as (λ b. tally_count
+      (cond b (Tally key ∷ []) [] ++ acts_of net key (slice_get net.processes process)) ≤ 1) [
         | true ↦ omega arith
         | false ↦ omega arith
       ]

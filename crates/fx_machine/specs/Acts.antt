@@ -38,7 +38,8 @@ send_by_choice destinations r s (Some n ∷ choices) = sent_to_chosen (entry_num
 abbrev pub records_joining : Option Record → List Record → ℕ → Record → Option (List Record)
 records_joining None rs number r = None
 records_joining (Some old) rs number r =
-    if same_key old.key r.key then Some (with_entry rs number (record { key = old.key; counts = add_counts old.counts r.counts })) else None
+    if same_key old.key r.key then Some (with_entry rs number
+    (record { key = old.key; counts = add_counts old.counts r.counts })) else None
 
 -- a new record comes last; a number names the held record to which the counts are added
 abbrev pub taken_in : List Record → Option ℕ → Record → Option (List Record)
@@ -47,7 +48,8 @@ taken_in rs (Some number) r = records_joining (entry_numbered rs number) rs numb
 
 abbrev pub with_held : State → ℕ → Option (List Record) → Choices → Option Made
 with_held s holder None choices = None
-with_held s holder (Some rs) choices = Some (record { state = record s { held = slice_set s.held holder rs }; choices = choices })
+with_held s holder (Some rs) choices = Some (record
+    { state = record s { held = slice_set s.held holder rs }; choices = choices })
 
 abbrev pub hold_in : Option (List Record) → ℕ → Record → State → Option ℕ → Choices → Option Made
 hold_in None holder r s choice choices = None
@@ -61,7 +63,11 @@ abbrev pub act : Net → Counts → Act → State → Choices → Option Made
 act net counts (Tally key) s choices = Some (record { state = after_tally net key counts s; choices = choices })
 act net counts (Send exporter key) s choices =
     if exporter.parallel
-    then Some (record { state = sent_to_all exporter.destinations (record { key = key; counts = counts }) s; choices = choices })
+    then Some (record {
+      state = sent_to_all exporter.destinations (record { key = key; counts = counts }) s;
+      choices =
+          choices;
+    })
     else send_by_choice exporter.destinations (record { key = key; counts = counts }) s choices
 act net counts (Hold holder key) s choices = hold holder (record { key = key; counts = counts }) s choices
 

@@ -9,7 +9,8 @@ use Rattle.fx_machine.specs.States.{Coming, with_entry}
 -- the pending crossings of a packet by its marks, numbered from this one
 abbrev pub coming_by_marks : ℕ → ℕ → List Bool → List Coming
 coming_by_marks packet n [] = []
-coming_by_marks packet n (b ∷ bs) = if b then record { packet = packet; crossing = n } ∷ coming_by_marks packet (suc n) bs else coming_by_marks packet (suc n) bs
+coming_by_marks packet n (b ∷ bs) = if b then record { packet = packet; crossing = n }
+    ∷ coming_by_marks packet (suc n) bs else coming_by_marks packet (suc n) bs
 
 -- the pending crossings of all packets, numbered from this one
 abbrev pub coming_of : ℕ → List (List Bool) → List Coming

@@ -30,7 +30,8 @@ pub record Effects : Type 0 where
 
 abbrev pub crossing_of : Net → List Class → Option Packet → ℕ → List Act
 crossing_of net classes None crossing = []
-crossing_of net classes (Some packet) crossing = crossing_acts net packet.fields (entry_numbered (path classes packet) crossing)
+crossing_of net classes (Some packet) crossing =
+    crossing_acts net packet.fields (entry_numbered (path classes packet) crossing)
 
 abbrev pub leaving_of : Net → ℕ → Option Record → List Act
 leaving_of net place None = []
@@ -47,9 +48,12 @@ acts_at acts rss (Some place) number = acts place (entry_numbered (entries (slic
 
 -- no acts if the packet, the holder, the link or the record doesn't exist
 abbrev pub acts_of_step : Net → List Class → List Packet → Step → State → List Act
-acts_of_step net classes packets (Cross packet crossing choices) s = crossing_of net classes (entry_numbered packets packet) crossing
-acts_of_step net classes packets (Expire holder number choices) s = acts_at (leaving_of net) s.held (holder_place net holder) number
-acts_of_step net classes packets (Arrive link number choices) s = acts_at (arrival_of net) s.carried (link_place link) number
+acts_of_step net classes packets (Cross packet crossing choices) s =
+    crossing_of net classes (entry_numbered packets packet) crossing
+acts_of_step net classes packets (Expire holder number choices) s =
+    acts_at (leaving_of net) s.held (holder_place net holder) number
+acts_of_step net classes packets (Arrive link number choices) s =
+    acts_at (arrival_of net) s.carried (link_place link) number
 
 abbrev pub choices_of : Step → Choices
 choices_of (Cross packet crossing choices) = choices
@@ -101,14 +105,16 @@ abbrev pub tally_when : Net → Bool → Key → Tally
 tally_when net tallies key = if tallies then tally_of net key else Untallied
 
 -- a step can be made, apart from its choices, and these are its acts
-pub record IsHandled (net : Net) (classes : List Class) (packets : List Packet) (step : Step) (s : State) (tally : Tally) (exporters : List ℕ) (holdings : List Holding) : Type 0 where
+pub record IsHandled (net : Net) (classes : List Class) (packets : List Packet) (step : Step) (s : State)
+    (tally : Tally) (exporters : List ℕ) (holdings : List Holding) : Type 0 where
   pub key : Key
   pub counts : Counts
   pub tallies : Bool
   pub from : State  -- without the crossing or the record that leaves
   pub acts : acts_of_step net classes packets step s ≡ handling_acts net key tallies exporters holdings
   pub tally_is : tally ≡ tally_when net tallies key
-  pub made : after net classes packets step s ≡ all_acts net counts (handling_acts net key tallies exporters holdings) from (choices_of step)
+  pub made : after net classes packets step s
+      ≡ all_acts net counts (handling_acts net key tallies exporters holdings) from (choices_of step)
   pub held : (holdings ≡ []) ⊎ (from.held ≡ s.held)
 
 -- ---- keys of held records
@@ -121,15 +127,18 @@ keys_in (r ∷ rs) = r.key ∷ keys_in rs
 abbrev pub new_keys : ℕ → List Holding → Choices → List Key
 new_keys holder [] cs = []
 new_keys holder (h ∷ hs) [] = []
-new_keys holder (h ∷ hs) (None ∷ cs) = if h.holder == holder then h.key ∷ new_keys holder hs cs else new_keys holder hs cs
+new_keys holder (h ∷ hs) (None ∷ cs) = if h.holder == holder then h.key
+    ∷ new_keys holder hs cs else new_keys holder hs cs
 new_keys holder (h ∷ hs) (Some n ∷ cs) = new_keys holder hs cs
 
 -- ---- effects by choices
 
 -- these choices suffice for the exporting processes and the holders, and these are the effects
-pub record AreChosen (net : Net) (held : List (List Record)) (tally : Tally) (exporters : List ℕ) (holdings : List Holding) (choices : Choices) (e : Effects) : Type 0 where
+pub record AreChosen (net : Net) (held : List (List Record)) (tally : Tally) (exporters : List ℕ)
+    (holdings : List Holding) (choices : Choices) (e : Effects) : Type 0 where
   pub rest : Choices
-  pub links : chosen_from [] (at_places net.exporters exporters) choices ≡ Some (record { links = e.links; rest = rest })
+  pub links : chosen_from [] (at_places net.exporters exporters) choices
+      ≡ Some (record { links = e.links; rest = rest })
   pub can : (counts : Counts) → is_some (hold_all counts holdings held rest) ≡ true
   pub taken : e.taken ≡ taken_by (map (λ h. h.holder) holdings) rest
   pub tally_is : e.tally ≡ tally
@@ -138,4 +147,5 @@ pub record AreChosen (net : Net) (held : List (List Record)) (tally : Tally) (ex
 abbrev pub CannotBeChosen : Net → List (List Record) → List ℕ → List Holding → Choices → Type 0
 CannotBeChosen net held exporters holdings choices =
     (chosen_from [] (at_places net.exporters exporters) choices ≡ None)
-    ⊎ ((c : Chosen) × (chosen_from [] (at_places net.exporters exporters) choices ≡ Some c) × ((counts : Counts) → hold_all counts holdings held c.rest ≡ None))
+    ⊎ ((c : Chosen) × (chosen_from [] (at_places net.exporters exporters) choices ≡ Some c)
+    × ((counts : Counts) → hold_all counts holdings held c.rest ≡ None))

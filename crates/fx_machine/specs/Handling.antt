@@ -11,4 +11,5 @@ sends net key places = map (λ e. Send e key) (at_places net.exporters places)
 
 -- the record is tallied, forwarded and added to holders
 abbrev pub handling_acts : Net → Key → Bool → List ℕ → List Holding → List Act
-handling_acts net key tallies places holdings = (if tallies then Tally key ∷ [] else []) ++ (sends net key places ++ map hold_act holdings)
+handling_acts net key tallies places holdings = (if tallies then Tally key ∷ [] else [])
+    ++ (sends net key places ++ map hold_act holdings)

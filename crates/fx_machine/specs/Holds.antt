@@ -22,14 +22,16 @@ take_in_at (Some rs) held holder r choice = put_in held holder (taken_in rs choi
 
 -- the lists after one holder adds a record
 abbrev pub held_with : List (List Record) → Counts → Holding → Option ℕ → Option (List (List Record))
-held_with held counts h choice = take_in_at (slice_get held h.holder) held h.holder (record { key = h.key; counts = counts }) choice
+held_with held counts h choice = take_in_at (slice_get held h.holder) held h.holder
+    (record { key = h.key; counts = counts }) choice
 
 -- the lists after each holder adds a record in order, with no choice left over
 abbrev pub hold_all : Counts → List Holding → List (List Record) → Choices → Option (List (List Record))
 hold_all counts [] held [] = Some held
 hold_all counts [] held (c ∷ cs) = None
 hold_all counts (h ∷ hs) held [] = None
-hold_all counts (h ∷ hs) held (c ∷ cs) = option_and_then (λ (now : List (List Record)). hold_all counts hs now cs) (held_with held counts h c)
+hold_all counts (h ∷ hs) held (c ∷ cs) =
+    option_and_then (λ (now : List (List Record)). hold_all counts hs now cs) (held_with held counts h c)
 
 -- ---- undoing
 

@@ -35,4 +35,5 @@ chosen_from links [] choices = Some (record { links = links; rest = choices })
 chosen_from links (e ∷ es) choices =
     if e.parallel
     then chosen_from (links ++ links_of e.destinations) es choices
-    else option_and_then (λ d. chosen_from (links ++ link_list d) es (drop 1 choices)) (next_destination e.destinations choices)
+    else option_and_then (λ d. chosen_from (links ++ link_list d) es (drop 1 choices))
+    (next_destination e.destinations choices)

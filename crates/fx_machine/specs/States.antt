@@ -73,7 +73,8 @@ without xs (suc n) = remove xs n
 abbrev pub add_at : List Record → Key → Counts → List Record
 add_at [] key counts = record { key = key; counts = counts } ∷ []
 add_at (t ∷ ts) key counts =
-    if same_key t.key key then record { key = t.key; counts = add_counts t.counts counts } ∷ ts else t ∷ add_at ts key counts
+    if same_key t.key key then record { key = t.key; counts = add_counts t.counts counts } ∷ ts else t
+    ∷ add_at ts key counts
 
 -- the record is tallied under the projected key, or counted as unassigned
 abbrev pub after_tally : Net → Key → Counts → State → State

@@ -44,7 +44,8 @@ place (c ∷ cs) packet crossing =
 abbrev pub cross_now : Net → List Class → Option Packet → ℕ → State → Choices → Outcome
 cross_now net classes None crossing s choices = Err step_not_enabled
 cross_now net classes (Some packet) crossing s choices =
-    all_acts net (one_packet packet) (crossing_acts net packet.fields (entry_numbered (path classes packet) crossing)) s choices
+    all_acts net (one_packet packet) (crossing_acts net packet.fields (entry_numbered (path classes packet) crossing)) s
+    choices
 
 abbrev pub after_cross : Net → List Class → Option Packet → Option ℕ → ℕ → State → Choices → Outcome
 after_cross net classes packet None crossing s choices = Err step_not_enabled
@@ -60,11 +61,13 @@ acts_of_leaving net holder key = map (λ e. Send e key) (exporters_of net (slice
 abbrev pub after_expire : Net → ℕ → List Record → ℕ → Option Record → State → Choices → Outcome
 after_expire net holder rs number None s choices = Err no_record_there
 after_expire net holder rs number (Some r) s choices =
-    all_acts net r.counts (acts_of_leaving net holder r.key) (record s { held = slice_set s.held holder (without rs number) }) choices
+    all_acts net r.counts (acts_of_leaving net holder r.key)
+    (record s { held = slice_set s.held holder (without rs number) }) choices
 
 abbrev pub expire_from : Net → ℕ → Option (List Record) → ℕ → State → Choices → Outcome
 expire_from net holder None number s choices = Err step_not_enabled
-expire_from net holder (Some rs) number s choices = after_expire net holder rs number (entry_numbered rs number) s choices
+expire_from net holder (Some rs) number s choices =
+    after_expire net holder rs number (entry_numbered rs number) s choices
 
 abbrev pub expire_at : Net → Option ℕ → ℕ → State → Choices → Outcome
 expire_at net None number s choices = Err step_not_enabled
@@ -73,13 +76,16 @@ expire_at net (Some holder) number s choices = expire_from net holder (slice_get
 -- ---- a record leaves a link
 
 abbrev pub take_in : Net → Key → AggregationEntry → Act
-take_in net key aggregation = Hold aggregation.holder (project key (layout_of (slice_get net.holders aggregation.holder)))
+take_in net key aggregation = Hold aggregation.holder
+    (project key (layout_of (slice_get net.holders aggregation.holder)))
 
--- each exporting process that the collecting process names sends the record, and each aggregation that accepts its key adds it
+-- each exporting process that the collecting process names sends the record, and each aggregation that accepts its key
+-- adds it
 abbrev pub acts_of : Net → Key → Option Process → List Act
 acts_of net key None = []
 acts_of net key (Some process) =
-    map (λ e. Send e key) (at_places net.exporters process.exporters) ++ map (take_in net key) (filter (takes net key) process.aggregations)
+    map (λ e. Send e key) (at_places net.exporters process.exporters)
+    ++ map (take_in net key) (filter (takes net key) process.aggregations)
 
 -- at the report's collecting process the record is tallied first
 abbrev pub coming_to : Net → Key → ℕ → List Act
@@ -93,7 +99,8 @@ acts_of_arrival net key (Some process) = coming_to net key process
 abbrev pub after_arrive : Net → ℕ → List Record → ℕ → Option Record → State → Choices → Outcome
 after_arrive net link rs number None s choices = Err no_record_there
 after_arrive net link rs number (Some r) s choices =
-    all_acts net r.counts (acts_of_arrival net r.key (slice_get net.links link)) (record s { carried = slice_set s.carried link (without rs number) }) choices
+    all_acts net r.counts (acts_of_arrival net r.key (slice_get net.links link))
+    (record s { carried = slice_set s.carried link (without rs number) }) choices
 
 abbrev pub arrive_from : Net → ℕ → Option (List Record) → ℕ → State → Choices → Outcome
 arrive_from net link None number s choices = Err step_not_enabled
@@ -110,7 +117,8 @@ arrive_at net (Some link) number s choices = arrive_from net link (slice_get s.c
 
 -- ---- any step
 
--- the state after a step, or its fault: 851 if its place doesn't exist or the crossing was already made, then 853 if no record
+-- the state after a step, or its fault: 851 if its place doesn't exist or the crossing was already made, then 853 if no
+-- record
 -- has that number, then 852 if there are too few or too many choices or one of them can't be made
 abbrev pub after : Net → List Class → List Packet → Step → State → Outcome
 after net classes packets (Cross packet crossing choices) s =

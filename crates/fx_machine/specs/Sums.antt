@@ -14,7 +14,8 @@ one_more octets (Some c) = record { packets = 1 + c.packets; octets = octets + c
 abbrev pub plain_sum : Layout → Key → List Packet → Option Counts
 plain_sum layout key [] = None
 plain_sum layout key (p ∷ ps) =
-    if same_key (key_of layout p.fields) key then Some (one_more p.octets (plain_sum layout key ps)) else plain_sum layout key ps
+    if same_key (key_of layout p.fields) key then Some (one_more p.octets (plain_sum layout key ps)) else plain_sum
+    layout key ps
 
 -- the entry of the totals at a key
 abbrev pub total_at : List Record → Key → Option Counts

@@ -7,7 +7,8 @@ use Rattle.fx_machine.specs.States.{add_at}
 
 -- the totals after a record is tallied under a layout
 abbrev pub totals_with : Layout → Key → Counts → List Record → List Record
-totals_with layout key counts totals = if refines key.layout layout then add_at totals (project key layout) counts else totals
+totals_with layout key counts totals = if refines key.layout layout then add_at totals (project key layout) counts
+    else totals
 
 -- the number of unassigned records after a record is tallied
 abbrev pub unassigned_with : Layout → Key → ℕ → ℕ

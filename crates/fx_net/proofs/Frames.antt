@@ -23,7 +23,8 @@ unfolding first_place
 of_none classes fields seen place e is none = ap (first_place classes) (sym e) ∙ sym is ∙ none
 
 -- the frame that is seen has the same fields, octets and second
-pub of_seen : (p : Packet) (frame seen : captures.Seen) → frame.fields ≡ seen.fields → frame.octets ≡ seen.octets → IsFrame p frame → IsFrame p seen
+pub of_seen : (p : Packet) (frame seen : captures.Seen) → frame.fields ≡ seen.fields → frame.octets ≡ seen.octets
+    → IsFrame p frame → IsFrame p seen
 of_seen p frame seen fields octets h = record {
   fields = h.fields ∙ fields;
   octets = h.octets ∙ octets;
@@ -32,8 +33,10 @@ of_seen p frame seen fields octets h = record {
 }
 
 -- the class at this place is the first that holds it
-pub reads_first : (net : Net) (classes : List Class) (frame seen : captures.Seen) (place : Option ℕ) (k : ℕ) (old done : Contents)
-    → frame.fields ≡ seen.fields → frame.octets ≡ seen.octets → frame.second ≡ seen.second → IsFrame (packet_of frame (k + 1) 1) frame → frame.second < 2 ^ 32
+pub reads_first : (net : Net) (classes : List Class) (frame seen : captures.Seen) (place : Option ℕ) (k : ℕ)
+    (old done : Contents)
+    → frame.fields ≡ seen.fields → frame.octets ≡ seen.octets → frame.second ≡ seen.second
+    → IsFrame (packet_of frame (k + 1) 1) frame → frame.second < 2 ^ 32
     → place ≡ position (λ (c : Class). holds c.region frame.fields) classes → place ≡ Some k
     → done ≡ after_packet net classes (packet_of frame (k + 1) 1) frame.second old
     → ReadsFrame net classes action.Next seen old done
@@ -46,11 +49,13 @@ reads_first net classes frame seen place k old done fields octets second of_fram
 }
 
 -- a reader that answers that there is a frame is at it, and one that answers that there is none is at the end
-pub at_frame_of : (old new : captures.CaptureState) (there : Bool) → captures.AdvancesToFrame old new (Ok there) → there ≡ true → captures.AtFrame old new
+pub at_frame_of : (old new : captures.CaptureState) (there : Bool) → captures.AdvancesToFrame old new (Ok there) → there
+    ≡ true → captures.AtFrame old new
 at_frame_of old new true h e = h
 at_frame_of old new false h e = absurd cc
 
-pub at_end_of : (old new : captures.CaptureState) (there : Bool) → captures.AdvancesToFrame old new (Ok there) → there ≡ false → captures.AtCaptureEnd old new
+pub at_end_of : (old new : captures.CaptureState) (there : Bool) → captures.AdvancesToFrame old new (Ok there) → there
+    ≡ false → captures.AtCaptureEnd old new
 at_end_of old new true h e = absurd cc
 at_end_of old new false h e = h
 

@@ -11,7 +11,8 @@ use Rattle.fx_net.specs.Contents.{Contents}
 use Rattle.fx_net.specs.Doings.{EmptiesNetwork}
 use Rattle.fx_net.specs.Running.{RunningNetwork, FailsOutside, RefusesLine, RefusesRun, line_refused, ReadsRest, Closes, Obeys, ReadsOne, ReadsFrames, HasRead, GoesOnToFrames, HasGoneOn, ObeysLines, HasObeyed}
 
-frames_more : (frames : List captures.Seen) (old mid new : RunningNetwork) (at on to : captures.CaptureState) (before put after : Put)
+frames_more : (frames : List captures.Seen) (old mid new : RunningNetwork) (at on to : captures.CaptureState)
+    (before put after : Put)
     → ReadsFrames frames old mid at on before put → captures.AtFrame on to → ReadsOne mid new to.seen put after
     → ReadsFrames (frames ++ to.seen ∷ []) old new at to before after
 frames_more [] old mid new at on to before put after e f g = (
@@ -20,7 +21,8 @@ frames_more [] old mid new at on to before put after e f g = (
   after,
   subst (λ (r : captures.CaptureState). captures.AtFrame r to) e.1 f,
   refl,
-  subst (λ (r : RunningNetwork). ReadsOne r new to.seen before after) e.0 (subst (λ (p : Put). ReadsOne mid new to.seen p after) e.2 g),
+  subst (λ (r : RunningNetwork). ReadsOne r new to.seen before after) e.0
+      (subst (λ (p : Put). ReadsOne mid new to.seen p after) e.2 g),
   (refl, refl, refl),
 )
 frames_more (frame ∷ frames) old mid new at on to before put after e f g =
@@ -28,19 +30,27 @@ frames_more (frame ∷ frames) old mid new at on to before put after e f g =
 
 -- one frame more
 pub reads_more : (old mid new : RunningNetwork) (at on to : captures.CaptureState) (before put after : Put)
-    → HasRead old mid at on before put → captures.AtFrame on to → ReadsOne mid new to.seen put after → HasRead old new at to before after
+    → HasRead old mid at on before put → captures.AtFrame on to → ReadsOne mid new to.seen put after
+    → HasRead old new at to before after
 reads_more old mid new at on to before put after e f g =
-    record { frames = e.frames ++ to.seen ∷ []; read = frames_more e.frames old mid new at on to before put after e.read f g }
+    record {
+      frames = e.frames ++ to.seen ∷ [];
+      read =
+          frames_more e.frames old mid new at on to before put after e.read f g;
+    }
 
-gone_more : (frames : List captures.Seen) (at on to : captures.CaptureState) → GoesOnToFrames at on frames → captures.AtFrame on to → GoesOnToFrames at to (frames ++ to.seen ∷ [])
+gone_more : (frames : List captures.Seen) (at on to : captures.CaptureState) → GoesOnToFrames at on frames
+    → captures.AtFrame on to → GoesOnToFrames at to (frames ++ to.seen ∷ [])
 gone_more [] at on to e f = (to, subst (λ (r : captures.CaptureState). captures.AtFrame r to) e f, refl, refl)
 gone_more (frame ∷ frames) at on to e f = (e.0, e.1, e.2, gone_more frames e.0 on to e.3 f)
 
 pub goes_more : (at on to : captures.CaptureState) → HasGoneOn at on → captures.AtFrame on to → HasGoneOn at to
 goes_more at on to e f = (e.0 ++ to.seen ∷ [], gone_more e.0 at on to e.1 f)
 
-lines_more : (lines : List (List ℕ)) (old mid new : RunningNetwork) (at on to : captures.CaptureState) (from behind last : Lines) (before put after : Put)
-    → ObeysLines lines old mid at on from behind before put → AtLine behind last → Obeys last.line mid new on to put after
+lines_more : (lines : List (List ℕ)) (old mid new : RunningNetwork) (at on to : captures.CaptureState)
+    (from behind last : Lines) (before put after : Put)
+    → ObeysLines lines old mid at on from behind before put → AtLine behind last
+    → Obeys last.line mid new on to put after
     → ObeysLines (lines ++ last.line ∷ []) old new at to from last before after
 lines_more [] old mid new at on to from behind last before put after e f g = (
   new,
@@ -58,23 +68,33 @@ lines_more (line ∷ lines) old mid new at on to from behind last before put aft
     (e.0, e.1, e.2, e.3, e.4, e.5, e.6, lines_more lines e.0 mid new e.1 on to e.2 behind last e.3 put after e.7 f g)
 
 -- one line more
-pub obeys_more : (old mid new : RunningNetwork) (at on to : captures.CaptureState) (from behind last : Lines) (before put after : Put)
+pub obeys_more : (old mid new : RunningNetwork) (at on to : captures.CaptureState) (from behind last : Lines)
+    (before put after : Put)
     → HasObeyed old mid at on from behind before put → AtLine behind last → Obeys last.line mid new on to put after
     → HasObeyed old new at to from last before after
 obeys_more old mid new at on to from behind last before put after e f g =
-    record { lines = e.lines ++ last.line ∷ []; obeyed = lines_more e.lines old mid new at on to from behind last before put after e.obeyed f g }
+    record {
+      lines = e.lines ++ last.line ∷ [];
+      obeyed =
+          lines_more e.lines old mid new at on to from behind last before put after e.obeyed f g;
+    }
 
 -- ---- what stays
 
-frames_rest : (frames : List captures.Seen) (old new : RunningNetwork) (at to : captures.CaptureState) (before after : Put) → ReadsFrames frames old new at to before after → new ≡ record old { contents = new.contents }
-frames_rest [] old new at to before after e = subst (λ (r : RunningNetwork). r ≡ record old { contents = r.contents }) (sym e.0) refl
+frames_rest : (frames : List captures.Seen) (old new : RunningNetwork) (at to : captures.CaptureState)
+    (before after : Put) → ReadsFrames frames old new at to before after → new ≡ record old { contents = new.contents }
+frames_rest [] old new at to before after e =
+    subst (λ (r : RunningNetwork). r ≡ record old { contents = r.contents }) (sym e.0) refl
 frames_rest (frame ∷ frames) old new at to before after e =
-    frames_rest frames e.0 new e.1 to e.2 after e.6 ∙ ap (λ (r : RunningNetwork). record r { contents = new.contents }) e.5.rest
+    frames_rest frames e.0 new e.1 to e.2 after e.6
+    ∙ ap (λ (r : RunningNetwork). record r { contents = new.contents }) e.5.rest
 
 -- ---- the closing phase
 
-pub closes_by : (old mid : RunningNetwork) (at to : captures.CaptureState) (before put after : Put) (ranked : List ℕ) (contents : Contents)
-    → ReadsRest old mid at to before put → IsWhole (net_of mid.network) ranked → EmptiesNetwork (net_of mid.network) ranked put mid.contents after contents
+pub closes_by : (old mid : RunningNetwork) (at to : captures.CaptureState) (before put after : Put) (ranked : List ℕ)
+    (contents : Contents)
+    → ReadsRest old mid at to before put → IsWhole (net_of mid.network) ranked
+    → EmptiesNetwork (net_of mid.network) ranked put mid.contents after contents
     → Closes old (record mid { contents = contents }) at to before after
 closes_by old mid at to before put after ranked contents reads whole empties =
     let rest = frames_rest reads.read.frames old mid at reads.last before put reads.read.read in
@@ -85,7 +105,8 @@ closes_by old mid at to before put after ranked contents reads whole empties =
       reads = reads;
       ranked = ranked;
       whole = subst (λ (n : NetworkDocument). IsWhole (net_of n) ranked) network whole;
-      empties = subst (λ (n : NetworkDocument). EmptiesNetwork (net_of n) ranked put mid.contents after contents) network empties;
+      empties = subst (λ (n : NetworkDocument). EmptiesNetwork (net_of n) ranked put mid.contents after contents)
+          network empties;
       rest = ap (λ (r : RunningNetwork). record r { contents = contents }) rest;
     }
 
@@ -95,23 +116,30 @@ pub at_line_of : (old new : Lines) (there : Bool) → AdvancesToLine old new (Ok
 at_line_of old new true h e = h
 at_line_of old new false h e = absurd cc
 
-pub at_text_end_of : (old new : Lines) (there : Bool) → AdvancesToLine old new (Ok there) → there ≡ false → AtTextEnd old new
+pub at_text_end_of : (old new : Lines) (there : Bool) → AdvancesToLine old new (Ok there) → there ≡ false
+    → AtTextEnd old new
 at_text_end_of old new true h e = absurd cc
 at_text_end_of old new false h e = h
 
 -- ---- a line that a reader lends
 
-pub obeys_lent : (old mid new : RunningNetwork) (at on to : captures.CaptureState) (from behind last : Lines) (before put after : Put) (line : List ℕ)
-    → HasObeyed old mid at on from behind before put → AtLine behind last → line ≡ last.line → Obeys line mid new on to put after
+pub obeys_lent : (old mid new : RunningNetwork) (at on to : captures.CaptureState) (from behind last : Lines)
+    (before put after : Put) (line : List ℕ)
+    → HasObeyed old mid at on from behind before put → AtLine behind last → line ≡ last.line
+    → Obeys line mid new on to put after
     → HasObeyed old new at to from last before after
 obeys_lent old mid new at on to from behind last before put after line e f is g =
-    obeys_more old mid new at on to from behind last before put after e f (subst (λ (l : List ℕ). Obeys l mid new on to put after) is g)
+    obeys_more old mid new at on to from behind last before put after e f
+    (subst (λ (l : List ℕ). Obeys l mid new on to put after) is g)
 
-pub line_fault : (old mid : RunningNetwork) (at on to : captures.CaptureState) (from behind last : Lines) (before put : Put) (failed : Bool) (line : List ℕ) (number : ℕ) (e : Fault)
+pub line_fault : (old mid : RunningNetwork) (at on to : captures.CaptureState) (from behind last : Lines)
+    (before put : Put) (failed : Bool) (line : List ℕ) (number : ℕ) (e : Fault)
     → HasObeyed old mid at on from behind before put → AtLine behind last → line ≡ last.line → number ≡ last.number
     → FailsOutside failed e ⊎ RefusesLine line number mid on to e
     → FailsOutside failed e ⊎ RefusesRun old at to from last before e
-line_fault old mid at on to from behind last before put failed line number e obeyed f is number_is (inl outside) = inl outside
+line_fault old mid at on to from behind last before put failed line number e obeyed f is number_is (inl outside) =
+    inl outside
 line_fault old mid at on to from behind last before put failed line number e obeyed f is number_is (inr h) =
     inr (line_refused mid on behind put obeyed f
-    (subst (λ (n : ℕ). RefusesLine last.line n mid on to e) number_is (subst (λ (l : List ℕ). RefusesLine l number mid on to e) is h)))
+    (subst (λ (n : ℕ). RefusesLine last.line n mid on to e) number_is
+    (subst (λ (l : List ℕ). RefusesLine l number mid on to e) is h)))

@@ -30,7 +30,8 @@ next_put before mid after time zero (x ∷ xs) d lt p here others (suc link) =
 next_put before mid after time (suc n) (x ∷ xs) d lt p here others zero =
     subst (λ o. Writes (before 0) o (to_put time x)) (sym (others 0 (λ e. omega (arith, e)))) (p 0)
 next_put before mid after time (suc n) (x ∷ xs) d lt p here others (suc link) =
-    next_put (λ k. before (suc k)) (λ k. mid (suc k)) (λ k. after (suc k)) time n xs d (le_of_suc-le-suc lt) (λ k. p (suc k)) here (λ k ne. others (suc k) (λ e. ne (omega (arith, e)))) link
+    next_put (λ k. before (suc k)) (λ k. mid (suc k)) (λ k. after (suc k)) time n xs d (le_of_suc-le-suc lt)
+    (λ k. p (suc k)) here (λ k ne. others (suc k) (λ e. ne (omega (arith, e)))) link
 
 -- one link more has room
 rooms_more : (n : ℕ) (links : List Ongoing) (d : Ongoing) → n < length links
@@ -40,7 +41,8 @@ rooms_more n [] d lt rooms room link = absurd (omega arith)
 rooms_more zero (x ∷ xs) d lt rooms room zero = room
 rooms_more zero (x ∷ xs) d lt rooms room (suc link) = tt
 rooms_more (suc n) (x ∷ xs) d lt rooms room zero = rooms 0
-rooms_more (suc n) (x ∷ xs) d lt rooms room (suc link) = rooms_more n xs d (le_of_suc-le-suc lt) (λ k. rooms (suc k)) room link
+rooms_more (suc n) (x ∷ xs) d lt rooms room (suc link) =
+    rooms_more n xs d (le_of_suc-le-suc lt) (λ k. rooms (suc k)) room link
 
 -- the link at a place has put out what waited on it
 pub puts_more : (before mid after : Put) (time n : ℕ) (links : List Ongoing) (d : Ongoing) → n < length links

@@ -24,13 +24,18 @@ use Rattle.fx_net.specs.LineReading.{next_of, expire_of, emit_of, carry_of, use_
 abbrev Found : Action → Words → Type 0
 Found a ws = (ws ≡ action_words a) × IsAction a
 
-two_words : (P : Words → Type 0) (k : List ℕ) (ws w1 w2 : Words) (a b : ℕ) → ws ≡ decimal a ∷ w1 → w1 ≡ decimal b ∷ w2 → w2 ≡ [] → P (k ∷ decimal a ∷ decimal b ∷ []) → P (k ∷ ws)
+two_words : (P : Words → Type 0) (k : List ℕ) (ws w1 w2 : Words) (a b : ℕ) → ws ≡ decimal a ∷ w1 → w1 ≡ decimal b ∷ w2
+    → w2 ≡ [] → P (k ∷ decimal a ∷ decimal b ∷ []) → P (k ∷ ws)
 two_words P k ws w1 w2 a b ha hb he p =
-    subst P (ap (λ (x : Words). k ∷ x) (sym (ha ∙ ap (λ (x : Words). decimal a ∷ x) (hb ∙ ap (λ (x : Words). decimal b ∷ x) he)))) p
+    subst P (ap (λ (x : Words). k ∷ x) (sym
+    (ha ∙ ap (λ (x : Words). decimal a ∷ x) (hb ∙ ap (λ (x : Words). decimal b ∷ x) he)))) p
 
-three_words : (P : Words → Type 0) (k : List ℕ) (ws w1 w2 w3 : Words) (a b c : ℕ) → ws ≡ decimal a ∷ w1 → w1 ≡ decimal b ∷ w2 → w2 ≡ decimal c ∷ w3 → w3 ≡ [] → P (k ∷ decimal a ∷ decimal b ∷ decimal c ∷ []) → P (k ∷ ws)
+three_words : (P : Words → Type 0) (k : List ℕ) (ws w1 w2 w3 : Words) (a b c : ℕ) → ws ≡ decimal a ∷ w1 → w1 ≡ decimal b
+    ∷ w2 → w2 ≡ decimal c ∷ w3 → w3 ≡ [] → P (k ∷ decimal a ∷ decimal b ∷ decimal c ∷ []) → P (k ∷ ws)
 three_words P k ws w1 w2 w3 a b c ha hb hc he p =
-    subst P (ap (λ (x : Words). k ∷ x) (sym (ha ∙ ap (λ (x : Words). decimal a ∷ x) (hb ∙ ap (λ (x : Words). decimal b ∷ x) (hc ∙ ap (λ (x : Words). decimal c ∷ x) he))))) p
+    subst P (ap (λ (x : Words). k ∷ x) (sym
+    (ha ∙ ap (λ (x : Words). decimal a ∷ x)
+    (hb ∙ ap (λ (x : Words). decimal b ∷ x) (hc ∙ ap (λ (x : Words). decimal c ∷ x) he))))) p
 
 found_as : (x a : Action) (ws : Words) → x ≡ a → Found x ws → Found a ws
 found_as x a ws is f = subst (λ (y : Action). Found y ws) is f
@@ -43,7 +48,8 @@ next_found ws r is =
     let ha = number_word ws a pa in
     let hb = number_word a.1 b pb in
     let e = end_found (NextOf a.0 b.0) r b.1 eb in
-    found_as (NextOf a.0 b.0) r _ e.1 (two_words (Found (NextOf a.0 b.0)) (codes "next") ws a.1 b.1 a.0 b.0 ha.0 hb.0 e.0 (refl, (ha.1, hb.1)))))
+    found_as (NextOf a.0 b.0) r _ e.1 (two_words (Found (NextOf a.0 b.0)) (codes "next") ws a.1 b.1 a.0 b.0 ha.0 hb.0
+    e.0 (refl, (ha.1, hb.1)))))
 
 expire_found : (ws : Words) (r : Action) → expire_of ws ≡ Some r → Found r (codes "expire" ∷ ws)
 unfolding expire_of
@@ -53,7 +59,8 @@ expire_found ws r is =
     let ha = number_word ws a pa in
     let hb = number_word a.1 b pb in
     let e = end_found (Expire a.0 b.0) r b.1 eb in
-    found_as (Expire a.0 b.0) r _ e.1 (two_words (Found (Expire a.0 b.0)) (codes "expire") ws a.1 b.1 a.0 b.0 ha.0 hb.0 e.0 (refl, (ha.1, hb.1)))))
+    found_as (Expire a.0 b.0) r _ e.1 (two_words (Found (Expire a.0 b.0)) (codes "expire") ws a.1 b.1 a.0 b.0 ha.0 hb.0
+    e.0 (refl, (ha.1, hb.1)))))
 
 emit_found : (ws : Words) (r : Action) → emit_of ws ≡ Some r → Found r (codes "emit" ∷ ws)
 unfolding emit_of
@@ -65,7 +72,8 @@ emit_found ws r is =
     let hb = number_word a.1 b pb in
     let hd = number_word b.1 d pd in
     let e = end_found (Emit a.0 b.0 d.0) r d.1 ed in
-    found_as (Emit a.0 b.0 d.0) r _ e.1 (three_words (Found (Emit a.0 b.0 d.0)) (codes "emit") ws a.1 b.1 d.1 a.0 b.0 d.0 ha.0 hb.0 hd.0 e.0 (refl, (ha.1, hb.1, hd.1))))))
+    found_as (Emit a.0 b.0 d.0) r _ e.1 (three_words (Found (Emit a.0 b.0 d.0)) (codes "emit") ws a.1 b.1 d.1 a.0 b.0
+    d.0 ha.0 hb.0 hd.0 e.0 (refl, (ha.1, hb.1, hd.1))))))
 
 use_found : (ws : Words) (r : Action) → use_of ws ≡ Some r → Found r (codes "use" ∷ ws)
 unfolding use_of
@@ -77,7 +85,8 @@ use_found ws r is =
     let hb = number_word a.1 b pb in
     let hd = number_word b.1 d pd in
     let e = end_found (Use a.0 b.0 d.0) r d.1 ed in
-    found_as (Use a.0 b.0 d.0) r _ e.1 (three_words (Found (Use a.0 b.0 d.0)) (codes "use") ws a.1 b.1 d.1 a.0 b.0 d.0 ha.0 hb.0 hd.0 e.0 (refl, (ha.1, hb.1, hd.1))))))
+    found_as (Use a.0 b.0 d.0) r _ e.1 (three_words (Found (Use a.0 b.0 d.0)) (codes "use") ws a.1 b.1 d.1 a.0 b.0 d.0
+    ha.0 hb.0 hd.0 e.0 (refl, (ha.1, hb.1, hd.1))))))
 
 carry_found : (ws : Words) (r : Action) → carry_of ws ≡ Some r → Found r (codes "carry" ∷ ws)
 unfolding carry_of
@@ -89,7 +98,8 @@ carry_found ws r is =
     elim (chosen (is_piece b.0) (at_end (Carry a.0 b.0) b.1) None (Some r) eb) [
       | inl h ↦
           let e = end_found (Carry a.0 b.0) r b.1 h.1 in
-          found_as (Carry a.0 b.0) r _ e.1 (two_words (Found (Carry a.0 b.0)) (codes "carry") ws a.1 b.1 a.0 b.0 ha.0 hb.0 e.0 (refl, (ha.1, h.0)))
+          found_as (Carry a.0 b.0) r _ e.1 (two_words (Found (Carry a.0 b.0)) (codes "carry") ws a.1 b.1 a.0 b.0 ha.0
+          hb.0 e.0 (refl, (ha.1, h.0)))
       | inr h ↦ absurd cc
     ]))
 
@@ -139,7 +149,8 @@ plain_by_both [] h k = tt
 plain_by_both (b ∷ bs) h k = ((h.0, k.0), plain_by_both bs h.1 k.1)
 
 number_plain : (n : ℕ) → n ≤ largest → IsWord (decimal n)
-number_plain n le = plain_by_both (decimal n) (decimal_avoids 32 n (omega arith) (omega arith)) (decimal_avoids 10 n (omega arith) (omega arith))
+number_plain n le = plain_by_both (decimal n) (decimal_avoids 32 n (omega arith) (omega arith))
+    (decimal_avoids 10 n (omega arith) (omega arith))
 
 next_said : (a b : ℕ) → IsNumber a → IsNumber b → words_of (action_words (NextOf a b)) ≡ Some (NextOf a b)
 unfolding words_of kind_of next_of
@@ -149,11 +160,13 @@ expire_said : (a b : ℕ) → IsNumber a → IsNumber b → words_of (action_wor
 unfolding words_of kind_of expire_of
 expire_said a b ha hb = rw (number_64 a ha, number_64 b hb) refl
 
-emit_said : (a b c : ℕ) → IsNumber a → IsNumber b → IsNumber c → words_of (action_words (Emit a b c)) ≡ Some (Emit a b c)
+emit_said : (a b c : ℕ) → IsNumber a → IsNumber b → IsNumber c → words_of (action_words (Emit a b c))
+    ≡ Some (Emit a b c)
 unfolding words_of kind_of emit_of
 emit_said a b c ha hb hc = rw (number_64 a ha, number_64 b hb, number_64 c hc) refl
 
-carry_said : (a b : ℕ) → IsNumber a → IsNumber b → is_piece b ≡ true → words_of (action_words (Carry a b)) ≡ Some (Carry a b)
+carry_said : (a b : ℕ) → IsNumber a → IsNumber b → is_piece b ≡ true → words_of (action_words (Carry a b))
+    ≡ Some (Carry a b)
 unfolding words_of kind_of carry_of
 carry_said a b ha hb h = rw (number_64 a ha, number_64 b hb, h) refl
 
@@ -170,9 +183,11 @@ not_next line w v ws e = go (bytes_eq line (codes "next")) refl
 
     go : (b : Bool) → bytes_eq line (codes "next") ≡ b → b ≡ false
     go false h = refl
-    go true h = absurd (one_word (sym (words_join (codes "next") [] (written (codes "next") refl) tt) ∙ ap words (sym (same_word line (codes "next") h)) ∙ e))
+    go true h = absurd (one_word (sym (words_join (codes "next") [] (written (codes "next") refl) tt)
+        ∙ ap words (sym (same_word line (codes "next") h)) ∙ e))
 
-said_in : (line w v : List ℕ) (ws : Words) (a : Action) → words line ≡ w ∷ v ∷ ws → words_of (w ∷ v ∷ ws) ≡ Some a → action_of line ≡ Some a
+said_in : (line w v : List ℕ) (ws : Words) (a : Action) → words line ≡ w ∷ v ∷ ws → words_of (w ∷ v ∷ ws) ≡ Some a
+    → action_of line ≡ Some a
 said_in line w v ws a e h =
     ap (λ (b : Bool). cond b (Some Next) (words_of (words line))) (not_next line w v ws e) ∙ ap words_of e ∙ h
 
@@ -185,16 +200,24 @@ piece_number n h = search rules
 line_said : (line : List ℕ) (a : Action) → AsksFor line a → action_of line ≡ Some a
 line_said line Next h = ap action_of h.1
 line_said line (NextOf a b) h =
-    said_in line _ _ _ _ (words_are line (codes "next") _ h.1 (written (codes "next") refl, (number_plain a h.0.0, (number_plain b h.0.1, tt)))) (next_said a b h.0.0 h.0.1)
+    said_in line _ _ _ _ (words_are line (codes "next") _ h.1
+    (written (codes "next") refl, (number_plain a h.0.0, (number_plain b h.0.1, tt)))) (next_said a b h.0.0 h.0.1)
 line_said line (Expire a b) h =
-    said_in line _ _ _ _ (words_are line (codes "expire") _ h.1 (written (codes "expire") refl, (number_plain a h.0.0, (number_plain b h.0.1, tt)))) (expire_said a b h.0.0 h.0.1)
+    said_in line _ _ _ _ (words_are line (codes "expire") _ h.1
+    (written (codes "expire") refl, (number_plain a h.0.0, (number_plain b h.0.1, tt))))
+    (expire_said a b h.0.0 h.0.1)
 line_said line (Emit a b c) h =
-    said_in line _ _ _ _ (words_are line (codes "emit") _ h.1 (written (codes "emit") refl, (number_plain a h.0.0, (number_plain b h.0.1, (number_plain c h.0.2, tt))))) (emit_said a b c h.0.0 h.0.1 h.0.2)
+    said_in line _ _ _ _ (words_are line (codes "emit") _ h.1
+    (written (codes "emit") refl, (number_plain a h.0.0, (number_plain b h.0.1, (number_plain c h.0.2, tt)))))
+    (emit_said a b c h.0.0 h.0.1 h.0.2)
 line_said line (Carry a b) h =
     let hb = piece_number b h.0.1 in
-    said_in line _ _ _ _ (words_are line (codes "carry") _ h.1 (written (codes "carry") refl, (number_plain a h.0.0, (number_plain b hb, tt)))) (carry_said a b h.0.0 hb h.0.1)
+    said_in line _ _ _ _ (words_are line (codes "carry") _ h.1
+    (written (codes "carry") refl, (number_plain a h.0.0, (number_plain b hb, tt)))) (carry_said a b h.0.0 hb h.0.1)
 line_said line (Use a b c) h =
-    said_in line _ _ _ _ (words_are line (codes "use") _ h.1 (written (codes "use") refl, (number_plain a h.0.0, (number_plain b h.0.1, (number_plain c h.0.2, tt))))) (use_said a b c h.0.0 h.0.1 h.0.2)
+    said_in line _ _ _ _ (words_are line (codes "use") _ h.1
+    (written (codes "use") refl, (number_plain a h.0.0, (number_plain b h.0.1, (number_plain c h.0.2, tt)))))
+    (use_said a b c h.0.0 h.0.1 h.0.2)
 
 -- ---- so reading tells just what a line asks for
 

@@ -36,7 +36,8 @@ after_tally net link r c =
 -- the record is tallied, forwarded and added to the aggregations that accept it
 abbrev pub after_arrive : Net → ℕ → Record → Contents → Contents
 after_arrive net link r c =
-    after_taking net r.counts (takers net link r.key) (after_send net (exporters_named (process_behind net link)) r (after_tally net link r c))
+    after_taking net r.counts (takers net link r.key)
+    (after_send net (exporters_named (process_behind net link)) r (after_tally net link r c))
 
 abbrev pub after_arrivals : Net → ℕ → List Record → Contents → Contents
 after_arrivals net link [] c = c
@@ -54,7 +55,8 @@ with_left rs o = record o { receiver = record o.receiver { known = record o.rece
 -- all waiting records of the link are handled
 abbrev pub after_handling : Net → ℕ → Contents → Contents
 after_handling net link c =
-    after_arrivals net link (waiting_on (slice_get c.links link)) (record c { links = with_changed (with_left []) c.links link })
+    after_arrivals net link (waiting_on (slice_get c.links link))
+    (record c { links = with_changed (with_left []) c.links link })
 
 -- this number of octets of a link is carried to its end, and every record that they complete is handled
 abbrev pub after_carrying : Net → ℕ → ℕ → Contents → Contents

@@ -48,12 +48,14 @@ pub record IsFrame (packet : Packet) (frame : Seen) : Type 0 where
   pub values : IsFields frame.fields
   pub few : frame.octets < 2 ^ 32
 
--- the class and the path that a line assigns to a packet; by default the first class whose region contains it, and path 1
+-- the class and the path that a line assigns to a packet; by default the first class whose region contains it, and path
+-- 1
 abbrev pub IsGiven : List Class → Action → Packet → Type 0
 IsGiven classes action.Next p =
     (k : ℕ) × (position (λ (c : Class). holds c.region p.fields) classes ≡ Some k) × (p.class ≡ suc k) × (p.path ≡ 1)
 IsGiven classes (action.NextOf class path) p =
-    (c : Class) × (entry_numbered classes class ≡ Some c) × (holds c.region p.fields ≡ true) × (p.class ≡ class) × (p.path ≡ path) × (entry_numbered c.paths path ≢ None)
+    (c : Class) × (entry_numbered classes class ≡ Some c) × (holds c.region p.fields ≡ true) × (p.class ≡ class)
+    × (p.path ≡ path) × (entry_numbered c.paths path ≢ None)
 IsGiven classes _ p = ⊥
 
 -- a packet with this timestamp in seconds makes all of its crossings
@@ -62,12 +64,13 @@ after_packet net classes p second c =
     after_path net p.fields (one_packet p) (path classes p) (record c { second = second })
 
 -- the packet of a frame is read, whose timestamp in seconds fits in 32 bits
-pub record ReadsFrame (net : Net) (classes : List Class) (line : Action) (frame : Seen) (old done : Contents) : Type 0 where
-  pub packet : Packet
-  pub is_frame : IsFrame packet frame
-  pub given : IsGiven classes line packet
-  pub soon : frame.second < 2 ^ 32
-  pub done_is : done ≡ after_packet net classes packet frame.second old
+pub record ReadsFrame (net : Net) (classes : List Class) (line : Action) (frame : Seen) (old done : Contents) : Type 0
+  where
+    pub packet : Packet
+    pub is_frame : IsFrame packet frame
+    pub given : IsGiven classes line packet
+    pub soon : frame.second < 2 ^ 32
+    pub done_is : done ≡ after_packet net classes packet frame.second old
 
 -- ---- removing records from a holder, and carrying octets
 
@@ -114,9 +117,11 @@ CarriesOn net (suc link) n old done = Carries net link n old done
 -- The effect of a line. The frame is the next one of the capture, if there is one.
 abbrev pub DoesAction : NetworkDocument → List Class → Option Seen → Action → Making
 DoesAction network classes frame action.Next = ReadsNextFrame (net_of network) classes action.Next frame
-DoesAction network classes frame (action.NextOf class path) = ReadsNextFrame (net_of network) classes (action.NextOf class path) frame
+DoesAction network classes frame (action.NextOf class path) =
+    ReadsNextFrame (net_of network) classes (action.NextOf class path) frame
 DoesAction network classes frame (action.Expire device cache) = LeastLeaves (net_of network) (holder.Cache device cache)
-DoesAction network classes frame (action.Emit device process aggregation) = LeastLeaves (net_of network) (holder.Aggregation device process aggregation)
+DoesAction network classes frame (action.Emit device process aggregation) =
+    LeastLeaves (net_of network) (holder.Aggregation device process aggregation)
 DoesAction network classes frame (action.Carry link n) = CarriesOn (net_of network) link n
 DoesAction network classes frame (action.Use device exporter destination) = Uses network device exporter destination
 
@@ -133,7 +138,8 @@ Nothing before old after new = (after ≡ before) × (new ≡ old)
 
 -- the first, then the second
 abbrev pub Then : Doing → Doing → Doing
-Then first second before old after new = (put : Put) × (mid : Contents) × first before old put mid × second put mid after new
+Then first second before old after new = (put : Put) × (mid : Contents) × first before old put mid
+    × second put mid after new
 
 -- the same for each item in turn
 abbrev pub Each : {A : Type 0} → (A → Doing) → List A → Doing
@@ -173,7 +179,8 @@ EmptiesAll net places = Each (λ place. Ended (Empties net place)) places
 -- all octets of the links into a process are carried, in order of the links, and then its aggregations are emptied
 abbrev pub Finishes : Net → ℕ → Doing
 Finishes net process =
-    Then (Each (CarriesInto net process) (link_places net)) (EmptiesAll net (holders_of (slice_get net.processes process)))
+    Then (Each (CarriesInto net process) (link_places net))
+    (EmptiesAll net (holders_of (slice_get net.processes process)))
 
 -- all caches are emptied in document order, and then the collecting processes are finished in the given order
 abbrev pub EmptiesNetwork : Net → List ℕ → Doing

@@ -20,9 +20,11 @@ abbrev pub HasRoom : Option Ongoing → Type 0
 HasRoom None = Unit {0}
 HasRoom (Some o) = has_room_for o.outgoing.batch o.outgoing.sender ≡ true
 
--- on each link, which has room for the records that wait, their messages are written; links have numbers from 1, and nothing
+-- on each link, which has room for the records that wait, their messages are written; links have numbers from 1, and
+-- nothing
 -- is written to number 0
 abbrev pub PutsAll : Put → Put → ℕ → List Ongoing → Type 0
 PutsAll before after time links =
     (after 0 ≡ before 0)
-    × ((link : ℕ) → HasRoom (slice_get links link) × Writes (before (suc link)) (after (suc link)) (to_put_on time (slice_get links link)))
+    × ((link : ℕ) → HasRoom (slice_get links link)
+    × Writes (before (suc link)) (after (suc link)) (to_put_on time (slice_get links link)))

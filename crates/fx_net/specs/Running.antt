@@ -85,7 +85,8 @@ pub record Acts (asked : Action) (old new : RunningNetwork) (at to : captures.Ca
   pub rest : new ≡ record old { contents = new.contents }
 
 -- The line requests an action, which is done.
-pub record Obeys (line : List ℕ) (old new : RunningNetwork) (at to : captures.CaptureState) (before after : Put) : Type 0 where
+pub record Obeys (line : List ℕ) (old new : RunningNetwork) (at to : captures.CaptureState) (before after : Put) : Type
+    0 where
   pub asked : Action
   pub asks : AsksFor line asked
   pub frame : Option captures.Seen
@@ -96,7 +97,8 @@ pub record Obeys (line : List ℕ) (old new : RunningNetwork) (at to : captures.
 -- ---- why a line is refused
 
 abbrev pub HoldsNothing : RunningNetwork → HolderName → Type 0
-HoldsNothing old name = (place : ℕ) → holder_place (net_of old.network) name ≡ Some place → least_at old.contents place ≡ None
+HoldsNothing old name = (place : ℕ) → holder_place (net_of old.network) name ≡ Some place → least_at old.contents place
+    ≡ None
 
 -- the link doesn't exist, or fewer octets wait on it
 abbrev pub HasTooFew : Contents → ℕ → ℕ → Type 0
@@ -105,7 +107,8 @@ HasTooFew c (suc link) octets = link < length c.links → queued_on (slice_get c
 
 abbrev pub HasNoDestination : NetworkDocument → ℕ → ℕ → ℕ → Type 0
 HasNoDestination network device exporter destination =
-    (place : ℕ) (e : Exporter) → exporter_place network device exporter ≡ Some place → slice_get (net_of network).exporters place ≡ Some e → entry_numbered e.destinations destination ≡ None
+    (place : ℕ) (e : Exporter) → exporter_place network device exporter ≡ Some place
+    → slice_get (net_of network).exporters place ≡ Some e → entry_numbered e.destinations destination ≡ None
 
 -- a number that names nothing, a holder that holds nothing, too few octets, or no packet; a line that reads no packet
 -- leaves the capture unchanged
@@ -113,14 +116,17 @@ abbrev pub NamesNothing : RunningNetwork → captures.CaptureState → captures.
 NamesNothing old at to action.Next = captures.AtCaptureEnd at to
 NamesNothing old at to (action.NextOf class path) = captures.AtCaptureEnd at to
 NamesNothing old at to (action.Expire device cache) = HoldsNothing old (holder.Cache device cache) × (to ≡ at)
-NamesNothing old at to (action.Emit device process aggregation) = HoldsNothing old (holder.Aggregation device process aggregation) × (to ≡ at)
+NamesNothing old at to (action.Emit device process aggregation) =
+    HoldsNothing old (holder.Aggregation device process aggregation) × (to ≡ at)
 NamesNothing old at to (action.Carry link octets) = HasTooFew old.contents link octets × (to ≡ at)
-NamesNothing old at to (action.Use device exporter destination) = HasNoDestination old.network device exporter destination × (to ≡ at)
+NamesNothing old at to (action.Use device exporter destination) =
+    HasNoDestination old.network device exporter destination × (to ≡ at)
 
 -- the class and the path that a line names aren't those of the packet
 abbrev pub IsNotIn : List Class → captures.Seen → Action → Type 0
 IsNotIn classes frame (action.NextOf class path) =
-    (c : Class) → entry_numbered classes class ≡ Some c → holds c.region frame.fields ≡ true → entry_numbered c.paths path ≡ None
+    (c : Class) → entry_numbered classes class ≡ Some c → holds c.region frame.fields ≡ true
+    → entry_numbered c.paths path ≡ None
 IsNotIn classes frame _ = ⊥
 
 -- no class contains the packet
@@ -132,11 +138,15 @@ IsInNone classes frame action.Next = IsOfNone classes frame
 IsInNone classes frame _ = ⊥
 
 -- 802 or the fault of a capture's record takes precedence over 803 and 804; each fault is placed at the schedule's line
-pub data RefusesAction (old : RunningNetwork) (at to : captures.CaptureState) (number : ℕ) (asked : Action) (e : Fault) : Type 0 where
-  nothing_named : e ≡ fault_at nothing_there (places.Line number) → NamesNothing old at to asked → RefusesAction old at to number asked e
+pub data RefusesAction (old : RunningNetwork) (at to : captures.CaptureState) (number : ℕ) (asked : Action)
+    (e : Fault) : Type 0 where
+  nothing_named : e ≡ fault_at nothing_there (places.Line number) → NamesNothing old at to asked
+      → RefusesAction old at to number asked e
   capture_refused : reads_packet asked ≡ true → captures.RefusesCapture at to e → RefusesAction old at to number asked e
-  not_in : e ≡ fault_at not_in_named_class (places.Line number) → captures.AtFrame at to → IsNotIn old.classes to.seen asked → RefusesAction old at to number asked e
-  in_none : e ≡ fault_at in_no_class (places.Line number) → captures.AtFrame at to → IsInNone old.classes to.seen asked → RefusesAction old at to number asked e
+  not_in : e ≡ fault_at not_in_named_class (places.Line number) → captures.AtFrame at to
+      → IsNotIn old.classes to.seen asked → RefusesAction old at to number asked e
+  in_none : e ≡ fault_at in_no_class (places.Line number) → captures.AtFrame at to → IsInNone old.classes to.seen asked
+      → RefusesAction old at to number asked e
 
 -- 801 takes precedence over the others, and leaves the capture unchanged
 abbrev pub RefusesLine : List ℕ → ℕ → RunningNetwork → captures.CaptureState → captures.CaptureState → Fault → Type 0
@@ -146,7 +156,8 @@ RefusesLine line number old at to e =
 
 -- out of memory, or failure to write octets of links, whatever the line
 abbrev pub FailsOutside : Bool → Fault → Type 0
-FailsOutside failed e = (e ≡ fault_at want_of_memory places.None) ⊎ ((e ≡ fault_at failed_write places.None) × (failed ≡ true))
+FailsOutside failed e = (e ≡ fault_at want_of_memory places.None)
+    ⊎ ((e ≡ fault_at failed_write places.None) × (failed ≡ true))
 
 -- a network that has reported a fault reports it again, and nothing changes
 abbrev pub AnswersAgain : RunningNetwork → RunningNetwork → Result (Unit {0}) Fault → Type 0
@@ -160,15 +171,18 @@ LeavesBoth old at to before after = IfSome old.fault (λ _. (to ≡ at) × (afte
 
 -- the packet of a frame is read, with path 1 of the first class that contains it
 pub record ReadsOne (old new : RunningNetwork) (frame : captures.Seen) (before after : Put) : Type 0 where
-  pub done : Ended (ReadsFrame (net_of old.network) old.classes action.Next frame) before old.contents after new.contents
+  pub done : Ended (ReadsFrame (net_of old.network) old.classes action.Next frame) before old.contents after
+      new.contents
   pub rest : new ≡ record old { contents = new.contents }
 
 -- the packets of these frames are read in order, as the reader of a capture advances
-abbrev pub ReadsFrames : List captures.Seen → RunningNetwork → RunningNetwork → captures.CaptureState → captures.CaptureState → Put → Put → Type 0
+abbrev pub ReadsFrames : List captures.Seen → RunningNetwork → RunningNetwork → captures.CaptureState
+    → captures.CaptureState → Put → Put → Type 0
 ReadsFrames [] old new at to before after = (new ≡ old) × (to ≡ at) × (after ≡ before)
 ReadsFrames (frame ∷ frames) old new at to before after =
     (mid : RunningNetwork) × (on : captures.CaptureState) × (put : Put)
-    × captures.AtFrame at on × (on.seen ≡ frame) × ReadsOne old mid frame before put × ReadsFrames frames mid new on to put after
+    × captures.AtFrame at on × (on.seen ≡ frame) × ReadsOne old mid frame before put
+    × ReadsFrames frames mid new on to put after
 
 -- the packets of some frames are read
 pub record HasRead (old new : RunningNetwork) (at to : captures.CaptureState) (before after : Put) : Type 0 where
@@ -195,38 +209,46 @@ pub record Closes (old new : RunningNetwork) (at to : captures.CaptureState) (be
 -- the reader of a capture has advanced over these frames
 abbrev pub GoesOnToFrames : captures.CaptureState → captures.CaptureState → List captures.Seen → Type 0
 GoesOnToFrames at to [] = to ≡ at
-GoesOnToFrames at to (frame ∷ frames) = (on : captures.CaptureState) × captures.AtFrame at on × (on.seen ≡ frame) × GoesOnToFrames on to frames
+GoesOnToFrames at to (frame ∷ frames) = (on : captures.CaptureState) × captures.AtFrame at on × (on.seen ≡ frame)
+    × GoesOnToFrames on to frames
 
 abbrev pub HasGoneOn : captures.CaptureState → captures.CaptureState → Type 0
 HasGoneOn at to = (frames : List captures.Seen) × GoesOnToFrames at to frames
 
 -- a remaining frame is in no class, or the capture is refused after some frames
 pub data RefusesClose (old : RunningNetwork) (at to : captures.CaptureState) (e : Fault) : Type 0 where
-  capture_cut : (mid : captures.CaptureState) → HasGoneOn at mid → captures.RefusesCapture mid to e → RefusesClose old at to e
-  none_holds : (mid : captures.CaptureState) → e ≡ fault_at in_no_class places.None → HasGoneOn at mid → captures.AtFrame mid to → IsOfNone old.classes to.seen → RefusesClose old at to e
+  capture_cut : (mid : captures.CaptureState) → HasGoneOn at mid → captures.RefusesCapture mid to e
+      → RefusesClose old at to e
+  none_holds : (mid : captures.CaptureState) → e ≡ fault_at in_no_class places.None → HasGoneOn at mid
+      → captures.AtFrame mid to → IsOfNone old.classes to.seen → RefusesClose old at to e
 
 -- ---- a whole run
 
 -- the lines of a schedule are obeyed in order, as the reader of the schedule advances
-abbrev pub ObeysLines : List (List ℕ) → RunningNetwork → RunningNetwork → captures.CaptureState → captures.CaptureState → Lines → Lines → Put → Put → Type 0
+abbrev pub ObeysLines : List (List ℕ) → RunningNetwork → RunningNetwork → captures.CaptureState → captures.CaptureState
+    → Lines → Lines → Put → Put → Type 0
 ObeysLines [] old new at to from last before after = (new ≡ old) × (to ≡ at) × (last ≡ from) × (after ≡ before)
 ObeysLines (line ∷ lines) old new at to from last before after =
     (mid : RunningNetwork) × (on : captures.CaptureState) × (next : Lines) × (put : Put)
-    × AtLine from next × (next.line ≡ line) × Obeys line old mid at on before put × ObeysLines lines mid new on to next last put after
+    × AtLine from next × (next.line ≡ line) × Obeys line old mid at on before put
+    × ObeysLines lines mid new on to next last put after
 
 -- some lines are obeyed
-pub record HasObeyed (old new : RunningNetwork) (at to : captures.CaptureState) (from last : Lines) (before after : Put) : Type 0 where
+pub record HasObeyed (old new : RunningNetwork) (at to : captures.CaptureState) (from last : Lines)
+    (before after : Put) : Type 0 where
   pub lines : List (List ℕ)
   pub obeyed : ObeysLines lines old new at to from last before after
 
 -- all lines of the schedule are obeyed
-pub record ObeysAll (old new : RunningNetwork) (at to : captures.CaptureState) (from last : Lines) (before after : Put) : Type 0 where
+pub record ObeysAll (old new : RunningNetwork) (at to : captures.CaptureState) (from last : Lines)
+    (before after : Put) : Type 0 where
   pub behind : Lines
   pub obeyed : HasObeyed old new at to from behind before after
   pub end : AtTextEnd behind last
 
 -- all lines of the schedule are obeyed, and then the closing phase is done
-pub record RunsSchedule (old new : RunningNetwork) (at to : captures.CaptureState) (from last : Lines) (before after : Put) : Type 0 where
+pub record RunsSchedule (old new : RunningNetwork) (at to : captures.CaptureState) (from last : Lines)
+    (before after : Put) : Type 0 where
   pub mid : RunningNetwork
   pub on : captures.CaptureState
   pub put : Put
@@ -235,19 +257,29 @@ pub record RunsSchedule (old new : RunningNetwork) (at to : captures.CaptureStat
 
 -- a network before anything is read
 abbrev pub begun : NetworkDocument → List Class → RunningNetwork
-begun network classes = record { network = network; classes = classes; contents = opening_contents network; fault = None }
+begun network classes = record {
+  network = network;
+  classes = classes;
+  contents = opening_contents network;
+  fault =
+      None;
+}
 
 -- a run ends with these totals
-pub record RunsTo (old : RunningNetwork) (at to : captures.CaptureState) (from last : Lines) (before after : Put) (totals : Totals) : Type 0 where
+pub record RunsTo (old : RunningNetwork) (at to : captures.CaptureState) (from last : Lines) (before after : Put)
+    (totals : Totals) : Type 0 where
   pub new : RunningNetwork
   pub runs : RunsSchedule old new at to from last before after
   pub totals_are : totals ≡ new.contents.totals
 
 -- a line of the schedule is refused, or the schedule itself, or what remains for the closing phase
-pub data RefusesRun (old : RunningNetwork) (at to : captures.CaptureState) (from last : Lines) (before : Put) (e : Fault) : Type 0 where
-  line_refused : (mid : RunningNetwork) (on : captures.CaptureState) (behind : Lines) (put : Put) → HasObeyed old mid at on from behind before put
+pub data RefusesRun (old : RunningNetwork) (at to : captures.CaptureState) (from last : Lines) (before : Put)
+    (e : Fault) : Type 0 where
+  line_refused : (mid : RunningNetwork) (on : captures.CaptureState) (behind : Lines) (put : Put)
+      → HasObeyed old mid at on from behind before put
       → AtLine behind last → RefusesLine last.line last.number mid on to e → RefusesRun old at to from last before e
   not_read : (mid : RunningNetwork) (behind : Lines) (put : Put) → HasObeyed old mid at to from behind before put
       → RefusesText behind last e → RefusesRun old at to from last before e
-  rest_refused : (mid : RunningNetwork) (on : captures.CaptureState) (behind : Lines) (put : Put) → HasObeyed old mid at on from behind before put
+  rest_refused : (mid : RunningNetwork) (on : captures.CaptureState) (behind : Lines) (put : Put)
+      → HasObeyed old mid at on from behind before put
       → AtTextEnd behind last → RefusesClose mid on to e → RefusesRun old at to from last before e

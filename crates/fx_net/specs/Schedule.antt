@@ -9,9 +9,11 @@ abbrev pub action_words : Action → List (List ℕ)
 action_words Next = codes "next" ∷ []
 action_words (NextOf class path) = codes "next" ∷ decimal class ∷ decimal path ∷ []
 action_words (Expire device cache) = codes "expire" ∷ decimal device ∷ decimal cache ∷ []
-action_words (Emit device process aggregation) = codes "emit" ∷ decimal device ∷ decimal process ∷ decimal aggregation ∷ []
+action_words (Emit device process aggregation) = codes "emit" ∷ decimal device ∷ decimal process ∷ decimal aggregation
+    ∷ []
 action_words (Carry link octets) = codes "carry" ∷ decimal link ∷ decimal octets ∷ []
-action_words (Use device exporter destination) = codes "use" ∷ decimal device ∷ decimal exporter ∷ decimal destination ∷ []
+action_words (Use device exporter destination) = codes "use" ∷ decimal device ∷ decimal exporter ∷ decimal destination
+    ∷ []
 
 -- the number of octets carried at once: from 1 to 65,535
 abbrev pub is_piece : ℕ → Bool

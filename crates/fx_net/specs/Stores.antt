@@ -22,7 +22,8 @@ most_flows = 65536
 -- an empty store: the bound 0 means unbounded, and a bound above the largest is the largest
 abbrev pub new_store : ℕ → Stored
 new_store max_flows =
-    if max_flows == 0 then unbounded (flows_of []) else bounded (record { entries = []; capacity = min max_flows most_flows })
+    if max_flows == 0 then unbounded (flows_of []) else bounded
+    (record { entries = []; capacity = min max_flows most_flows })
 
 -- the counts are added at a key
 abbrev pub with_counts : Stored → Key → Counts → Stored

@@ -48,9 +48,11 @@ with_stores c stores = record c { stores = stores }
 -- the counts are added, and the entries that make room have left
 abbrev pub after_adding : Net → Counts → List Holding → Contents → Contents
 after_adding net counts holdings c =
-    after_leaves net (stores_and_leavers c.stores counts holdings).left (with_stores c (stores_and_leavers c.stores counts holdings).stores)
+    after_leaves net (stores_and_leavers c.stores counts holdings).left
+    (with_stores c (stores_and_leavers c.stores counts holdings).stores)
 
 -- The counts are added to all these holders: entries that make room leave first, then the records of immediate caches.
 abbrev pub after_taking : Net → Counts → List Holding → Contents → Contents
 after_taking net counts holdings c =
-    after_leaves net (all_leave_at_once (stores_and_leavers c.stores counts holdings).stores counts holdings) (after_adding net counts holdings c)
+    after_leaves net (all_leave_at_once (stores_and_leavers c.stores counts holdings).stores counts holdings)
+    (after_adding net counts holdings c)

@@ -18,7 +18,11 @@ abbrev source : Layout
 source = record { axis = Source; bits = 32 } ∷ []
 
 abbrev all_fields : Bounds
-all_fields = record { low = 0 ∷ 0 ∷ 0 ∷ 0 ∷ 0 ∷ 0 ∷ 0 ∷ 0 ∷ 0 ∷ []; high = 4294967295 ∷ 4294967295 ∷ 255 ∷ 65535 ∷ 65535 ∷ 255 ∷ 255 ∷ 340282366920938463463374607431768211455 ∷ 340282366920938463463374607431768211455 ∷ [] }
+all_fields = record {
+  low = 0 ∷ 0 ∷ 0 ∷ 0 ∷ 0 ∷ 0 ∷ 0 ∷ 0 ∷ 0 ∷ [];
+  high = 4294967295 ∷ 4294967295 ∷ 255 ∷ 65535 ∷ 65535
+      ∷ 255 ∷ 255 ∷ 340282366920938463463374607431768211455 ∷ 340282366920938463463374607431768211455 ∷ [];
+}
 
 abbrev a_packet : Fields
 a_packet = 167838211 ∷ 3221225985 ∷ 6 ∷ 1000 ∷ 80 ∷ 0 ∷ 4 ∷ 0 ∷ 0 ∷ []
@@ -26,7 +30,13 @@ a_packet = 167838211 ∷ 3221225985 ∷ 6 ∷ 1000 ∷ 80 ∷ 0 ∷ 4 ∷ 0 ∷ 
 -- a device that meters at its interface eth0 into the cache with this place
 abbrev meter : ℕ → DeviceEntry
 meter cache = record {
-  points = record { interfaces = codes "eth0" ∷ []; ingress = true; egress = true; selections = record { region = Some all_fields; holder = Some cache } ∷ [] } ∷ [];
+  points = record {
+    interfaces = codes "eth0" ∷ [];
+    ingress = true;
+    egress = true;
+    selections =
+        record { region = Some all_fields; holder = Some cache } ∷ [];
+  } ∷ [];
   caches = cache ∷ [];
   processes = [];
 }
@@ -48,7 +58,9 @@ sends_by exporters = record { exporters = exporters; aggregations = [] }
 abbrev whole : Net
 whole = record {
   devices = meter 0 ∷ plain ∷ meter 1 ∷ collector 0 ∷ collector 1 ∷ [];
-  exporters = record { parallel = true; destinations = Some 0 ∷ [] } ∷ record { parallel = true; destinations = Some 1 ∷ Some 2 ∷ [] } ∷ record { parallel = true; destinations = Some 3 ∷ [] } ∷ [];
+  exporters = record { parallel = true; destinations = Some 0 ∷ [] }
+      ∷ record { parallel = true; destinations = Some 1 ∷ Some 2 ∷ [] }
+      ∷ record { parallel = true; destinations = Some 3 ∷ [] } ∷ [];
   holders = record { layout = source; exporters = 0 ∷ [] } ∷ record { layout = source; exporters = 1 ∷ [] } ∷ [];
   processes = sends_by (2 ∷ []) ∷ sends_by [] ∷ [];
   links = 0 ∷ 1 ∷ 1 ∷ 1 ∷ [];
@@ -81,10 +93,13 @@ a_part = record {
   report_layout = refl;
 }
   where
-    at : (process place : ℕ) → slice_get places process ≡ Some place → handling_of whole (slice_get whole.processes place) ≡ handling_in places (handling_of part (slice_get part.processes process))
+    at : (process place : ℕ) → slice_get places process ≡ Some place
+        → handling_of whole (slice_get whole.processes place)
+        ≡ handling_in places (handling_of part (slice_get part.processes process))
     at zero place e =
         let one : 1 ≡ place = cc in
-        subst (λ n. handling_of whole (slice_get whole.processes n) ≡ handling_in places (handling_of part (Some (sends_by [])))) one refl
+        subst (λ n. handling_of whole (slice_get whole.processes n)
+        ≡ handling_in places (handling_of part (Some (sends_by [])))) one refl
     at (suc process) place e = absurd cc
 
     only : (process : ℕ) → slice_get places process ≡ Some 1 → process ≡ 0
@@ -128,7 +143,8 @@ not_empty : (s : Sending) (ss : List Sending) → s ∷ ss ≡ [] → ⊥
 not_empty s ss h = absurd cc
 
 no_part : IsPart broken whole (0 ∷ 1 ∷ []) → ⊥
-no_part h = not_empty (record { parallel = true; leads = Some 1 ∷ [] }) [] (ap (λ (x : Handling). x.sendings) (h.same 0 0 refl))
+no_part h = not_empty (record { parallel = true; leads = Some 1 ∷ [] }) []
+    (ap (λ (x : Handling). x.sendings) (h.same 0 0 refl))
 
 -- ---- the checks answer so
 

@@ -14,7 +14,8 @@ use Rattle.fx_leaf.proofs.Trees.{sound_wanted}
 use Rattle.fx_parts.specs.Parts.{IsPart, IsCertifiedAlone, IsCovered, AllCertifiedParts, AllCovered, Part}
 use Rattle.fx_parts.proofs.FatesOfParts.{packet_fates, sees_takes}
 
-module _ (whole : Net) (is_net : IsNetwork whole) (classes : List Class) (parts : List Part) (certified : AllCertifiedParts whole parts) (covered : AllCovered whole classes parts) where
+module _ (whole : Net) (is_net : IsNetwork whole) (classes : List Class) (parts : List Part)
+    (certified : AllCertifiedParts whole parts) (covered : AllCovered whole classes parts) where
   pub parts_wanted : AllAsWanted whole classes
   parts_wanted c m class path fields at_class at_path h =
       let found = covered c m class path at_class at_path in
@@ -23,22 +24,30 @@ module _ (whole : Net) (is_net : IsNetwork whole) (classes : List Class) (parts 
       let of = certified found.0 part found.2 in
       let certificate = of.certified.1 in
       let inner : holds covers.inside.region fields ≡ true = ap (λ region. holds region fields) covers.region ∙ h in
-      let wanted = sound_wanted part.net part.classes certificate.trees certificate.sound covers.class_number covers.path_number covers.inside covers.inner fields covers.is_class covers.is_path inner in
-      sym (packet_fates part.net whole part.places of.within of.network.ranked is_net.ranked class.region covers.inner path covers.takes fields h) ∙ wanted ∙ ap wanted_fate covers.exempt
+      let wanted = sound_wanted part.net part.classes certificate.trees certificate.sound covers.class_number
+      covers.path_number covers.inside covers.inner fields covers.is_class covers.is_path inner in
+      sym (packet_fates part.net whole part.places of.within of.network.ranked is_net.ranked class.region covers.inner
+      path covers.takes fields h) ∙ wanted ∙ ap wanted_fate covers.exempt
 
-pub parts_once : (whole : Net) (classes : List Class) (parts : List Part) → IsNetwork whole → AllCertifiedParts whole parts → AllCovered whole classes parts → ExactlyOnce whole classes
+pub parts_once : (whole : Net) (classes : List Class) (parts : List Part) → IsNetwork whole
+    → AllCertifiedParts whole parts → AllCovered whole classes parts → ExactlyOnce whole classes
 parts_once whole classes parts is_net certified covered packets of fit final ran complete =
     let steps = steps_of whole classes packets (opening whole classes packets) final ran in
-    counts_each_once whole is_net classes (parts_wanted whole is_net classes parts certified covered) packets of steps.0 final steps.1 complete fit
+    counts_each_once whole is_net classes (parts_wanted whole is_net classes parts certified covered) packets of steps.0
+    final steps.1 complete fit
 
-pub parts_modulo : (whole : Net) (classes : List Class) (parts : List Part) → IsNetwork whole → AllCertifiedParts whole parts → AllCovered whole classes parts → OnceModulo whole classes
+pub parts_modulo : (whole : Net) (classes : List Class) (parts : List Part) → IsNetwork whole
+    → AllCertifiedParts whole parts → AllCovered whole classes parts → OnceModulo whole classes
 parts_modulo whole classes parts is_net certified covered packets of final ran complete =
     let steps = steps_of whole classes packets (opening whole classes packets) final ran in
-    counts_each_modulo whole is_net classes (parts_wanted whole is_net classes parts certified covered) packets of steps.0 final steps.1 complete
+    counts_each_modulo whole is_net classes (parts_wanted whole is_net classes parts certified covered) packets of
+    steps.0 final steps.1 complete
 
 -- ---- by classes
 
-pub covered_if : (whole : Net) (classes : List Class) (parts : List Part) → ((k : ℕ) (class : Class) → slice_get classes k ≡ Some class → IsCovered whole class parts) → AllCovered whole classes parts
+pub covered_if : (whole : Net) (classes : List Class) (parts : List Part)
+    → ((k : ℕ) (class : Class) → slice_get classes k ≡ Some class → IsCovered whole class parts)
+    → AllCovered whole classes parts
 covered_if whole classes parts all zero m class path e f = absurd cc
 covered_if whole classes parts all (suc k) zero class path e f = absurd cc
 covered_if whole classes parts all (suc k) (suc j) class path e f =
@@ -60,7 +69,10 @@ covered_if whole classes parts all (suc k) (suc j) class path e f =
       },
     )
 
-pub certified_if : (whole : Net) (parts : List Part) → ((n : ℕ) (part : Part) → slice_get parts n ≡ Some part → IsCertifiedAlone part) → ((n : ℕ) (part : Part) → slice_get parts n ≡ Some part → IsPart part.net whole part.places) → AllCertifiedParts whole parts
+pub certified_if : (whole : Net) (parts : List Part)
+    → ((n : ℕ) (part : Part) → slice_get parts n ≡ Some part → IsCertifiedAlone part)
+    → ((n : ℕ) (part : Part) → slice_get parts n ≡ Some part → IsPart part.net whole part.places)
+    → AllCertifiedParts whole parts
 certified_if whole parts alone within n part e =
     record { network = (alone n part e).network; within = within n part e; certified = (alone n part e).certified }
 
@@ -68,4 +80,5 @@ pub same_there : {A : Type 0} (x y : A) → Some x ≡ Some y → x ≡ y
 same_there x y e = cc
 
 abbrev pub EachCovered : Net → List Part → List Class → Type 0
-EachCovered whole parts classes = (k : ℕ) (class : Class) → slice_get classes k ≡ Some class → IsCovered whole class parts
+EachCovered whole parts classes = (k : ℕ) (class : Class) → slice_get classes k ≡ Some class
+    → IsCovered whole class parts

@@ -27,12 +27,14 @@ all_leads_alike part whole places ds es =
 -- two exporting processes that both exist send alike
 abbrev pub exporters_alike : Net → Net → List ℕ → Option Exporter → Option Exporter → Bool
 exporters_alike part whole places (Some e) (Some f) =
-    (if e.parallel then f.parallel else not f.parallel) && all_leads_alike part whole places e.destinations f.destinations
+    (if e.parallel then f.parallel else not f.parallel) && all_leads_alike part whole places e.destinations
+    f.destinations
 exporters_alike part whole places _ _ = false
 
 abbrev pub each_exporter_alike : Net → Net → List ℕ → List ℕ → List ℕ → Bool
 each_exporter_alike part whole places ms ns =
-    list_all (λ x. exporters_alike part whole places (slice_get part.exporters x.0) (slice_get whole.exporters x.1)) (zip ms ns)
+    list_all (λ x. exporters_alike part whole places (slice_get part.exporters x.0) (slice_get whole.exporters x.1))
+    (zip ms ns)
 
 abbrev pub all_exporters_alike : Net → Net → List ℕ → List ℕ → List ℕ → Bool
 all_exporters_alike part whole places ms ns =
@@ -54,10 +56,12 @@ matches_alike xs ys = length xs == length ys && each_entry_alike xs ys
 
 abbrev pub aggregations_alike : Net → Net → List ℕ → AggregationEntry → AggregationEntry → Bool
 aggregations_alike part whole places a b =
-    matches_alike a.matches b.matches && holders_alike part whole places (slice_get part.holders a.holder) (slice_get whole.holders b.holder)
+    matches_alike a.matches b.matches && holders_alike part whole places (slice_get part.holders a.holder)
+    (slice_get whole.holders b.holder)
 
 abbrev pub each_aggregation_alike : Net → Net → List ℕ → List AggregationEntry → List AggregationEntry → Bool
-each_aggregation_alike part whole places xs ys = list_all (λ x. aggregations_alike part whole places x.0 x.1) (zip xs ys)
+each_aggregation_alike part whole places xs ys =
+    list_all (λ x. aggregations_alike part whole places x.0 x.1) (zip xs ys)
 
 abbrev pub all_aggregations_alike : Net → Net → List ℕ → List AggregationEntry → List AggregationEntry → Bool
 all_aggregations_alike part whole places xs ys =
@@ -66,10 +70,12 @@ all_aggregations_alike part whole places xs ys =
 abbrev pub processes_alike : Net → Net → List ℕ → Process → Option Process → Bool
 processes_alike part whole places p None = false
 processes_alike part whole places p (Some q) =
-    all_exporters_alike part whole places p.exporters q.exporters && all_aggregations_alike part whole places p.aggregations q.aggregations
+    all_exporters_alike part whole places p.exporters q.exporters && all_aggregations_alike part whole places
+    p.aggregations q.aggregations
 
 abbrev pub each_process_alike : Net → Net → List ℕ → List Process → List ℕ → Bool
-each_process_alike part whole places ps qs = list_all (λ x. processes_alike part whole places x.0 (slice_get whole.processes x.1)) (zip ps qs)
+each_process_alike part whole places ps qs =
+    list_all (λ x. processes_alike part whole places x.0 (slice_get whole.processes x.1)) (zip ps qs)
 
 abbrev pub all_processes_alike : Net → Net → List ℕ → Bool
 all_processes_alike part whole places =
@@ -86,4 +92,5 @@ reports_alike part whole places =
 
 abbrev pub is_part : Net → Net → List ℕ → Bool
 is_part part whole places =
-    all_processes_alike part whole places && (reports_alike part whole places && same_layout part.report_layout whole.report_layout)
+    all_processes_alike part whole places &&
+    (reports_alike part whole places && same_layout part.report_layout whole.report_layout)

@@ -50,16 +50,28 @@ abbrev pub holding_of : Net → Option Holder → Holding
 holding_of net holder = record { layout = layout_of holder; sendings = map (sending_of net) (exporters_of net holder) }
 
 abbrev pub taking_of : Net → AggregationEntry → Taking
-taking_of net aggregation = record { matches = aggregation.matches; holding = holding_of net (slice_get net.holders aggregation.holder) }
+taking_of net aggregation = record {
+  matches = aggregation.matches;
+  holding =
+      holding_of net (slice_get net.holders aggregation.holder);
+}
 
 abbrev pub handling_of : Net → Option Process → Handling
 handling_of net None = record { sendings = []; takings = [] }
 handling_of net (Some process) =
-    record { sendings = map (sending_of net) (at_places net.exporters process.exporters); takings = map (taking_of net) process.aggregations }
+    record {
+      sendings = map (sending_of net) (at_places net.exporters process.exporters);
+      takings =
+          map (taking_of net) process.aggregations;
+    }
 
 abbrev pub metering_of : Net → Option Bounds → Option ℕ → List Metering
 metering_of net region None = []
-metering_of net region (Some holder) = record { region = region; holding = holding_of net (slice_get net.holders holder) } ∷ []
+metering_of net region (Some holder) = record {
+  region = region;
+  holding =
+      holding_of net (slice_get net.holders holder);
+} ∷ []
 
 -- those of these selection processes that have a cache
 abbrev pub meterings_of : Net → List Selection → List Metering

@@ -32,11 +32,13 @@ same_region (Some a) (Some b) = same_numbers a.low b.low && same_numbers a.high 
 same_region _ _ = false
 
 abbrev pub caches_alike : Net → Net → List ℕ → Option ℕ → Option ℕ → Bool
-caches_alike part whole places (Some m) (Some n) = holders_alike part whole places (slice_get part.holders m) (slice_get whole.holders n)
+caches_alike part whole places (Some m) (Some n) =
+    holders_alike part whole places (slice_get part.holders m) (slice_get whole.holders n)
 caches_alike part whole places _ _ = false
 
 abbrev pub selections_alike : Net → Net → List ℕ → Selection → Selection → Bool
-selections_alike part whole places s t = same_region s.region t.region && caches_alike part whole places s.holder t.holder
+selections_alike part whole places s t =
+    same_region s.region t.region && caches_alike part whole places s.holder t.holder
 
 abbrev pub each_selection_alike : Net → Net → List ℕ → List Selection → List Selection → Bool
 each_selection_alike part whole places ss ts = list_all (λ x. selections_alike part whole places x.0 x.1) (zip ss ts)
@@ -45,4 +47,5 @@ abbrev pub all_selections_alike : Net → Net → List ℕ → List Selection �
 all_selections_alike part whole places ss ts = length ss == length ts && each_selection_alike part whole places ss ts
 
 abbrev pub meters_alike : Net → Net → List ℕ → List Crossing → List Crossing → Bool
-meters_alike part whole places inner outer = all_selections_alike part whole places (meters part inner) (meters whole outer)
+meters_alike part whole places inner outer =
+    all_selections_alike part whole places (meters part inner) (meters whole outer)

@@ -27,18 +27,25 @@ abbrev pub taking_in : List ℕ → Taking → Taking
 taking_in places t = record { matches = t.matches; holding = holding_in places t.holding }
 
 abbrev pub handling_in : List ℕ → Handling → Handling
-handling_in places h = record { sendings = map (sending_in places) h.sendings; takings = map (taking_in places) h.takings }
+handling_in places h = record {
+  sendings = map (sending_in places) h.sendings;
+  takings =
+      map (taking_in places) h.takings;
+}
 
 abbrev pub metering_in : List ℕ → Metering → Metering
 metering_in places m = record { region = m.region; holding = holding_in places m.holding }
 
 -- ---- parts
 
--- each collecting process of the part has a place in the whole, and the process at that place does the same with a record; the
+-- each collecting process of the part has a place in the whole, and the process at that place does the same with a
+-- record; the
 -- report is the same, with the same layout
 pub record IsPart (part whole : Net) (places : List ℕ) : Type 0 where
   pub each : length places ≡ length part.processes
-  pub same : (process place : ℕ) → slice_get places process ≡ Some place → handling_of whole (slice_get whole.processes place) ≡ handling_in places (handling_of part (slice_get part.processes process))
+  pub same : (process place : ℕ) → slice_get places process ≡ Some place
+      → handling_of whole (slice_get whole.processes place)
+      ≡ handling_in places (handling_of part (slice_get part.processes process))
   pub report : slice_get places part.report ≡ Some whole.report
   pub report_only : (process : ℕ) → slice_get places process ≡ Some whole.report → process ≡ part.report
   pub report_layout : part.report_layout ≡ whole.report_layout
@@ -51,7 +58,8 @@ MetersTheSame part whole places inner outer = meterings whole outer ≡ map (met
 -- are left out
 abbrev pub TakesInTheSame : Net → Net → List ℕ → Bounds → List Crossing → List Crossing → Type 0
 TakesInTheSame part whole places region inner outer =
-    (fields : Fields) → holds region fields ≡ true → taken_by whole outer fields ≡ map (holding_in places) (taken_by part inner fields)
+    (fields : Fields) → holds region fields ≡ true → taken_by whole outer fields
+    ≡ map (holding_in places) (taken_by part inner fields)
 
 -- ---- parts with certificates
 
@@ -81,17 +89,21 @@ pub record CoversPath (whole : Net) (class : Class) (outer : List Crossing) (par
 -- one of the parts covers each path of each class
 abbrev pub AllCovered : Net → List Class → List Part → Type 0
 AllCovered whole classes parts =
-    (c m : ℕ) (class : Class) (path : List Crossing) → entry_numbered classes c ≡ Some class → entry_numbered class.paths m ≡ Some path → (n : ℕ) × (part : Part) × (slice_get parts n ≡ Some part) × CoversPath whole class path part
+    (c m : ℕ) (class : Class) (path : List Crossing) → entry_numbered classes c ≡ Some class
+    → entry_numbered class.paths m ≡ Some path → (n : ℕ) × (part : Part) × (slice_get parts n ≡ Some part)
+    × CoversPath whole class path part
 
 abbrev pub AllCertifiedParts : Net → List Part → Type 0
 AllCertifiedParts whole parts = (n : ℕ) (part : Part) → slice_get parts n ≡ Some part → IsCertifiedPart whole part
 
 -- ---- a class of a part that covers all paths of a class of the whole
 
--- the same number of paths, on each of which a packet passes the same selection processes as on the path with the same number
+-- the same number of paths, on each of which a packet passes the same selection processes as on the path with the same
+-- number
 pub record PathsAlike (part whole : Net) (places : List ℕ) (inner outer : List (List Crossing)) : Type 0 where
   pub as_many : length inner ≡ length outer
-  pub same : (k : ℕ) (path : List Crossing) → slice_get outer k ≡ Some path → (other : List Crossing) × (slice_get inner k ≡ Some other) × MetersTheSame part whole places other path
+  pub same : (k : ℕ) (path : List Crossing) → slice_get outer k ≡ Some path → (other : List Crossing)
+      × (slice_get inner k ≡ Some other) × MetersTheSame part whole places other path
 
 pub record ClassesAlike (part whole : Net) (places : List ℕ) (inside class : Class) : Type 0 where
   pub region : inside.region ≡ class.region

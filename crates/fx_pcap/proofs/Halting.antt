@@ -22,34 +22,52 @@ abbrev pub passed_by : KeptRecord → KeptRecord
 passed_by k = record k { taken = 0 }
 
 -- behind a record that is refused nothing is ahead
-nothing_ahead : (s : Skipped) (format : Format) (place n : ℕ) (os : List ℕ) → 0 < length os → record_fault format.order os ≡ Some n → ahead_in s (records_of format place os) ≡ nothing_more s (Some (fault_at n (places.Octet place)))
+nothing_ahead : (s : Skipped) (format : Format) (place n : ℕ) (os : List ℕ) → 0 < length os
+    → record_fault format.order os ≡ Some n → ahead_in s (records_of format place os)
+    ≡ nothing_more s (Some (fault_at n (places.Octet place)))
 nothing_ahead s format place n [] some is = absurd (omega (arith, some))
-nothing_ahead s format place n (o ∷ os) some is = ap (λ (f : Option ℕ). ahead_in s (with_item f place (item_of format (o ∷ os)) (records_behind format (place_after place 1) (15 + captured_length format.order (o ∷ os)) os))) is
+nothing_ahead s format place n (o ∷ os) some is =
+    ap (λ (f : Option ℕ). ahead_in s (with_item f place (item_of format (o ∷ os))
+    (records_behind format (place_after place 1) (15 + captured_length format.order (o ∷ os)) os))) is
 
 -- so many octets are left of the source as are unread
-calls_left : (w : Held) (n : ℕ) (left : Option (List ℕ)) → IfSome left (λ l. call_limit ≤ w.calls + length l) → IfSome (prepend_known (drop n w.held) left) (λ octets. call_limit ≤ w.calls + (length octets - (length w.held - n)))
+calls_left : (w : Held) (n : ℕ) (left : Option (List ℕ)) → IfSome left (λ l. call_limit ≤ w.calls + length l)
+    → IfSome (prepend_known (drop n w.held) left)
+    (λ octets. call_limit ≤ w.calls + (length octets - (length w.held - n)))
 calls_left w n None h = tt
 calls_left w n (Some l) h = omega (arith, h, length-append (drop n w.held) l, length-drop n w.held)
 
-cut_off : (w w1 w2 : Held) (k : KeptRecord) → w1 ≡ record w { held = drop k.taken w.held } → w1.calls ≤ w2.calls → IsAsked w1.asked (w2.calls - w1.calls) w2.asked → HasFailed w1 w2 → IsCaptureCutOff (reading_of w k) (reading_of w2 (passed_by k))
+cut_off : (w w1 w2 : Held) (k : KeptRecord) → w1 ≡ record w { held = drop k.taken w.held } → w1.calls ≤ w2.calls
+    → IsAsked w1.asked (w2.calls - w1.calls) w2.asked → HasFailed w1 w2
+    → IsCaptureCutOff (reading_of w k) (reading_of w2 (passed_by k))
 cut_off w w1 w2 k passed more asked (inl failed) = inl failed
 cut_off w w1 w2 k passed more asked (inr ended) = inr (
   ended.0,
   asks_of w w1 w2 k (passed_by k) passed more asked,
-  calls_left w k.taken w.left (subst (λ (h : Held). IfSome h.left (λ l. call_limit ≤ h.calls + length l)) passed ended.1),
+  calls_left w k.taken w.left (subst (λ (h : Held). IfSome h.left (λ l. call_limit ≤ h.calls + length l)) passed
+      ended.1),
 )
 
-refused : (n : ℕ) (w w1 : Held) (k : KeptRecord) → w1 ≡ record w { held = drop k.taken w.held } → MayHaveLeft (octets_of w1) (λ os. (0 < length os) × (record_fault k.format.order os ≡ Some n)) → MayHaveLeft (prepend_known (drop k.taken w.held) w.left) (λ os. ahead_in k.skipped (records_of k.format k.place os) ≡ nothing_more k.skipped (Some (fault_at n (places.Octet k.place))))
+refused : (n : ℕ) (w w1 : Held) (k : KeptRecord) → w1 ≡ record w { held = drop k.taken w.held }
+    → MayHaveLeft (octets_of w1) (λ os. (0 < length os) × (record_fault k.format.order os ≡ Some n))
+    → MayHaveLeft (prepend_known (drop k.taken w.held) w.left)
+    (λ os. ahead_in k.skipped (records_of k.format k.place os)
+    ≡ nothing_more k.skipped (Some (fault_at n (places.Octet k.place))))
 refused n w w1 k passed why =
-    let there = subst (λ (h : Held). MayHaveLeft (octets_of h) (λ os. (0 < length os) × (record_fault k.format.order os ≡ Some n))) passed why in
+    let there = subst (λ (h : Held). MayHaveLeft (octets_of h)
+    (λ os. (0 < length os) × (record_fault k.format.order os ≡ Some n))) passed why in
     (there.0, there.1, nothing_ahead k.skipped k.format k.place n there.0 there.2.0 there.2.1)
 
-stops : (w w1 w2 : Held) (k : KeptRecord) (stop : CaptureStop) → w1 ≡ record w { held = drop k.taken w.held } → w1.calls ≤ w2.calls → IsAsked w1.asked (w2.calls - w1.calls) w2.asked → IsWhyNoRecord k.format.order stop w1 w2 → StopsCapture (reading_of w k) (reading_of w2 (passed_by k)) (fault_of k.place stop)
+stops : (w w1 w2 : Held) (k : KeptRecord) (stop : CaptureStop) → w1 ≡ record w { held = drop k.taken w.held } → w1.calls
+    ≤ w2.calls → IsAsked w1.asked (w2.calls - w1.calls) w2.asked → IsWhyNoRecord k.format.order stop w1 w2
+    → StopsCapture (reading_of w k) (reading_of w2 (passed_by k)) (fault_of k.place stop)
 stops w w1 w2 k Device passed more asked why = inl (refl, cut_off w w1 w2 k passed more asked why)
 stops w w1 w2 k Cut passed more asked why = inr (inl refl, refused 703 w w1 k passed why)
 stops w w1 w2 k TooLong passed more asked why = inr (inr refl, refused 704 w w1 k passed why)
 
-pub halts : (w w1 w2 : Held) (k : KeptRecord) (stop : CaptureStop) → w1 ≡ record w { held = drop k.taken w.held } → w1.calls ≤ w2.calls → IsAsked w1.asked (w2.calls - w1.calls) w2.asked → IsWhyNoRecord k.format.order stop w1 w2 → (reading_of w k).stopped ≡ None → Halts (reading_of w k) (reading_of w2 (passed_by k)) (fault_of k.place stop)
+pub halts : (w w1 w2 : Held) (k : KeptRecord) (stop : CaptureStop) → w1 ≡ record w { held = drop k.taken w.held }
+    → w1.calls ≤ w2.calls → IsAsked w1.asked (w2.calls - w1.calls) w2.asked → IsWhyNoRecord k.format.order stop w1 w2
+    → (reading_of w k).stopped ≡ None → Halts (reading_of w k) (reading_of w2 (passed_by k)) (fault_of k.place stop)
 halts w w1 w2 k stop passed more asked why going = record {
   going = going;
   why = stops w w1 w2 k stop passed more asked why;

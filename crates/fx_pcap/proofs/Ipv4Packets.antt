@@ -16,7 +16,8 @@ by_tests octets header ports room =
     if header then (
     if ports then (
     if room
-    then Packet (fields_with octets (network 2 (header_length octets) octets) (network 2 (header_length octets + 2) octets)) (total_length octets)
+    then Packet (fields_with octets (network 2 (header_length octets) octets)
+    (network 2 (header_length octets + 2) octets)) (total_length octets)
     else Malformed)
     else Packet (fields_with octets 0 0) (total_length octets))
     else Malformed
@@ -26,7 +27,9 @@ room_in octets = nat_le (header_length octets + 4) (packet_length octets)
 
 pub header_long : (octets : List ℕ) → is_header octets ≡ true → 20 ≤ length octets
 header_long octets e =
-    leb-true 20 (length octets) (first (nat_le 20 (length octets)) (version octets == 4 && (nat_le 20 (header_length octets) && nat_le (header_length octets) (total_length octets))) e)
+    leb-true 20 (length octets) (first (nat_le 20 (length octets))
+    (version octets == 4 && (nat_le 20 (header_length octets) && nat_le (header_length octets)
+    (total_length octets))) e)
   where
     first : (a b : Bool) → (a && b) ≡ true → a ≡ true
     first true b e = refl
@@ -36,11 +39,13 @@ pub no_header : (octets : List ℕ) → is_header octets ≡ false → ipv4 octe
 unfolding room_in
 no_header octets e = ap (λ (t : Bool). by_tests octets t (has_ports octets) (room_in octets)) e
 
-pub without_ports : (octets : List ℕ) → is_header octets ≡ true → has_ports octets ≡ false → ipv4 octets ≡ Packet (fields_with octets 0 0) (total_length octets)
+pub without_ports : (octets : List ℕ) → is_header octets ≡ true → has_ports octets ≡ false → ipv4 octets
+    ≡ Packet (fields_with octets 0 0) (total_length octets)
 unfolding room_in
 without_ports octets e f = λ i. by_tests octets (e i) (f i) (room_in octets)
 
-pub no_room : (octets : List ℕ) → is_header octets ≡ true → has_ports octets ≡ true → min (total_length octets) (length octets) < header_length octets + 4 → ipv4 octets ≡ Malformed
+pub no_room : (octets : List ℕ) → is_header octets ≡ true → has_ports octets ≡ true
+    → min (total_length octets) (length octets) < header_length octets + 4 → ipv4 octets ≡ Malformed
 unfolding room_in
 no_room octets e f less = λ i. by_tests octets (e i) (f i) (room i)
   where
@@ -51,10 +56,13 @@ no_room octets e f less = λ i. by_tests octets (e i) (f i) (room i)
           | inr w ↦ w.0
         ]
 
-pub with_ports : (octets : List ℕ) → is_header octets ≡ true → has_ports octets ≡ true → header_length octets + 4 ≤ min (total_length octets) (length octets)
-    → ipv4 octets ≡ Packet (fields_with octets (network 2 (header_length octets) octets) (network 2 (header_length octets + 2) octets)) (total_length octets)
+pub with_ports : (octets : List ℕ) → is_header octets ≡ true → has_ports octets ≡ true → header_length octets + 4
+    ≤ min (total_length octets) (length octets)
+    → ipv4 octets ≡ Packet (fields_with octets (network 2 (header_length octets) octets)
+    (network 2 (header_length octets + 2) octets)) (total_length octets)
 unfolding room_in
 with_ports octets e f le = λ i. by_tests octets (e i) (f i) (room i)
   where
     room : room_in octets ≡ true
-    room = le-leb (header_length octets + 4) (packet_length octets) (omega (arith, le, length-take (total_length octets) octets))
+    room = le-leb (header_length octets + 4) (packet_length octets)
+        (omega (arith, le, length-take (total_length octets) octets))

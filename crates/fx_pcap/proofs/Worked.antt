@@ -38,10 +38,34 @@ opens = refl
 
 -- captured octets; source, destination, protocol, ports and class of service; octets; second
 pub frames : ahead_in none_skipped (records_of format 24 (drop 24 capture)) ≡ record {
-  frames =
-      (record { captured = take 42 (drop 40 capture); fields = 167772161 ∷ 3221225985 ∷ 6 ∷ 1000 ∷ 443 ∷ 0 ∷ 4 ∷ 0 ∷ 0 ∷ []; octets = 40; second = 1 }, none_skipped) ∷
-      (record { captured = take 34 (drop 98 capture); fields = 167772161 ∷ 3221225985 ∷ 17 ∷ 0 ∷ 0 ∷ 0 ∷ 4 ∷ 0 ∷ 0 ∷ []; octets = 520; second = 2 }, none_skipped) ∷
-      (record { captured = take 34 (drop 148 capture); fields = 167772161 ∷ 3221225985 ∷ 1 ∷ 0 ∷ 0 ∷ 0 ∷ 4 ∷ 0 ∷ 0 ∷ []; octets = 84; second = 3 }, none_skipped) ∷ [];
+  frames = (
+    record {
+      captured = take 42 (drop 40 capture);
+      fields = 167772161 ∷ 3221225985 ∷ 6 ∷ 1000 ∷ 443 ∷ 0 ∷ 4 ∷ 0 ∷ 0
+          ∷ [];
+      octets = 40;
+      second = 1;
+    },
+    none_skipped,
+  ) ∷ (
+    record {
+      captured = take 34 (drop 98 capture);
+      fields = 167772161 ∷ 3221225985 ∷ 17 ∷ 0 ∷ 0 ∷ 0 ∷ 4 ∷ 0 ∷ 0
+          ∷ [];
+      octets = 520;
+      second = 2;
+    },
+    none_skipped,
+  ) ∷ (
+    record {
+      captured = take 34 (drop 148 capture);
+      fields = 167772161 ∷ 3221225985 ∷ 1 ∷ 0 ∷ 0 ∷ 0 ∷ 4 ∷ 0 ∷ 0
+          ∷ [];
+      octets = 84;
+      second = 3;
+    },
+    none_skipped,
+  ) ∷ [];
   skipped = none_skipped;
   fault = Some (fault_at 703 (places.Octet 182));
 }

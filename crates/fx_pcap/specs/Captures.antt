@@ -25,7 +25,13 @@ pub record Seen : Type 0 where
   pub second : ℕ
 
 abbrev pub seen_of : Frame → Seen
-seen_of frame = record { captured = frame.captured.now; fields = frame.fields; octets = frame.octets; second = frame.second }
+seen_of frame = record {
+  captured = frame.captured.now;
+  fields = frame.fields;
+  octets = frame.octets;
+  second =
+      frame.second;
+}
 
 -- the numbers of skipped frames, one of them increased if this frame is skipped
 abbrev pub skips_with : Skipped → Content → Skipped
@@ -34,14 +40,16 @@ skips_with s Other = record s { other = (s.other + 1) % 2 ^ 64 }
 skips_with s Malformed = record s { malformed = (s.malformed + 1) % 2 ^ 64 }
 
 abbrev pub with_frame : Content → List ℕ → ℕ → Skipped → List (Seen × Skipped) → List (Seen × Skipped)
-with_frame (Packet fields octets) captured second s rest = (record { captured = captured; fields = fields; octets = octets; second = second }, s) ∷ rest
+with_frame (Packet fields octets) captured second s rest =
+    (record { captured = captured; fields = fields; octets = octets; second = second }, s) ∷ rest
 with_frame Other captured second s rest = rest
 with_frame Malformed captured second s rest = rest
 
 -- the frames among some records, each with the numbers of frames skipped before it
 abbrev pub frames_in : Skipped → List CapturedRecord → List (Seen × Skipped)
 frames_in s [] = []
-frames_in s (item ∷ items) = with_frame item.content item.captured item.second s (frames_in (skips_with s item.content) items)
+frames_in s (item ∷ items) = with_frame item.content item.captured item.second s
+    (frames_in (skips_with s item.content) items)
 
 -- the numbers of skipped frames after all records
 abbrev pub skipped_in : Skipped → List CapturedRecord → Skipped
@@ -89,7 +97,8 @@ with_first seen s a = record a { frames = (seen, s) ∷ a.frames }
 
 -- for every possible rest, what was ahead of octets that may have been left is `f` of what is ahead of the rest
 abbrev pub HadAhead : CaptureState → CaptureState → (FramesAhead → FramesAhead) → Type 0
-HadAhead old new f = (rest : List ℕ) → MayBeLeft new.left rest → MayHaveLeft old.left (λ octets. ahead_of old octets ≡ f (ahead_of new rest))
+HadAhead old new f = (rest : List ℕ) → MayBeLeft new.left rest
+    → MayHaveLeft old.left (λ octets. ahead_of old octets ≡ f (ahead_of new rest))
 
 -- a measure that decreases with each frame
 abbrev pub frame_budget : CaptureState → ℕ
@@ -107,7 +116,8 @@ pub record CallsForFrames (old new : CaptureState) : Type 0 where
 -- each call returns at least one octet, except at most `n` calls, which reach the end of the capture
 abbrev pub GainsFrames : ℕ → CaptureState → CaptureState → Type 0
 GainsFrames n old new =
-    IfSome old.left (λ octets. (rest : List ℕ) × (new.left ≡ Some rest) × (new.calls + unread new rest ≤ old.calls + unread old octets + n))
+    IfSome old.left (λ octets. (rest : List ℕ) × (new.left ≡ Some rest)
+    × (new.calls + unread new rest ≤ old.calls + unread old octets + n))
 
 -- the reader advances to a frame
 pub record AtFrame (old new : CaptureState) : Type 0 where
@@ -134,13 +144,16 @@ pub record AtCaptureEnd (old new : CaptureState) : Type 0 where
 abbrev pub IsCaptureCutOff : CaptureState → CaptureState → Type 0
 IsCaptureCutOff old new =
     (new.failed ≡ true)
-    ⊎ ((new.calls ≡ call_limit) × CallsForFrames old new × IfSome old.left (λ octets. call_limit ≤ old.calls + unread old octets))
+    ⊎ ((new.calls ≡ call_limit) × CallsForFrames old new
+    × IfSome old.left (λ octets. call_limit ≤ old.calls + unread old octets))
 
 -- why a reader that hadn't stopped before stops
 abbrev pub StopsCapture : CaptureState → CaptureState → Fault → Type 0
 StopsCapture old new e =
     ((e ≡ fault_at failed_read places.None) × IsCaptureCutOff old new)
-    ⊎ (((e ≡ fault_at capture_cut (places.Octet new.place)) ⊎ (e ≡ fault_at long_capture_record (places.Octet new.place))) × MayHaveLeft old.left (λ octets. ahead_of old octets ≡ nothing_more new.skipped (Some e)))
+    ⊎ (((e ≡ fault_at capture_cut (places.Octet new.place))
+    ⊎ (e ≡ fault_at long_capture_record (places.Octet new.place)))
+    × MayHaveLeft old.left (λ octets. ahead_of old octets ≡ nothing_more new.skipped (Some e)))
 
 -- the reader returns a fault, and the same fault from then on
 pub record RefusesCapture (old new : CaptureState) (e : Fault) : Type 0 where
@@ -170,7 +183,8 @@ NextFrameIs old (Err e) = (new : CaptureState) × RefusesCapture old new e
 -- a reader just after the file header, of a source that had these octets left and these calls made of it
 pub record IsOpened (left : Option (List ℕ)) (asked : ℕ) (new : CaptureState) : Type 0 where
   -- for every possible rest after the header, the header and the rest are octets that may have been left before
-  pub format : (rest : List ℕ) → MayBeLeft new.left rest → MayHaveLeft left (λ octets. (format_of octets ≡ Ok new.format) × (drop 24 octets ≡ rest))
+  pub format : (rest : List ℕ) → MayBeLeft new.left rest
+      → MayHaveLeft left (λ octets. (format_of octets ≡ Ok new.format) × (drop 24 octets ≡ rest))
   pub rest : IfSome left (λ octets. new.left ≡ Some (drop 24 octets))
   pub opaque : left ≡ None → new.left ≡ None
   pub place : new.place ≡ 24
@@ -189,4 +203,5 @@ abbrev pub IsRefusedCapture : Option (List ℕ) → Type 0 → Fault → Type 0
 IsRefusedCapture left unread e =
     (e ≡ fault_at want_of_memory places.None)
     ⊎ (((e ≡ fault_at failed_read places.None) × unread)
-    ⊎ (((e ≡ fault_at capture_format (places.Octet 0)) ⊎ (e ≡ fault_at link_type places.None)) × MayHaveLeft left (λ octets. format_of octets ≡ Err e)))
+    ⊎ (((e ≡ fault_at capture_format (places.Octet 0)) ⊎ (e ≡ fault_at link_type places.None))
+    × MayHaveLeft left (λ octets. format_of octets ≡ Err e)))

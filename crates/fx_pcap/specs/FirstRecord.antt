@@ -21,5 +21,7 @@ pub record HasRecord (order : Order) (n : ℕ) (held : List ℕ) : Type 0 where
 -- why no record is found
 abbrev pub IsWhyNoRecord : Order → CaptureStop → Held → Held → Type 0
 IsWhyNoRecord order Device old new = HasFailed old new
-IsWhyNoRecord order Cut old new = MayHaveLeft (octets_of old) (λ os. (0 < length os) × (record_fault order os ≡ Some capture_cut))
-IsWhyNoRecord order TooLong old new = MayHaveLeft (octets_of old) (λ os. (0 < length os) × (record_fault order os ≡ Some long_capture_record))
+IsWhyNoRecord order Cut old new = MayHaveLeft (octets_of old)
+    (λ os. (0 < length os) × (record_fault order os ≡ Some capture_cut))
+IsWhyNoRecord order TooLong old new = MayHaveLeft (octets_of old)
+    (λ os. (0 < length os) × (record_fault order os ≡ Some long_capture_record))

@@ -16,7 +16,8 @@ is_tag type = type == 0x8100 || type == 0x88a8
 
 -- the octets from the packet's EtherType on, after any number of tags of four octets
 abbrev pub after_tags : List ℕ → List ℕ
-after_tags (a ∷ b ∷ c ∷ d ∷ octets) = if is_tag (network 2 0 (a ∷ b ∷ c ∷ d ∷ octets)) then after_tags octets else a ∷ b ∷ c ∷ d ∷ octets
+after_tags (a ∷ b ∷ c ∷ d ∷ octets) = if is_tag (network 2 0 (a ∷ b ∷ c ∷ d ∷ octets)) then after_tags octets else a ∷ b
+    ∷ c ∷ d ∷ octets
 after_tags octets = octets
 
 -- the content of the octets after this EtherType

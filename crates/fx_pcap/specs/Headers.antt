@@ -10,7 +10,8 @@ use Rattle.fx_pcap.specs.Ip.{begins_with_ports}
 abbrev pub is_fragment : ℕ → Bool
 is_fragment type = type == 44
 
--- hop-by-hop options, routing, fragment and destination options (sections 4.3 to 4.6); any other type counts as a protocol,
+-- hop-by-hop options, routing, fragment and destination options (sections 4.3 to 4.6); any other type counts as a
+-- protocol,
 -- including that of an authentication header (51)
 abbrev pub is_extension : ℕ → Bool
 is_extension type = is_fragment type || (type == 0 || (type == 43 || type == 60))
@@ -59,7 +60,8 @@ with_header type octets next =
 abbrev pub transport_behind : ℕ → ℕ → List ℕ → Option TransportHeader
 transport_behind n type [] = with_header type [] None
 transport_behind (suc n) type (o ∷ octets) = transport_behind n type octets
-transport_behind zero type (o ∷ octets) = with_header type (o ∷ octets) (transport_behind (header_length type (o ∷ octets) - 1) o octets)
+transport_behind zero type (o ∷ octets) =
+    with_header type (o ∷ octets) (transport_behind (header_length type (o ∷ octets) - 1) o octets)
 
 abbrev pub transport_of : ℕ → List ℕ → Option TransportHeader
 transport_of type octets = transport_behind 0 type octets
@@ -68,4 +70,5 @@ transport_of type octets = transport_behind 0 type octets
 
 -- the result is that of this header, or that of the next header in the octets after this one
 abbrev pub IsHeaderByHeader : ℕ → List ℕ → Type 0
-IsHeaderByHeader type octets = transport_of type octets ≡ with_header type octets (transport_of (next_header octets) (drop (header_length type octets) octets))
+IsHeaderByHeader type octets = transport_of type octets
+    ≡ with_header type octets (transport_of (next_header octets) (drop (header_length type octets) octets))

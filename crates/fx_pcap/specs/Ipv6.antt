@@ -30,7 +30,8 @@ payload octets = take (payload_length octets) (drop 40 octets)
 -- the packet's values on the axes, in order; an IPv6 packet has no IPv4 address
 abbrev pub fields_with : List ℕ → TransportHeader → List ℕ
 fields_with octets t =
-    0 ∷ 0 ∷ t.protocol ∷ t.source_port ∷ t.destination_port ∷ traffic_class octets ∷ 6 ∷ network 16 8 octets ∷ network 16 24 octets ∷ []
+    0 ∷ 0 ∷ t.protocol ∷ t.source_port ∷ t.destination_port ∷ traffic_class octets ∷ 6 ∷ network 16 8 octets
+    ∷ network 16 24 octets ∷ []
 
 abbrev pub with_transport : List ℕ → Option TransportHeader → Content
 with_transport octets None = Malformed

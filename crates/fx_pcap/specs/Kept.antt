@@ -38,7 +38,13 @@ reading_of w k =
       format = k.format;
       place = k.place;
       skipped = k.skipped;
-      seen = record { captured = slice_range w.held (min 16 k.taken) k.taken; fields = k.fields; octets = k.octets; second = k.second };
+      seen = record {
+        captured = slice_range w.held (min 16 k.taken) k.taken;
+        fields = k.fields;
+        octets =
+            k.octets;
+        second = k.second;
+      };
       stopped = option_map (fault_of k.place) k.stopped;
       failed = w.failed;
       calls = w.calls;

@@ -20,7 +20,8 @@ abbrev pub is_magic : ℕ → Bool
 is_magic n = n == 0xa1b2c3d4 || n == 0xa1b23c4d
 
 abbrev pub order_of : List ℕ → Option Order
-order_of octets = if is_magic (number_in Big 4 0 octets) then Some Big else (if is_magic (number_in Little 4 0 octets) then Some Little else None)
+order_of octets = if is_magic (number_in Big 4 0 octets) then Some Big
+    else (if is_magic (number_in Little 4 0 octets) then Some Little else None)
 
 abbrev pub link_of : ℕ → Option LinkType
 link_of n = if n == 1 then Some Ethernet else (if n == 101 then Some Ip else None)
@@ -93,15 +94,21 @@ abbrev pub records_behind : Format → ℕ → ℕ → List ℕ → Records
 records_behind format place n [] = record { items = []; fault = None }
 records_behind format place (suc n) (o ∷ octets) = records_behind format (place_after place 1) n octets
 records_behind format place zero (o ∷ octets) =
-    with_item (record_fault format.order (o ∷ octets)) place (item_of format (o ∷ octets)) (records_behind format (place_after place 1) (15 + captured_length format.order (o ∷ octets)) octets)
+    with_item (record_fault format.order (o ∷ octets)) place (item_of format (o ∷ octets))
+    (records_behind format (place_after place 1) (15 + captured_length format.order (o ∷ octets)) octets)
 
 abbrev pub records_of : Format → ℕ → List ℕ → Records
 records_of format place octets = records_behind format place 0 octets
 
 -- ---- the same, stated case by case
 
--- no octets hold no records; a whole record precedes those of the octets after it; a fault is at the place of its record
+-- no octets hold no records; a whole record precedes those of the octets after it; a fault is at the place of its
+-- record
 pub data AreRecords (format : Format) : ℕ → List ℕ → Records → Type 0 where
   no_octets : (place : ℕ) → AreRecords format place [] (record { items = []; fault = None })
-  whole_record : (place : ℕ) (octets : List ℕ) (behind : Records) → 0 < length octets → record_fault format.order octets ≡ None → AreRecords format (place_after place (16 + captured_length format.order octets)) (drop (16 + captured_length format.order octets) octets) behind → AreRecords format place octets (record { items = item_of format octets ∷ behind.items; fault = behind.fault })
-  no_record : (place number : ℕ) (octets : List ℕ) → 0 < length octets → record_fault format.order octets ≡ Some number → AreRecords format place octets (record { items = []; fault = Some (fault_at number (places.Octet place)) })
+  whole_record : (place : ℕ) (octets : List ℕ) (behind : Records) → 0 < length octets → record_fault format.order octets
+      ≡ None → AreRecords format (place_after place (16 + captured_length format.order octets))
+      (drop (16 + captured_length format.order octets) octets) behind
+      → AreRecords format place octets (record { items = item_of format octets ∷ behind.items; fault = behind.fault })
+  no_record : (place number : ℕ) (octets : List ℕ) → 0 < length octets → record_fault format.order octets ≡ Some number
+      → AreRecords format place octets (record { items = []; fault = Some (fault_at number (places.Octet place)) })

@@ -39,7 +39,8 @@ abbrev field : List ℕ → List ℕ → Data
 field name element = with_members ((codes "ieName", string element) ∷ (codes "name", string name) ∷ [])
 
 abbrev key_field : List ℕ → List ℕ → Data
-key_field name element = with_members ((codes "ieName", string element) ∷ (codes "isFlowKey", list (null ∷ [])) ∷ (codes "name", string name) ∷ [])
+key_field name element = with_members ((codes "ieName", string element) ∷ (codes "isFlowKey", list (null ∷ []))
+    ∷ (codes "name", string name) ∷ [])
 
 abbrev cache : Data
 cache = with_members (
@@ -48,8 +49,12 @@ cache = with_members (
       codes "timeoutCache",
       with_members ((
         codes "cacheLayout",
-        with_members (
-            (codes "cacheField", list (key_field (codes "source") (codes "sourceIPv4Address") ∷ field (codes "octets") (codes "octetDeltaCount") ∷ field (codes "packets") (codes "packetDeltaCount") ∷ [])) ∷ []
+        with_members ((
+          codes "cacheField",
+          list (key_field (codes "source") (codes "sourceIPv4Address")
+              ∷ field (codes "octets") (codes "octetDeltaCount") ∷ field (codes "packets") (codes "packetDeltaCount")
+              ∷ []),
+        ) ∷ []
             ),
       ) ∷ []
           ),
@@ -57,8 +62,11 @@ cache = with_members (
     )
 
 abbrev exporting : Data
-exporting = with_members (
-    (codes "destination", list (with_members ((codes "name", string (codes "billing")) ∷ (codes "tcpExporter", with_members []) ∷ []) ∷ [])) ∷
+exporting = with_members ((
+  codes "destination",
+  list (with_members
+      ((codes "name", string (codes "billing")) ∷ (codes "tcpExporter", with_members []) ∷ []) ∷ []),
+) ∷
     (codes "name", string (codes "to billing")) ∷ []
     )
 
@@ -73,8 +81,11 @@ point = with_members (
 abbrev selecting : Data
 selecting = with_members (
     (codes "cache", string (codes "by source")) ∷
-    (codes "name", string (codes "all packets")) ∷
-    (codes "selector", list (with_members ((codes "name", string (codes "everything")) ∷ (codes "selectAll", list (null ∷ [])) ∷ []) ∷ [])) ∷ []
+    (codes "name", string (codes "all packets")) ∷ (
+      codes "selector",
+      list (with_members ((codes "name", string (codes "everything"))
+          ∷ (codes "selectAll", list (null ∷ [])) ∷ []) ∷ []),
+    ) ∷ []
     )
 
 abbrev device : List ℕ → List (List ℕ × Data) → Data
@@ -84,10 +95,16 @@ device name ms = with_members (
     )
 
 abbrev router : Data
-router = device (codes "edge-router") ((codes "cache", list (cache ∷ [])) ∷ (codes "exportingProcess", list (exporting ∷ [])) ∷ (codes "observationPoint", list (point ∷ [])) ∷ (codes "selectionProcess", list (selecting ∷ [])) ∷ [])
+router = device (codes "edge-router") ((codes "cache", list (cache ∷ []))
+    ∷ (codes "exportingProcess", list (exporting ∷ [])) ∷ (codes "observationPoint", list (point ∷ []))
+    ∷ (codes "selectionProcess", list (selecting ∷ [])) ∷ [])
 
 abbrev host : Data
-host = device (codes "billing-host") ((codes "collectingProcess", list (with_members ((codes "name", string (codes "billing")) ∷ []) ∷ [])) ∷ [])
+host = device (codes "billing-host") ((
+  codes "collectingProcess",
+  list
+      (with_members ((codes "name", string (codes "billing")) ∷ []) ∷ []),
+) ∷ [])
 
 abbrev link : Data
 link = with_members (
@@ -106,7 +123,8 @@ report = with_members (
     )
 
 abbrev document : Data
-document = with_members ((codes "devices", list (router ∷ host ∷ [])) ∷ (codes "links", list (link ∷ [])) ∷ (codes "report", report) ∷ [])
+document = with_members ((codes "devices", list (router ∷ host ∷ [])) ∷ (codes "links", list (link ∷ []))
+    ∷ (codes "report", report) ∷ [])
 
 -- ---- the network
 
@@ -115,10 +133,34 @@ network = record {
   devices = record {
     name = codes "edge-router";
     config = record {
-      observation_points = record { name = codes "uplink"; observation_domain_id = 1; interfaces = codes "eth0" ∷ []; direction = Both; selection_processes = codes "all packets" ∷ [] } ∷ [];
-      selection_processes = record { name = codes "all packets"; selectors = record { name = codes "everything"; method = SelectAll } ∷ []; cache = Some (codes "by source") } ∷ [];
-      caches = record { name = codes "by source"; kind = Timeout; max_flows = 0; layout = record { axis = Source; bits = 32 } ∷ []; exporting_processes = codes "to billing" ∷ [] } ∷ [];
-      exporting_processes = record { name = codes "to billing"; mode = Parallel; destinations = record { name = codes "billing"; transport = Tcp } ∷ [] } ∷ [];
+      observation_points = record {
+        name = codes "uplink";
+        observation_domain_id = 1;
+        interfaces = codes "eth0"
+            ∷ [];
+        direction = Both;
+        selection_processes = codes "all packets" ∷ [];
+      } ∷ [];
+      selection_processes = record {
+        name = codes "all packets";
+        selectors =
+            record { name = codes "everything"; method = SelectAll } ∷ [];
+        cache = Some (codes "by source");
+      } ∷ [];
+      caches = record {
+        name = codes "by source";
+        kind = Timeout;
+        max_flows = 0;
+        layout =
+            record { axis = Source; bits = 32 } ∷ [];
+        exporting_processes = codes "to billing" ∷ [];
+      } ∷ [];
+      exporting_processes = record {
+        name = codes "to billing";
+        mode = Parallel;
+        destinations =
+            record { name = codes "billing"; transport = Tcp } ∷ [];
+      } ∷ [];
       collecting_processes = [];
     };
   } ∷ record {
@@ -131,11 +173,24 @@ network = record {
       collecting_processes = record { name = codes "billing"; exporting_processes = []; aggregations = [] } ∷ [];
     };
   } ∷ [];
-  links = record { device = codes "edge-router"; exporting_process = codes "to billing"; destination = codes "billing"; to_device = codes "billing-host"; to_process = codes "billing" } ∷ [];
-  report = record { device = codes "billing-host"; collecting_process = codes "billing"; key = record { element = OnAxis Source; prefix_length = None } ∷ [] };
+  links = record {
+    device = codes "edge-router";
+    exporting_process = codes "to billing";
+    destination =
+        codes "billing";
+    to_device = codes "billing-host";
+    to_process = codes "billing";
+  } ∷ [];
+  report = record {
+    device = codes "billing-host";
+    collecting_process = codes "billing";
+    key =
+        record { element = OnAxis Source; prefix_length = None } ∷ [];
+  };
 }
 
--- what isn't said stands for something too: the point sees both ways, the cache has no bound, records go to all destinations
+-- what isn't said stands for something too: the point sees both ways, the cache has no bound, records go to all
+-- destinations
 means : network_of document ≡ network
 unfolding device_of
 means = refl
@@ -149,7 +204,15 @@ tables = record {
       interfaces = codes "eth0" ∷ [];
       ingress = true;
       egress = true;
-      selections = record { region = Some (record { low = 0 ∷ 0 ∷ 0 ∷ 0 ∷ 0 ∷ 0 ∷ 0 ∷ 0 ∷ 0 ∷ []; high = 4294967295 ∷ 4294967295 ∷ 255 ∷ 65535 ∷ 65535 ∷ 255 ∷ 255 ∷ 340282366920938463463374607431768211455 ∷ 340282366920938463463374607431768211455 ∷ [] }); holder = Some 0 } ∷ [];
+      selections = record {
+        region = Some (record {
+          low = 0 ∷ 0 ∷ 0 ∷ 0 ∷ 0 ∷ 0 ∷ 0 ∷ 0 ∷ 0 ∷ [];
+          high = 4294967295 ∷ 4294967295 ∷ 255 ∷ 65535 ∷ 65535 ∷ 255
+              ∷ 255 ∷ 340282366920938463463374607431768211455 ∷ 340282366920938463463374607431768211455 ∷ [];
+        });
+        holder =
+            Some 0;
+      } ∷ [];
     } ∷ [];
     caches = 0 ∷ [];
     processes = [];

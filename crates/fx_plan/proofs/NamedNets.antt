@@ -35,7 +35,8 @@ all_more P Q more xs h k d lt = more (get_or xs k d) (h k d lt)
 all_any : {A : Type 0} (P : A → Type 0) → ((x : A) → P x) → (xs : List A) → All P xs
 all_any P any xs k d lt = any (get_or xs k d)
 
-all_flat : {A B : Type 0} (P : B → Type 0) (f : A → List B) (xs : List A) → All (λ x. All P (f x)) xs → All P (flat_map f xs)
+all_flat : {A B : Type 0} (P : B → Type 0) (f : A → List B) (xs : List A) → All (λ x. All P (f x)) xs
+    → All P (flat_map f xs)
 all_flat P f [] h = all_nil P
 all_flat {A} P f (x ∷ xs) h =
     let Each : A → Type 0 = λ y. All P (f y) in
@@ -45,24 +46,31 @@ module _ (named : Axis → Bool) where
   -- ---- regions
 
   -- an axis that isn't named isn't that of a match on a named one
-  another : (m : PropertyMatch) (axis : Axis) → named m.axis ≡ true → named axis ≡ false → axis_index axis ≡ axis_index m.axis → ⊥
+  another : (m : PropertyMatch) (axis : Axis) → named m.axis ≡ true → named axis ≡ false → axis_index axis
+      ≡ axis_index m.axis → ⊥
   another m axis is unnamed same =
       let own : axis ≡ m.axis = axis_is axis m.axis (eq-eqb (axis_index axis) (axis_index m.axis) same) in
       let both : named axis ≡ named m.axis = ap named own in
       cc (both, is, unnamed)
 
-  narrowed_names : (b : Bounds) (method : Method) → MethodNamesOnly named method → RegionNamesOnly named b → RegionNamesOnly named (narrowed_by b method)
+  narrowed_names : (b : Bounds) (method : Method) → MethodNamesOnly named method → RegionNamesOnly named b
+      → RegionNamesOnly named (narrowed_by b method)
   narrowed_names b SelectAll only whole axis unnamed = whole axis unnamed
   narrowed_names b (FilterMatch m) only whole axis unnamed =
       let differs = another m axis only unnamed in
-      let before = whole axis unnamed in
-      (get_or-set_other b.low (axis_index m.axis) (axis_index axis) _ 0 differs ∙ before.0, get_or-set_other b.high (axis_index m.axis) (axis_index axis) _ 0 differs ∙ before.1)
+      let before = whole axis unnamed in (
+        get_or-set_other b.low (axis_index m.axis) (axis_index axis) _ 0 differs
+            ∙ before.0,
+        get_or-set_other b.high (axis_index m.axis) (axis_index axis) _ 0 differs ∙ before.1,
+      )
 
-  left_names : (b : Bounds) (ss : List Selector) → All (λ (s : Selector). MethodNamesOnly named s.method) ss → RegionNamesOnly named b → RegionNamesOnly named (fold (λ c s. narrowed_by c s.method) b ss)
+  left_names : (b : Bounds) (ss : List Selector) → All (λ (s : Selector). MethodNamesOnly named s.method) ss
+      → RegionNamesOnly named b → RegionNamesOnly named (fold (λ c s. narrowed_by c s.method) b ss)
   left_names b [] only whole = whole
   left_names b (s ∷ ss) only whole =
       let Names : Selector → Type 0 = λ t. MethodNamesOnly named t.method in
-      left_names (narrowed_by b s.method) ss (all_tail Names s ss only) (narrowed_names b s.method (all_head Names s ss only) whole)
+      left_names (narrowed_by b s.method) ss (all_tail Names s ss only)
+      (narrowed_names b s.method (all_head Names s ss only) whole)
 
   everything_names : RegionNamesOnly named everything
   everything_names axis unnamed = (value_at (λ a. 0) axis, refl)
@@ -73,18 +81,21 @@ module _ (named : Axis → Bool) where
     | false ↦ tt
   ]
 
-  region_names : (process : SelectionProcess) → SelectorsNameOnly named process → IfSome (region_of process) (RegionNamesOnly named)
+  region_names : (process : SelectionProcess) → SelectorsNameOnly named process
+      → IfSome (region_of process) (RegionNamesOnly named)
   region_names process only =
       within_names _ (left_names everything process.selectors only everything_names)
 
   -- ---- selections
 
-  found_names : (processes : List SelectionProcess) (name : List ℕ) → All (SelectorsNameOnly named) processes → IfSome (option_and_then region_of (process_named processes name)) (RegionNamesOnly named)
+  found_names : (processes : List SelectionProcess) (name : List ℕ) → All (SelectorsNameOnly named) processes
+      → IfSome (option_and_then region_of (process_named processes name)) (RegionNamesOnly named)
   found_names [] name only = tt
-  found_names (p ∷ ps) name only = elim (bytes_eq p.name name) as (λ t. IfSome (option_and_then region_of (if t then Some p else process_named ps name)) (RegionNamesOnly named)) [
-    | true ↦ region_names p (all_head (SelectorsNameOnly named) p ps only)
-    | false ↦ found_names ps name (all_tail (SelectorsNameOnly named) p ps only)
-  ]
+  found_names (p ∷ ps) name only = elim (bytes_eq p.name name)
+      as (λ t. IfSome (option_and_then region_of (if t then Some p else process_named ps name)) (RegionNamesOnly named)) [
+        | true ↦ region_names p (all_head (SelectorsNameOnly named) p ps only)
+        | false ↦ found_names ps name (all_tail (SelectorsNameOnly named) p ps only)
+      ]
 
   abbrev SelectionNamesOnly : Selection → Type 0
   SelectionNamesOnly s = IfSome s.region (RegionNamesOnly named)
@@ -92,46 +103,62 @@ module _ (named : Axis → Bool) where
   abbrev IsNamed : NetworkDevice → Type 0
   IsNamed x = DeviceNamesOnly named x.config
 
-  point_names : (caches : List Label) (x : NetworkDevice) → IsNamed x → (point : ObservationPoint) → PointNamesOnly named (point_of caches x point)
+  point_names : (caches : List Label) (x : NetworkDevice) → IsNamed x → (point : ObservationPoint)
+      → PointNamesOnly named (point_of caches x point)
   point_names caches x only point =
       All-map SelectionNamesOnly (selection_of caches x) point.selection_processes
-      (all_any (λ (name : List ℕ). SelectionNamesOnly (selection_of caches x name)) (λ name. found_names x.config.selection_processes name only.selectors) point.selection_processes)
+      (all_any (λ (name : List ℕ). SelectionNamesOnly (selection_of caches x name))
+      (λ name. found_names x.config.selection_processes name only.selectors) point.selection_processes)
 
   abbrev TableNamesOnly : DeviceEntry → Type 0
   TableNamesOnly device = All (PointNamesOnly named) device.points
 
-  table_names : (caches collecting : List Label) (x : NetworkDevice) → IsNamed x → TableNamesOnly (table_of caches collecting x)
+  table_names : (caches collecting : List Label) (x : NetworkDevice) → IsNamed x
+      → TableNamesOnly (table_of caches collecting x)
   table_names caches collecting x only =
       All-map (PointNamesOnly named) (point_of caches x) x.config.observation_points
-      (all_any (λ (p : ObservationPoint). PointNamesOnly named (point_of caches x p)) (point_names caches x only) x.config.observation_points)
+      (all_any (λ (p : ObservationPoint). PointNamesOnly named (point_of caches x p)) (point_names caches x only)
+      x.config.observation_points)
 
-  tables_name : (caches collecting : List Label) (devices : List NetworkDevice) → All IsNamed devices → All TableNamesOnly (map (table_of caches collecting) devices)
+  tables_name : (caches collecting : List Label) (devices : List NetworkDevice) → All IsNamed devices
+      → All TableNamesOnly (map (table_of caches collecting) devices)
   tables_name caches collecting devices only =
       All-map TableNamesOnly (table_of caches collecting) devices
-      (all_more IsNamed (λ x. TableNamesOnly (table_of caches collecting x)) (table_names caches collecting) devices only)
+      (all_more IsNamed (λ x. TableNamesOnly (table_of caches collecting x)) (table_names caches collecting) devices
+      only)
 
   -- ---- holders
 
   abbrev HolderNamesOnly : Holder → Type 0
   HolderNamesOnly holder = LayoutNamesOnly named holder.layout
 
-  caches_name : (exporting : List Label) (devices : List NetworkDevice) → All IsNamed devices → All HolderNamesOnly (cache_holders exporting devices)
+  caches_name : (exporting : List Label) (devices : List NetworkDevice) → All IsNamed devices
+      → All HolderNamesOnly (cache_holders exporting devices)
   caches_name exporting devices only =
-      let Held : NetworkDevice → Type 0 = λ x. All HolderNamesOnly (map (cache_holder exporting x.name) x.config.caches) in
+      let Held : NetworkDevice → Type 0 = λ x. All HolderNamesOnly (map (cache_holder exporting x.name) x.config.caches)
+      in
       all_flat HolderNamesOnly (λ (x : NetworkDevice). map (cache_holder exporting x.name) x.config.caches) devices
-      (all_more IsNamed Held (λ x own. All-map HolderNamesOnly (cache_holder exporting x.name) x.config.caches own.caches) devices only)
+      (all_more IsNamed Held (λ x own. All-map HolderNamesOnly (cache_holder exporting x.name) x.config.caches
+      own.caches) devices only)
 
-  held_names : (exporting : List Label) (device : List ℕ) (processes : List CollectingProcess) → All (AggregationsNameOnly named) processes → All HolderNamesOnly (held_by exporting device processes)
+  held_names : (exporting : List Label) (device : List ℕ) (processes : List CollectingProcess)
+      → All (AggregationsNameOnly named) processes → All HolderNamesOnly (held_by exporting device processes)
   held_names exporting device processes only =
-      let Held : CollectingProcess → Type 0 = λ p. All HolderNamesOnly (map (aggregation_holder exporting device) p.aggregations) in
-      all_flat HolderNamesOnly (λ (p : CollectingProcess). map (aggregation_holder exporting device) p.aggregations) processes
-      (all_more (AggregationsNameOnly named) Held (λ p own. All-map HolderNamesOnly (aggregation_holder exporting device) p.aggregations own) processes only)
+      let Held : CollectingProcess → Type 0 =
+      λ p. All HolderNamesOnly (map (aggregation_holder exporting device) p.aggregations) in
+      all_flat HolderNamesOnly (λ (p : CollectingProcess). map (aggregation_holder exporting device) p.aggregations)
+      processes
+      (all_more (AggregationsNameOnly named) Held
+      (λ p own. All-map HolderNamesOnly (aggregation_holder exporting device) p.aggregations own) processes only)
 
-  aggregations_name : (exporting : List Label) (devices : List NetworkDevice) → All IsNamed devices → All HolderNamesOnly (aggregation_holders exporting devices)
+  aggregations_name : (exporting : List Label) (devices : List NetworkDevice) → All IsNamed devices
+      → All HolderNamesOnly (aggregation_holders exporting devices)
   aggregations_name exporting devices only =
-      let Held : NetworkDevice → Type 0 = λ x. All HolderNamesOnly (held_by exporting x.name x.config.collecting_processes) in
+      let Held : NetworkDevice → Type 0 = λ x. All HolderNamesOnly
+      (held_by exporting x.name x.config.collecting_processes) in
       all_flat HolderNamesOnly (λ (x : NetworkDevice). held_by exporting x.name x.config.collecting_processes) devices
-      (all_more IsNamed Held (λ x own. held_names exporting x.name x.config.collecting_processes own.aggregations) devices only)
+      (all_more IsNamed Held (λ x own. held_names exporting x.name x.config.collecting_processes own.aggregations)
+      devices only)
 
   -- ---- the net
 
@@ -141,9 +168,11 @@ module _ (named : Axis → Bool) where
       let exporting = exporting_labels network.devices in
       record {
         holders =
-            All-append HolderNamesOnly (cache_holders exporting network.devices) (aggregation_holders exporting network.devices)
+            All-append HolderNamesOnly (cache_holders exporting network.devices)
+            (aggregation_holders exporting network.devices)
             (caches_name exporting network.devices only.devices)
             (aggregations_name exporting network.devices only.devices);
         report = only.report;
-        selections = tables_name (cache_labels network.devices) (collecting_labels network.devices) network.devices only.devices;
+        selections = tables_name (cache_labels network.devices) (collecting_labels network.devices) network.devices
+            only.devices;
       }

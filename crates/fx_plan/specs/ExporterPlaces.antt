@@ -13,8 +13,10 @@ place_of_process devices device (Some process) = Some (place (exporting_labels d
 
 abbrev pub place_on_device : List NetworkDevice → Option NetworkDevice → ℕ → Option ℕ
 place_on_device devices None exporter = None
-place_on_device devices (Some device) exporter = place_of_process devices device (entry_numbered device.config.exporting_processes exporter)
+place_on_device devices (Some device) exporter =
+    place_of_process devices device (entry_numbered device.config.exporting_processes exporter)
 
 -- the index of the exporting process with this number on the device with this number, both from 1 in document order
 abbrev pub exporter_place : NetworkDocument → ℕ → ℕ → Option ℕ
-exporter_place network device exporter = place_on_device network.devices (entry_numbered network.devices device) exporter
+exporter_place network device exporter =
+    place_on_device network.devices (entry_numbered network.devices device) exporter

@@ -40,10 +40,12 @@ pub record Group : Type 0 where
   pub end : ℕ
 
 abbrev pub AreOfDevice : Group → List Label → Type 0
-AreOfDevice group labels = (k : ℕ) (d : Label) → group.start ≤ k → k < group.end → (slice_index_or labels k d).device ≡ group.device
+AreOfDevice group labels = (k : ℕ) (d : Label) → group.start ≤ k → k < group.end → (slice_index_or labels k d).device
+    ≡ group.device
 
 -- labels fall into consecutive groups, from this index up to an end
 abbrev pub AreGrouped : ℕ → List Label → List Group → ℕ → Type 0
 AreGrouped from labels [] end = from ≡ end
 AreGrouped from labels (group ∷ groups) end =
-    (group.start ≡ from) × (from ≤ group.end) × (group.end ≤ length labels) × AreOfDevice group labels × AreGrouped group.end labels groups end
+    (group.start ≡ from) × (from ≤ group.end) × (group.end ≤ length labels) × AreOfDevice group labels
+    × AreGrouped group.end labels groups end

@@ -26,4 +26,5 @@ abbrev pub AreNumbers : List Layout → List Holder → List ℕ → Type 0
 AreNumbers layouts [] [] = Unit {0}
 AreNumbers layouts [] (number ∷ numbers) = ⊥
 AreNumbers layouts (holder ∷ holders) [] = ⊥
-AreNumbers layouts (holder ∷ holders) (number ∷ numbers) = (slice_get layouts number ≡ Some holder.layout) × AreNumbers layouts holders numbers
+AreNumbers layouts (holder ∷ holders) (number ∷ numbers) = (slice_get layouts number ≡ Some holder.layout)
+    × AreNumbers layouts holders numbers

@@ -25,7 +25,8 @@ SelectorsNameOnly named process = All (λ (s : Selector). MethodNamesOnly named 
 abbrev pub AggregationsNameOnly : (Axis → Bool) → CollectingProcess → Type 0
 AggregationsNameOnly named process = All (λ (a : Aggregation). LayoutNamesOnly named a.key) process.aggregations
 
--- the filters, cache fields and aggregation keys of a device use only named axes; the matches of aggregations may use any axis
+-- the filters, cache fields and aggregation keys of a device use only named axes; the matches of aggregations may use
+-- any axis
 pub record DeviceNamesOnly (named : Axis → Bool) (device : Device) : Type 0 where
   pub selectors : All (SelectorsNameOnly named) device.selection_processes
   pub caches : All (λ (c : Cache). LayoutNamesOnly named c.layout) device.caches

@@ -48,12 +48,14 @@ RefusesNetwork network e =
 -- fault; or out of memory
 abbrev pub ReadsPlan : Data → Result NetworkDocument Fault → Type 0
 ReadsPlan d (Ok network) =
-    (network_faults [] d ≡ []) × (network ≡ network_of d) × (length (layouts_of (net_of network)) ≤ layout_limit) × ((process : ℕ) → IsStuck (net_of network) process → ⊥)
+    (network_faults [] d ≡ []) × (network ≡ network_of d) × (length (layouts_of (net_of network)) ≤ layout_limit)
+    × ((process : ℕ) → IsStuck (net_of network) process → ⊥)
 ReadsPlan d (Err e) = Refuses e (network_faults [] d) ⊎ ((network_faults [] d ≡ []) × RefusesNetwork (network_of d) e)
 
 -- ---- the contents of a plan
 
-pub record IsPlan (network : NetworkDocument) (net : Net) (ranked order : List ℕ) (layouts : List Layout) (numbers : List ℕ) : Type 0 where
+pub record IsPlan (network : NetworkDocument) (net : Net) (ranked order : List ℕ) (layouts : List Layout)
+    (numbers : List ℕ) : Type 0 where
   pub net_is : net ≡ net_of network
   pub report : net.report < length net.processes
   pub whole : IsWhole net ranked

@@ -53,7 +53,8 @@ abbrev pub cache_holder : List Label → List ℕ → Cache → machine.Holder
 cache_holder exporting device cache = holder_with exporting device cache.layout cache.exporting_processes
 
 abbrev pub aggregation_holder : List Label → List ℕ → Aggregation → machine.Holder
-aggregation_holder exporting device aggregation = holder_with exporting device aggregation.key aggregation.exporting_processes
+aggregation_holder exporting device aggregation =
+    holder_with exporting device aggregation.key aggregation.exporting_processes
 
 -- the holders of the records of these processes' aggregations
 abbrev pub held_by : List Label → List ℕ → List CollectingProcess → List machine.Holder
@@ -66,18 +67,25 @@ abbrev pub aggregation_holders : List Label → List NetworkDevice → List mach
 aggregation_holders exporting devices = flat_map (λ x. held_by exporting x.name x.config.collecting_processes) devices
 
 abbrev pub holders_of : List NetworkDevice → List machine.Holder
-holders_of devices = cache_holders (exporting_labels devices) devices ++ aggregation_holders (exporting_labels devices) devices
+holders_of devices = cache_holders (exporting_labels devices) devices
+    ++ aggregation_holders (exporting_labels devices) devices
 
 -- ---- collecting processes, with the exporting processes that they name and their aggregations
 
 -- the leading bits that a match fixes
 abbrev pub match_entry : PropertyMatch → MatchEntry
-match_entry m = record { axis = m.axis; bits = m.range.bits; value = leading_bits (axis_width m.axis) m.range.bits m.range.low }
+match_entry m = record {
+  axis = m.axis;
+  bits = m.range.bits;
+  value =
+      leading_bits (axis_width m.axis) m.range.bits m.range.low;
+}
 
 -- aggregations whose holders begin at this index
 abbrev pub aggregations_from : ℕ → List Aggregation → List machine.AggregationEntry
 aggregations_from holder [] = []
-aggregations_from holder (a ∷ rest) = record { holder = holder; matches = map match_entry a.matches } ∷ aggregations_from (holder + 1) rest
+aggregations_from holder (a ∷ rest) = record { holder = holder; matches = map match_entry a.matches }
+    ∷ aggregations_from (holder + 1) rest
 
 abbrev pub process_from : List Label → List ℕ → ℕ → CollectingProcess → machine.Process
 process_from exporting device holder process = record {
@@ -87,7 +95,8 @@ process_from exporting device holder process = record {
 
 abbrev pub processes_from : List Label → List ℕ → ℕ → List CollectingProcess → List machine.Process
 processes_from exporting device holder [] = []
-processes_from exporting device holder (p ∷ ps) = process_from exporting device holder p ∷ processes_from exporting device (holder + length p.aggregations) ps
+processes_from exporting device holder (p ∷ ps) = process_from exporting device holder p
+    ∷ processes_from exporting device (holder + length p.aggregations) ps
 
 abbrev pub processes_in : List Label → ℕ → List NetworkDevice → List machine.Process
 processes_in exporting holder [] = []
@@ -97,7 +106,8 @@ processes_in exporting holder (x ∷ xs) =
 
 -- collecting processes, whose holders come after those of all caches
 abbrev pub processes_of : List NetworkDevice → List machine.Process
-processes_of devices = processes_in (exporting_labels devices) (length (cache_holders (exporting_labels devices) devices)) devices
+processes_of devices = processes_in (exporting_labels devices)
+    (length (cache_holders (exporting_labels devices) devices)) devices
 
 -- ---- devices
 
@@ -109,7 +119,8 @@ process_named (p ∷ ps) name = if bytes_eq p.name name then Some p else process
 abbrev pub selection_of : List Label → NetworkDevice → List ℕ → Selection
 selection_of caches x name = record {
   region = option_and_then region_of (process_named x.config.selection_processes name);
-  holder = option_map (place caches x.name) (option_and_then (λ p. p.cache) (process_named x.config.selection_processes name));
+  holder = option_map (place caches x.name)
+      (option_and_then (λ p. p.cache) (process_named x.config.selection_processes name));
 }
 
 -- whether a point observes packets that come in, and packets that go out

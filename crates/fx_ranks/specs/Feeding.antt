@@ -25,7 +25,8 @@ end_of net (Some link) = slice_get net.links link
 
 -- for each process whether an exporting process has a destination that leads to it
 abbrev pub linked_processes : Net → Exporter → List Bool
-linked_processes net exporter = map (λ to. list_any (leads_to net to) exporter.destinations) (range_with_len 0 (length net.processes))
+linked_processes net exporter = map (λ to. list_any (leads_to net to) exporter.destinations)
+    (range_with_len 0 (length net.processes))
 
 abbrev pub with_flag : List Bool → Option ℕ → List Bool
 with_flag flags None = flags

@@ -1,4 +1,5 @@
--- The order of ranks, in which each collecting process comes after all that feed it, and cycles, which have no such order.
+-- The order of ranks, in which each collecting process comes after all that feed it, and cycles, which have no such
+-- order.
 use Rattle.std.specs.Prelude.{◌≡◌, ℕ, suc, ◌<◌, ◌≤◌, ◌==◌, Bool, true, not, ◌&&◌, ◌||◌, List, [], ◌∷◌, ◌++◌, length, Contains, Option, Some, None, find, filter, position, slice_get, if◌then◌else◌}
 use Rattle.std.specs.List.{list_any, list_all}
 use Rattle.fx_tables.specs.Network.{Net}
@@ -13,7 +14,8 @@ is_in places place = list_any (λ p. p == place) places
 
 -- the process hasn't come yet, and all that feed it have
 abbrev pub is_ready : Net → List ℕ → ℕ → Bool
-is_ready net come process = not (is_in come process) && list_all (λ p. not (feeds net p process) || is_in come p) (places_of net)
+is_ready net come process = not (is_in come process) && list_all (λ p. not (feeds net p process) || is_in come p)
+    (places_of net)
 
 -- the first process in document order that is ready
 abbrev pub next : Net → List ℕ → Option ℕ
@@ -21,7 +23,8 @@ next net come = find (is_ready net come) (places_of net)
 
 abbrev pub ComesNext : Net → List ℕ → List ℕ → Type 0
 ComesNext net come [] = next net come ≡ None
-ComesNext net come (process ∷ processes) = (next net come ≡ Some process) × ComesNext net (come ++ process ∷ []) processes
+ComesNext net come (process ∷ processes) = (next net come ≡ Some process)
+    × ComesNext net (come ++ process ∷ []) processes
 
 -- the first process all of whose feeders have come is next, repeatedly, until no such process is left
 abbrev pub IsRankOrder : Net → List ℕ → Type 0

@@ -16,7 +16,8 @@ use Rattle.fx_machine.specs.Sums.{total_at}
 use Rattle.fx_collect.specs.Totals.{Totals, nothing, with_records}
 
 -- the first of these steps that isn't enabled is reported by its line
-pub record IsStopped (net : Net) (classes : List Class) (packets : List Packet) (steps : List Step) (s : State) (e : Fault) : Type 0 where
+pub record IsStopped (net : Net) (classes : List Class) (packets : List Packet) (steps : List Step) (s : State)
+    (e : Fault) : Type 0 where
   pub before : List Step
   pub step : Step
   pub behind : List Step

@@ -19,12 +19,14 @@ Leads old new before after =
 pub record Says (version : TextVersion) (old new : Lines) (x : RunLine) : Type 0 where
   pub number : new.number ≡ next_number old.number
   pub line : (rest : List ℕ) → MayBeLeft new.left rest
-      → MayHaveLeft old.left (λ text. (l : TextLine) × (text_lines text ≡ l ∷ text_lines rest) × (line_said version l ≡ Ok x))
+      → MayHaveLeft old.left (λ text. (l : TextLine) × (text_lines text ≡ l ∷ text_lines rest)
+      × (line_said version l ≡ Ok x))
 
 -- the first of these lines, which follow line n, is missing or isn't well-formed
 abbrev pub FirstIsWrong : TextVersion → ℕ → Fault → List TextLine → Type 0
 FirstIsWrong version n e [] = e ≡ at_line refutation_form (next_number n)
-FirstIsWrong version n e (l ∷ ls) = (number : ℕ) × (line_said version l ≡ Err number) × (e ≡ at_line number (next_number n))
+FirstIsWrong version n e (l ∷ ls) = (number : ℕ) × (line_said version l ≡ Err number)
+    × (e ≡ at_line number (next_number n))
 
 abbrev pub NextIsWrong : TextVersion → Lines → Fault → Type 0
 NextIsWrong version lines e = MayHaveLeft lines.left (λ text. FirstIsWrong version lines.number e (text_lines text))

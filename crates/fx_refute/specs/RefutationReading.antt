@@ -38,7 +38,8 @@ with_step r s = record { packet = r.packet; steps = r.steps ++ s ∷ [] }
 -- no line may follow the last one, which has the number n
 abbrev pub end_of_lines : ℕ → Refutation → List TextLine → Read
 end_of_lines n r [] = Ok r
-end_of_lines n r (l ∷ ls) = Err (at_line (if nat_lt 4096 (length l.0) then long_line else refutation_form) (next_number n))
+end_of_lines n r (l ∷ ls) = Err (at_line (if nat_lt 4096 (length l.0) then long_line else refutation_form)
+    (next_number n))
 
 -- line n, after the packet's line: another step, if there may be one, or the end; `next` reads the lines after it
 abbrev pub from_step : ℕ → Refutation → Result RunLine ℕ → List TextLine → (Refutation → Read) → Read

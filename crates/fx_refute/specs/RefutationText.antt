@@ -15,7 +15,8 @@ first_words Two = codes "once-refutation" ∷ codes "2" ∷ []
 -- the lines of a refutation: the first, that of the packet, one for each step, and the last
 abbrev pub refutation_lines : TextVersion → Refutation → List (List ℕ)
 refutation_lines version r =
-    map (join_with_byte 32) (first_words version ∷ packet_words version r.packet ∷ (map step_words r.steps ++ last_words ∷ []))
+    map (join_with_byte 32) (first_words version ∷ packet_words version r.packet
+    ∷ (map step_words r.steps ++ last_words ∷ []))
 
 abbrev pub refutation_text : TextVersion → Refutation → List ℕ
 refutation_text version r = lines_text (refutation_lines version r)

@@ -56,12 +56,14 @@ pub record AreTotals (net : Net) (classes : List Class) (r : Refutation) (ran pl
 -- why nothing is refuted: the packet isn't in its class, a step isn't enabled (steps begin at line 3), the run isn't
 -- complete, or its totals are the plain sums and nothing is unassigned
 pub data IsNoRefutation (net : Net) (classes : List Class) (r : Refutation) : Fault → Type 0 where
-  no_member : (IsOf r.packet (entry_numbered classes r.packet.class) → ⊥) → IsNoRefutation net classes r (fault_at refutation_packet (places.Line 2))
+  no_member : (IsOf r.packet (entry_numbered classes r.packet.class) → ⊥)
+      → IsNoRefutation net classes r (fault_at refutation_packet (places.Line 2))
   not_enabled : (steps : List Step) (step : Step) (behind : List Step) (s : State) (number : ℕ)
       → r.steps ≡ steps ++ step ∷ behind → ReachesState net classes (record { packet = r.packet; steps = steps }) s
       → after net classes (r.packet ∷ []) step s ≡ Err number
       → IsNoRefutation net classes r (fault_at refutation_step (places.Line (length steps + 3)))
   incomplete : (last : State) → ReachesState net classes r last → (Complete last → ⊥)
       → IsNoRefutation net classes r (fault_at run_not_complete places.None)
-  agrees : (last : State) → ReachesState net classes r last → Complete last → CountsEachOnce net (packets_to_count classes r) last
+  agrees : (last : State) → ReachesState net classes r last → Complete last
+      → CountsEachOnce net (packets_to_count classes r) last
       → IsNoRefutation net classes r (fault_at totals_agree places.None)

@@ -7,7 +7,8 @@ use Rattle.fx_elements.specs.Axes.{axis_index, tops}
 use Rattle.fx_elements.proofs.EveryAxis.{each_on}
 use Rattle.fx_boxes.specs.Boxes.{IsFields}
 
-pub all_on_axes : (a b c d e f g h i : ℕ) → a ≤ 4294967295 → b ≤ 4294967295 → c ≤ 255 → d ≤ 65535 → e ≤ 65535 → f ≤ 255 → g ≤ 255 → h < 2 ^ 128 → i < 2 ^ 128 → IsFields (a ∷ b ∷ c ∷ d ∷ e ∷ f ∷ g ∷ h ∷ i ∷ [])
+pub all_on_axes : (a b c d e f g h i : ℕ) → a ≤ 4294967295 → b ≤ 4294967295 → c ≤ 255 → d ≤ 65535 → e ≤ 65535 → f ≤ 255
+    → g ≤ 255 → h < 2 ^ 128 → i < 2 ^ 128 → IsFields (a ∷ b ∷ c ∷ d ∷ e ∷ f ∷ g ∷ h ∷ i ∷ [])
 all_on_axes a b c d e f g h i ha hb hc hd he hf hg hh hi = each_on of on
   where
     of : Axis → ℕ

@@ -55,7 +55,11 @@ fields_first version ws = do
   destination_port ← value_first DestinationPort source_port.1
   service ← value_first ClassOfService destination_port.1
   last ← last_first version service.1
-  Some (source.0 ∷ destination.0 ∷ protocol.0 ∷ source_port.0 ∷ destination_port.0 ∷ service.0 ∷ last.0.version ∷ last.0.source ∷ last.0.destination ∷ [], last.1)
+  Some (
+    source.0 ∷ destination.0 ∷ protocol.0 ∷ source_port.0 ∷ destination_port.0 ∷ service.0 ∷ last.0.version
+        ∷ last.0.source ∷ last.0.destination ∷ [],
+    last.1,
+  )
 
 -- the packet that all of these words describe, after the word `packet`
 unfoldable pub packet_of : TextVersion → Words → Option Packet
@@ -85,7 +89,8 @@ aggregation_first ws = do
 unfoldable pub holder_first : Words → Option (HolderName × Words)
 holder_first ws = do
   kind ← first_word ws
-  if bytes_eq kind.0 (codes "cache") then cache_first kind.1 else if bytes_eq kind.0 (codes "aggregation") then aggregation_first kind.1 else None
+  if bytes_eq kind.0 (codes "cache") then cache_first kind.1 else if bytes_eq kind.0 (codes "aggregation")
+      then aggregation_first kind.1 else None
 
 unfoldable pub cross_first : Words → Option (StepAction × Words)
 cross_first ws = do
@@ -167,7 +172,8 @@ well_formed (Some x) = Ok x
 
 -- what a line says, or the number of its fault
 abbrev pub said : TextVersion → TextLine → Result RunLine ℕ
-said version l = if nat_lt 4096 (length l.0) then Err long_line else if l.1 then well_formed (line_of version (words l.0)) else Err run_form
+said version l = if nat_lt 4096 (length l.0) then Err long_line else if l.1 then well_formed
+    (line_of version (words l.0)) else Err run_form
 
 abbrev pub no_run : Run
 no_run = record { packets = []; steps = [] }
@@ -180,7 +186,8 @@ with_step run s = record { packets = run.packets; steps = run.steps ++ s ∷ [] 
 
 -- the fault of a packet line: 855 after a step, 856 if the packet isn't of its class
 abbrev pub packet_fault : List Class → Run → Packet → Option ℕ
-packet_fault classes run p = if length run.steps == 0 then (if is_of p (entry_numbered classes p.class) then None else Some run_packet) else Some run_form
+packet_fault classes run p = if length run.steps == 0
+    then (if is_of p (entry_numbered classes p.class) then None else Some run_packet) else Some run_form
 
 -- no line follows the last one, which has the number n
 abbrev pub end_of_lines : ℕ → Run → List TextLine → Result Run Fault
@@ -193,7 +200,8 @@ unless None n result = result
 unless (Some number) n result = Err (at_line number n)
 
 -- the run that the line n and those after it complete, where `next` reads those after it
-abbrev pub from_line : List Class → ℕ → Run → Result RunLine ℕ → List TextLine → (Run → Result Run Fault) → Result Run Fault
+abbrev pub from_line : List Class → ℕ → Run → Result RunLine ℕ → List TextLine → (Run → Result Run Fault)
+    → Result Run Fault
 from_line classes n run (Err number) ls next = Err (at_line number n)
 from_line classes n run (Ok (line.Packet p)) ls next = unless (packet_fault classes run p) n (next (with_packet run p))
 from_line classes n run (Ok (line.Step s)) ls next = next (with_step run s)
@@ -202,7 +210,8 @@ from_line classes n run (Ok line.End) ls next = end_of_lines n run ls
 -- the run that the lines after the line n complete, in this version, or the first fault
 abbrev pub behind : TextVersion → List Class → ℕ → Run → List TextLine → Result Run Fault
 behind version classes n run [] = Err (at_line run_form (next_number n))
-behind version classes n run (l ∷ ls) = from_line classes (next_number n) run (said version l) ls (λ r. behind version classes (next_number n) r ls)
+behind version classes n run (l ∷ ls) =
+    from_line classes (next_number n) run (said version l) ls (λ r. behind version classes (next_number n) r ls)
 
 -- the run whose text has these lines, the first of which follows the line n, or the first fault
 abbrev pub run_in : List Class → ℕ → List TextLine → Result Run Fault
@@ -215,32 +224,41 @@ run_in classes n (l ∷ ls) =
 
 -- the result of reading a text that the reader of lines may have left
 abbrev pub MayReadRun : List Class → Lines → Result Run Fault → Type 0
-MayReadRun classes lines result = MayHaveLeft lines.left (λ text. run_in classes lines.number (text_lines text) ≡ result)
+MayReadRun classes lines result = MayHaveLeft lines.left
+    (λ text. run_in classes lines.number (text_lines text) ≡ result)
 
--- the same for a reader that is after the first line and has read this part of a run, and for one that is after the last line
+-- the same for a reader that is after the first line and has read this part of a run, and for one that is after the
+-- last line
 abbrev pub MayReadBehind : TextVersion → List Class → Lines → Run → Result Run Fault → Type 0
-MayReadBehind version classes lines run result = MayHaveLeft lines.left (λ text. behind version classes lines.number run (text_lines text) ≡ result)
+MayReadBehind version classes lines run result =
+    MayHaveLeft lines.left (λ text. behind version classes lines.number run (text_lines text) ≡ result)
 
 abbrev pub MayEnd : Lines → Run → Result Run Fault → Type 0
 MayEnd lines run result = MayHaveLeft lines.left (λ text. end_of_lines lines.number run (text_lines text) ≡ result)
 
--- whatever text is left after the first line, reading it amounts to reading a text that may have been left before that line
+-- whatever text is left after the first line, reading it amounts to reading a text that may have been left before that
+-- line
 abbrev pub ReadsFirst : TextVersion → Lines → Lines → Type 0
 ReadsFirst version old new =
     (rest : List ℕ) → MayBeLeft new.left rest
-    → MayHaveLeft old.left (λ text. (classes : List Class) → run_in classes old.number (text_lines text) ≡ behind version classes new.number no_run (text_lines rest))
+    → MayHaveLeft old.left (λ text. (classes : List Class) → run_in classes old.number (text_lines text)
+    ≡ behind version classes new.number no_run (text_lines rest))
 
 -- the same for a later line, which says this
 abbrev pub ReadsNextLine : TextVersion → Lines → Lines → RunLine → Type 0
 ReadsNextLine version old new x =
     (rest : List ℕ) → MayBeLeft new.left rest
-    → MayHaveLeft old.left (λ text. (classes : List Class) (run : Run) → behind version classes old.number run (text_lines text) ≡ from_line classes new.number run (Ok x) (text_lines rest) (λ r. behind version classes new.number r (text_lines rest)))
+    → MayHaveLeft old.left (λ text. (classes : List Class) (run : Run)
+    → behind version classes old.number run (text_lines text)
+    ≡ from_line classes new.number run (Ok x) (text_lines rest)
+    (λ r. behind version classes new.number r (text_lines rest)))
 
 -- the same for the first line and later ones, which together gave this part of a run
 abbrev pub ReadsOn : TextVersion → List Class → Lines → Lines → Run → Type 0
 ReadsOn version classes old new run =
     (rest : List ℕ) → MayBeLeft new.left rest
-    → MayHaveLeft old.left (λ text. run_in classes old.number (text_lines text) ≡ behind version classes new.number run (text_lines rest))
+    → MayHaveLeft old.left (λ text. run_in classes old.number (text_lines text)
+    ≡ behind version classes new.number run (text_lines rest))
 
 -- ---- a text that is read step by step
 

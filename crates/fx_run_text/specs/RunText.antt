@@ -39,15 +39,18 @@ abbrev pub field_words : TextVersion → Fields → List (List ℕ)
 field_words version fields = map (λ axis. value_text axis (field fields axis)) (line_axes version)
 
 abbrev pub packet_words : TextVersion → Packet → List (List ℕ)
-packet_words version p = codes "packet" ∷ decimal p.class ∷ decimal p.path ∷ (field_words version p.fields ++ decimal p.octets ∷ [])
+packet_words version p = codes "packet" ∷ decimal p.class ∷ decimal p.path
+    ∷ (field_words version p.fields ++ decimal p.octets ∷ [])
 
 abbrev pub holder_words : HolderName → List (List ℕ)
 holder_words (Cache device cache) = codes "cache" ∷ decimal device ∷ decimal cache ∷ []
-holder_words (Aggregation device process aggregation) = codes "aggregation" ∷ decimal device ∷ decimal process ∷ decimal aggregation ∷ []
+holder_words (Aggregation device process aggregation) = codes "aggregation" ∷ decimal device ∷ decimal process
+    ∷ decimal aggregation ∷ []
 
 abbrev pub step_words : Step → List (List ℕ)
 step_words (Cross packet crossing choices) = codes "cross" ∷ decimal packet ∷ decimal crossing ∷ map choice_word choices
-step_words (Expire holder position choices) = codes "expire" ∷ (holder_words holder ++ decimal position ∷ map choice_word choices)
+step_words (Expire holder position choices) = codes "expire"
+    ∷ (holder_words holder ++ decimal position ∷ map choice_word choices)
 step_words (Arrive link position choices) = codes "arrive" ∷ decimal link ∷ decimal position ∷ map choice_word choices
 
 abbrev pub first_words : TextVersion → List (List ℕ)
@@ -61,7 +64,8 @@ last_words = codes "end" ∷ []
 
 -- its lines: the first, one for each packet, one for each step, and the last
 abbrev pub run_lines : TextVersion → Run → List (List ℕ)
-run_lines version run = map (join_with_byte 32) (first_words version ∷ (map (packet_words version) run.packets ++ (map step_words run.steps ++ last_words ∷ [])))
+run_lines version run = map (join_with_byte 32)
+    (first_words version ∷ (map (packet_words version) run.packets ++ (map step_words run.steps ++ last_words ∷ [])))
 
 -- a line feed ends each line
 abbrev pub lines_text : List (List ℕ) → List ℕ

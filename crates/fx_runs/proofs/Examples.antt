@@ -23,7 +23,13 @@ meter = net by_choice
 -- ---- a run that goes on
 
 abbrev next_packet : Packet
-next_packet = record { fields = 167772162 ∷ 3221225985 ∷ 6 ∷ 49152 ∷ 443 ∷ 0 ∷ 4 ∷ 0 ∷ 0 ∷ []; octets = 60; class = 1; path = 1 }
+next_packet = record {
+  fields = 167772162 ∷ 3221225985 ∷ 6 ∷ 49152 ∷ 443 ∷ 0 ∷ 4 ∷ 0 ∷ 0 ∷ [];
+  octets = 60;
+  class =
+      1;
+  path = 1;
+}
 
 abbrev metered_and_sent : List Step
 metered_and_sent = Cross 1 1 (None ∷ []) ∷ Expire (Cache 1 1) 1 (Some 1 ∷ []) ∷ []
@@ -33,10 +39,18 @@ over_one = refl
 
 -- so it is over two, and the crossing of the second is to come
 over_two : run meter customers two metered_and_sent (opening meter customers two)
-    ≡ Ok (record { coming = record { packet = 2; crossing = 1 } ∷ []; held = [] ∷ []; carried = (first ∷ []) ∷ []; totals = []; unassigned = 0 })
+    ≡ Ok (record {
+      coming = record { packet = 2; crossing = 1 } ∷ [];
+      held = [] ∷ [];
+      carried = (first ∷ [])
+          ∷ [];
+      totals = [];
+      unassigned = 0;
+    })
 over_two = runs_extend meter customers one next_packet metered_and_sent (having [] (first ∷ []) []) over_one
 
-over_two_works_out : run meter customers two metered_and_sent (opening meter customers two) ≡ Ok (with_packet customers one next_packet (having [] (first ∷ []) []))
+over_two_works_out : run meter customers two metered_and_sent (opening meter customers two)
+    ≡ Ok (with_packet customers one next_packet (having [] (first ∷ []) []))
 over_two_works_out = refl
 
 -- what is no run may be one over a packet that comes behind
@@ -44,7 +58,14 @@ too_early : run meter customers one (Cross 2 1 (None ∷ []) ∷ []) (opening me
 too_early = refl
 
 in_time : run meter customers two (Cross 2 1 (None ∷ []) ∷ []) (opening meter customers two)
-    ≡ Ok (record { coming = record { packet = 1; crossing = 1 } ∷ []; held = (second ∷ []) ∷ []; carried = [] ∷ []; totals = []; unassigned = 0 })
+    ≡ Ok (record {
+      coming = record { packet = 1; crossing = 1 } ∷ [];
+      held = (second ∷ []) ∷ [];
+      carried = []
+          ∷ [];
+      totals = [];
+      unassigned = 0;
+    })
 in_time = refl
 
 -- ---- what is put on a link
@@ -52,17 +73,20 @@ in_time = refl
 -- the first record arrives before the second is sent
 abbrev sent_in_turn : List Step
 sent_in_turn =
-    Cross 1 1 (None ∷ []) ∷ Expire (Cache 1 1) 1 (Some 1 ∷ []) ∷ Arrive 1 1 [] ∷ Cross 2 1 (None ∷ []) ∷ Expire (Cache 1 1) 1 (Some 1 ∷ []) ∷ []
+    Cross 1 1 (None ∷ []) ∷ Expire (Cache 1 1) 1 (Some 1 ∷ []) ∷ Arrive 1 1 [] ∷ Cross 2 1 (None ∷ [])
+    ∷ Expire (Cache 1 1) 1 (Some 1 ∷ []) ∷ []
 
 both_put : put_on meter customers two 0 sent_in_turn (opening meter customers two) ≡ first ∷ second ∷ []
 both_put = refl
 
 -- though only the second is still there
-one_left : run meter customers two sent_in_turn (opening meter customers two) ≡ Ok (having [] (second ∷ []) (first ∷ []))
+one_left : run meter customers two sent_in_turn (opening meter customers two)
+    ≡ Ok (having [] (second ∷ []) (first ∷ []))
 one_left = refl
 
 -- at a destination without a link nothing is put
-none_put : put_on meter customers one 0 (Cross 1 1 (None ∷ []) ∷ Expire (Cache 1 1) 1 (Some 2 ∷ []) ∷ []) (opening meter customers one) ≡ []
+none_put : put_on meter customers one 0 (Cross 1 1 (None ∷ []) ∷ Expire (Cache 1 1) 1 (Some 2 ∷ []) ∷ [])
+    (opening meter customers one) ≡ []
 none_put = refl
 
 -- a link that is one of these twice is given the record twice
@@ -78,8 +102,10 @@ given_elsewhere = refl
 
 -- ---- destinations in use
 
-by_first : (e : Exporter) (place : ℕ) → slice_get (by_choice ∷ []) place ≡ Some e → entry_numbered e.destinations (number_in_use (1 ∷ []) place) ≡ Some (Some 0)
-by_first e zero h = let is : by_choice ≡ e = cc in subst (λ (x : Exporter). entry_numbered x.destinations 1 ≡ Some (Some 0)) is refl
+by_first : (e : Exporter) (place : ℕ) → slice_get (by_choice ∷ []) place ≡ Some e
+    → entry_numbered e.destinations (number_in_use (1 ∷ []) place) ≡ Some (Some 0)
+by_first e zero h = let is : by_choice ≡ e = cc in
+    subst (λ (x : Exporter). entry_numbered x.destinations 1 ≡ Some (Some 0)) is refl
 by_first e (suc n) h = absurd cc
 
 -- the first destination is there
@@ -87,20 +113,24 @@ usable : AllUsable meter (1 ∷ [])
 usable place e h chooses none = let f = by_first e place h in absurd cc
 
 -- so a record can leave, and is put on its link
-leaves : after meter customers one (Expire (Cache 1 1) 1 (Some 1 ∷ [])) (having (first ∷ []) [] []) ≡ Ok (having [] (first ∷ []) [])
+leaves : after meter customers one (Expire (Cache 1 1) 1 (Some 1 ∷ [])) (having (first ∷ []) [] [])
+    ≡ Ok (having [] (first ∷ []) [])
 leaves =
-    expires_are_made meter customers one (1 ∷ []) (having (first ∷ []) [] []) (Cache 1 1) 0 1 (first ∷ []) first usable refl refl refl
+    expires_are_made meter customers one (1 ∷ []) (having (first ∷ []) [] []) (Cache 1 1) 0 1 (first ∷ []) first usable
+    refl refl refl
 
 -- a third isn't, and no record can leave to it
 not_usable : AllUsable meter (3 ∷ []) → ⊥
 not_usable h = h 0 by_choice refl refl refl
 
-stays : after meter customers one (Expire (Cache 1 1) 1 (sent_by meter (3 ∷ []) (0 ∷ []))) (having (first ∷ []) [] []) ≡ Err 852
+stays : after meter customers one (Expire (Cache 1 1) 1 (sent_by meter (3 ∷ []) (0 ∷ []))) (having (first ∷ []) [] [])
+    ≡ Err 852
 stays = refl
 
 -- nor where none is in use
 none_usable : AllUsable meter [] → ⊥
 none_usable h = h 0 by_choice refl refl refl
 
-stays_too : after meter customers one (Expire (Cache 1 1) 1 (sent_by meter [] (0 ∷ []))) (having (first ∷ []) [] []) ≡ Err 852
+stays_too : after meter customers one (Expire (Cache 1 1) 1 (sent_by meter [] (0 ∷ []))) (having (first ∷ []) [] [])
+    ≡ Err 852
 stays_too = refl

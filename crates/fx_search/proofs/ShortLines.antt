@@ -43,7 +43,8 @@ leaf_writable a b c h k l =
     let f = length-append (decimal b) (32 ∷ decimal c) in
     ((omega (arith, h), omega (arith, k), omega (arith, l)), omega (arith, e, f, x, y, z))
 
-pub split_writable : (b : Bounds) (axis : Axis) (at : ℕ) → IsRegion b → IsStrictlyInside b (axis_index axis) at → IsWritable (item.Split axis at)
+pub split_writable : (b : Bounds) (axis : Axis) (at : ℕ) → IsRegion b → IsStrictlyInside b (axis_index axis) at
+    → IsWritable (item.Split axis at)
 split_writable b axis at r inside =
     let high = (r (axis_index axis) (index_below axis)).1 in
     let top = top_small axis in

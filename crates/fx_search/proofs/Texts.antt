@@ -21,7 +21,8 @@ by_both [] h k = tt
 by_both (b ∷ bs) h k = ((h.0, k.0), by_both bs h.1 k.1)
 
 number : (n : ℕ) → n < 2 ^ 128 → IsWord (decimal n)
-number n small = by_both (decimal n) (decimal_avoids 32 n (omega (arith, small)) (omega arith)) (decimal_avoids 10 n (omega (arith, small)) (omega arith))
+number n small = by_both (decimal n) (decimal_avoids 32 n (omega (arith, small)) (omega arith))
+    (decimal_avoids 10 n (omega (arith, small)) (omega arith))
 
 axis : (a : Axis) → IsWord (axis_word a)
 axis Source = written (codes "source") refl
@@ -37,9 +38,18 @@ axis Destination6 = written (codes "destination6") refl
 plain : (i : Item) → IsItem i → AreWords (item_words i)
 plain (item.Header One) h = (written (codes "once-certificate") refl, (written (codes "1") refl, tt))
 plain (item.Header Two) h = (written (codes "once-certificate") refl, (written (codes "2") refl, tt))
-plain (item.Class c p) h = (written (codes "class") refl, (number c (omega (arith, h.0)), (written (codes "path") refl, (number p (omega (arith, h.1)), tt))))
-plain (item.Split a at) h = (written (codes "S") refl, (axis a, (number at (let t = top_small a in omega (arith, h, t)), tt)))
-plain (item.Leaf x y z) h = (written (codes "L") refl, (number x (omega (arith, h.0)), (number y (omega (arith, h.1)), (number z (omega (arith, h.2)), tt))))
+plain (item.Class c p) h = (
+  written (codes "class") refl,
+  (number c (omega (arith, h.0)), (written (codes "path") refl, (number p (omega (arith, h.1)), tt))),
+)
+plain (item.Split a at) h = (
+  written (codes "S") refl,
+  (axis a, (number at (let t = top_small a in omega (arith, h, t)), tt)),
+)
+plain (item.Leaf x y z) h = (
+  written (codes "L") refl,
+  (number x (omega (arith, h.0)), (number y (omega (arith, h.1)), (number z (omega (arith, h.2)), tt))),
+)
 plain item.Never h = (written (codes "N") refl, tt)
 plain item.End h = (written (codes "end") refl, tt)
 
@@ -51,5 +61,6 @@ mapped : (is : List Item) → map ended_line (map item_text is) ≡ map item_lin
 mapped [] = refl
 mapped (i ∷ is) = ap (λ w. item_line i ∷ w) (mapped is)
 
-pub certificate_lines : (is : List Item) → AllByRecursion IsWritable is → text_lines (certificate_text is) ≡ map item_line is
+pub certificate_lines : (is : List Item) → AllByRecursion IsWritable is → text_lines (certificate_text is)
+    ≡ map item_line is
 certificate_lines is h = text_of_lines (map item_text is) (lines is h) ∙ mapped is

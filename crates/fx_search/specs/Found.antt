@@ -27,7 +27,8 @@ abbrev pub AtBounds : Net → List Crossing → Bounds → Tree → Type 0
 AtBounds net path region (Leaf crossing point process) = Unit {0}
 AtBounds net path region Uncounted = Unit {0}
 AtBounds net path region (Split axis at below above) =
-    IsSplit net path region axis at × AtBounds net path (below_part region (axis_index axis) at) below × AtBounds net path (above_part region (axis_index axis) at) above
+    IsSplit net path region axis at × AtBounds net path (below_part region (axis_index axis) at) below
+    × AtBounds net path (above_part region (axis_index axis) at) above
 
 abbrev pub AllAtBounds : Net → List Target → List Tree → Type 0
 AllAtBounds net (t ∷ ts) (x ∷ xs) = AtBounds net t.crossings t.region x × AllAtBounds net ts xs
@@ -57,7 +58,8 @@ certificate_text items = lines_text (map item_text items)
 
 -- a certificate whose splits are at bounds, and whose text the checker accepts; or a run that refutes
 abbrev pub IsRight : Net → List Class → ℕ → Found → Type 0
-IsRight net classes limit (found.Certificate items) = IsFound net classes limit items.items × IsCertificate net classes (text_lines (certificate_text items.items))
+IsRight net classes limit (found.Certificate items) = IsFound net classes limit items.items
+    × IsCertificate net classes (text_lines (certificate_text items.items))
 IsRight net classes limit (found.Refutation r) = Refutes net classes r
 
 -- for a certificate each packet is counted exactly once, and those of exempt classes never, also modulo 2 to the 64;

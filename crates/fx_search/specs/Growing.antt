@@ -44,15 +44,18 @@ pub record GrowsTree (net : Net) (a : RegionAhead) (x : Tree) : Type 0 where
 abbrev pub Completes : Net → List RegionAhead → List Item → ℕ → Type 0
 Completes net [] items n = (items ≡ item.End ∷ []) × (n ≡ 0)
 Completes net (a ∷ as') items n =
-    (x : Tree) × (rest : List Item) × (m : ℕ) × (items ≡ opening_items a ++ (tree_items x ++ rest)) × GrowsTree net a x × (n ≡ size x + m) × Completes net as' rest m
+    (x : Tree) × (rest : List Item) × (m : ℕ) × (items ≡ opening_items a ++ (tree_items x ++ rest)) × GrowsTree net a x
+    × (n ≡ size x + m) × Completes net as' rest m
 
 -- whatever completes the regions ahead makes these items, with `n` split and leaf lines, the items of a certificate
 abbrev pub IsBegun : Net → List Target → Version → List Item → List RegionAhead → ℕ → Type 0
 IsBegun net targets version items ahead n =
-    (rest : List Item) (m : ℕ) → Completes net ahead rest m → (body : List Item) × (items ++ rest ≡ item.Header version ∷ body) × Completes net (map root targets) body (n + m)
+    (rest : List Item) (m : ℕ) → Completes net ahead rest m → (body : List Item)
+    × (items ++ rest ≡ item.Header version ∷ body) × Completes net (map root targets) body (n + m)
 
 -- the state of a search: the regions ahead, the number of lines, the items so far, and that these items may be written
-pub record IsGrowing (net : Net) (targets : List Target) (version : Version) (most : ℕ) (items : List Item) (lines : ℕ) (ahead : List RegionAhead) : Type 0 where
+pub record IsGrowing (net : Net) (targets : List Target) (version : Version) (most : ℕ) (items : List Item) (lines : ℕ)
+    (ahead : List RegionAhead) : Type 0 where
   pub front : SearchFront net targets ahead lines
   pub begun : IsBegun net targets version items ahead lines
   pub written : AllByRecursion IsWritable items
@@ -75,7 +78,8 @@ pub record AreAhead (selections : List PathSelection) (target : Target) (waiting
 
 -- nothing cuts the region, and its least packet hasn't the fate that its class requires
 abbrev pub IsWrongAt : Net → RegionAhead → Type 0
-IsWrongAt net a = NothingCuts net a.target.crossings a.region × (packet_fate net a.region.low a.target.crossings ≢ wanted_fate a.target.exempt)
+IsWrongAt net a = NothingCuts net a.target.crossings a.region
+    × (packet_fate net a.region.low a.target.crossings ≢ wanted_fate a.target.exempt)
 
 -- the sound leaf of a region with this judgement, if the leaf is of the required kind
 abbrev pub leaf_item : Judgement → Bool → Option Item
@@ -85,15 +89,18 @@ leaf_item _ exempt = None
 
 -- nothing cuts the region, all its packets have the judged fate, and that isn't the required one
 abbrev pub IsUnwantedAt : Net → RegionAhead → Judgement → Type 0
-IsUnwantedAt net a j = IsWrongAt net a × IsJudged net a.target.crossings a.region j × (leaf_item j a.target.exempt ≡ None)
+IsUnwantedAt net a j = IsWrongAt net a × IsJudged net a.target.crossings a.region j
+    × (leaf_item j a.target.exempt ≡ None)
 
 -- a search stops at a region ahead, for this reason
 abbrev pub IsStoppedAt : Net → List Target → ℕ → RegionAhead → Why → Type 0
-IsStoppedAt net targets most a (why.Wrong j) = IsUnwantedAt net a j × ((rest : List RegionAhead) × (n : ℕ) × SearchFront net targets (a ∷ rest) n)
+IsStoppedAt net targets most a (why.Wrong j) = IsUnwantedAt net a j
+    × ((rest : List RegionAhead) × (n : ℕ) × SearchFront net targets (a ∷ rest) n)
 IsStoppedAt net targets most a (why.TooLarge limit) = IsTooLargeAt net targets most a limit
 
 -- the search passed a region by one more line, or it stops at that region
-abbrev pub IsTaken : Net → List Target → Version → ℕ → List Item → ℕ → List RegionAhead → RegionAhead → Option Why → Type 0
+abbrev pub IsTaken : Net → List Target → Version → ℕ → List Item → ℕ → List RegionAhead → RegionAhead → Option Why
+    → Type 0
 IsTaken net targets version most items lines ahead a None = IsGrowing net targets version most items lines ahead
 IsTaken net targets version most items lines ahead a (Some w) = IsStoppedAt net targets most a w
 
@@ -104,7 +111,8 @@ IsGrown net targets version most items lines later (Some s) = IsStoppedAt net ta
 
 -- a search gives up: out of memory, or what it needs is too large
 abbrev pub IsGivenUp : Net → List Target → ℕ → Fault → Type 0
-IsGivenUp net targets most e = (e ≡ fault_at want_of_memory places.None) ⊎ ((e ≡ fault_at search_too_large places.None) × IsTooLarge net targets most)
+IsGivenUp net targets most e = (e ≡ fault_at want_of_memory places.None)
+    ⊎ ((e ≡ fault_at search_too_large places.None) × IsTooLarge net targets most)
 
 -- the least packet of a region
 abbrev pub least_packet : RegionAhead → Packet

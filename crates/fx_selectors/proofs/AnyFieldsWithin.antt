@@ -33,7 +33,8 @@ room_if : (b : Bounds) → IsFields b.high → Ordered b → has_room b ≡ true
 room_if b fields h = holds_if (up_to_tops b) b.high (λ k lt. (h k lt, fields k lt))
 
 -- the region between the low and the high fields, if there is one
-pub between_is : (b : Bounds) (o : Option Bounds) → IsFields b.high → IsSome o ↔ Ordered b → IfSome o (λ r. (r.low ≡ b.low) × (r.high ≡ b.high)) → o ≡ region_within b
+pub between_is : (b : Bounds) (o : Option Bounds) → IsFields b.high → IsSome o ↔ Ordered b
+    → IfSome o (λ r. (r.low ≡ b.low) × (r.high ≡ b.high)) → o ≡ region_within b
 between_is b None fields exact value = none_within b (λ h. let no : false ≡ true = exact.1 (ordered b h) in absurd (cc))
 between_is b (Some r) fields exact value =
     let there : has_room b ≡ true = room_if b fields (exact.0 cc) in
@@ -41,8 +42,11 @@ between_is b (Some r) fields exact value =
     rw there (ap Some same)
 
 -- the same, where the region is between other names of the bounds
-pub between_with : (b : Bounds) (o : Option Bounds) (low high : List ℕ) → low ≡ b.low → high ≡ b.high → IsFields b.high → IsSome o ↔ ((k : ℕ) → k < axis_count → slice_index low k ≤ slice_index high k) → IfSome o (λ r. (r.low ≡ low) × (r.high ≡ high)) → o ≡ region_within b
+pub between_with : (b : Bounds) (o : Option Bounds) (low high : List ℕ) → low ≡ b.low → high ≡ b.high → IsFields b.high
+    → IsSome o ↔ ((k : ℕ) → k < axis_count → slice_index low k ≤ slice_index high k)
+    → IfSome o (λ r. (r.low ≡ low) × (r.high ≡ high)) → o ≡ region_within b
 between_with b o low high el eh fields exact value =
-    let same : ◌≡◌ {A = Bounds} (record { low = low; high = high }) b = ap₂ (λ (l : List ℕ) (h : List ℕ). record { low = l; high = h }) el eh in
+    let same : ◌≡◌ {A = Bounds} (record { low = low; high = high }) b =
+    ap₂ (λ (l : List ℕ) (h : List ℕ). record { low = l; high = h }) el eh in
     let own : IsFields high = subst (λ (h : List ℕ). IsFields h) (sym eh) fields in
     between_is (record { low = low; high = high }) o own exact value ∙ ap region_within same

@@ -30,11 +30,15 @@ narrowed_whole : (b : Bounds) (m : PropertyMatch) → IsWhole b → IsWhole (bou
 narrowed_whole b m whole = (length-set b.low _ _ ∙ whole.0, length-set b.high _ _ ∙ whole.1)
 
 -- where each place is the axis of the match or another
-low_own : (b : Bounds) (m : PropertyMatch) → IsWhole b → get_or (bounds_within b m).low (axis_index m.axis) 0 ≡ max (field b.low m.axis) m.range.low
-low_own b m whole = get_or-set_same b.low (axis_index m.axis) _ 0 (let small = index_below m.axis in omega (arith, small, whole.0))
+low_own : (b : Bounds) (m : PropertyMatch) → IsWhole b → get_or (bounds_within b m).low (axis_index m.axis) 0
+    ≡ max (field b.low m.axis) m.range.low
+low_own b m whole = get_or-set_same b.low (axis_index m.axis) _ 0
+    (let small = index_below m.axis in omega (arith, small, whole.0))
 
-high_own : (b : Bounds) (m : PropertyMatch) → IsWhole b → get_or (bounds_within b m).high (axis_index m.axis) 0 ≡ min (field b.high m.axis) m.range.high
-high_own b m whole = get_or-set_same b.high (axis_index m.axis) _ 0 (let small = index_below m.axis in omega (arith, small, whole.1))
+high_own : (b : Bounds) (m : PropertyMatch) → IsWhole b → get_or (bounds_within b m).high (axis_index m.axis) 0
+    ≡ min (field b.high m.axis) m.range.high
+high_own b m whole = get_or-set_same b.high (axis_index m.axis) _ 0
+    (let small = index_below m.axis in omega (arith, small, whole.1))
 
 -- another place
 other : (k i : ℕ) → (k == i) ≡ false → k ≡ i → ⊥
@@ -53,7 +57,11 @@ module _ (b : Bounds) (m : PropertyMatch) (f : Fields) (whole : IsWhole b) where
   IsAmong = (m.range.low ≤ field f m.axis) × (field f m.axis ≤ m.range.high)
 
   after_own : Before (axis_index m.axis) → IsAmong → After (axis_index m.axis)
-  after_own before among = (rw (low_own b m whole) (max-le before.0 among.0), rw (high_own b m whole) (le-min before.1 among.1))
+  after_own before among = (
+    rw (low_own b m whole) (max-le before.0 among.0),
+    rw (high_own b m whole)
+        (le-min before.1 among.1),
+  )
 
   before_own : After (axis_index m.axis) → Before (axis_index m.axis)
   before_own after =
@@ -93,7 +101,8 @@ module _ (b : Bounds) (m : PropertyMatch) (f : Fields) (whole : IsWhole b) where
   has_if among = rw (le-leb _ _ among.0, le-leb _ _ among.1) refl
 
   has_is : has m f ≡ true → IsAmong
-  has_is h = let parts = and_true (nat_le m.range.low (field f m.axis)) _ h in (leb-true _ _ parts.0, leb-true _ _ parts.1)
+  has_is h = let parts = and_true (nat_le m.range.low (field f m.axis)) _ h in
+      (leb-true _ _ parts.0, leb-true _ _ parts.1)
 
   within_if : Holds b f → has m f ≡ true → Holds (bounds_within b m) f
   within_if h t k lt = after_at (has_is t) k (h k lt)
@@ -103,15 +112,18 @@ module _ (b : Bounds) (m : PropertyMatch) (f : Fields) (whole : IsWhole b) where
 
 -- no bound passes the greatest value
 narrowed_fields : (b : Bounds) (m : PropertyMatch) → IsWhole b → IsFields b.high → IsFields (bounds_within b m).high
-narrowed_fields b m whole fields k lt = elim (k == axis_index m.axis) as (λ t. (k == axis_index m.axis) ≡ t → get_or (bounds_within b m).high k 0 ≤ get_or tops k 0) [
-  | true ↦ λ e.
-      let i = eqb-true k (axis_index m.axis) e in
-      let own = high_own b m whole in
-      let least = min-le_left (field b.high m.axis) m.range.high in
-      let before = fields (axis_index m.axis) (index_below m.axis) in
-      subst (λ (n : ℕ). get_or (bounds_within b m).high n 0 ≤ get_or tops n 0) (sym i) (rw own (omega (arith, least, before)))
-  | false ↦ λ e. rw (get_or-set_other b.high (axis_index m.axis) k _ 0 (other k _ e)) (fields k lt)
-] refl
+narrowed_fields b m whole fields k lt =
+    elim (k == axis_index m.axis) as (λ t. (k == axis_index m.axis) ≡ t → get_or (bounds_within b m).high k 0
+    ≤ get_or tops k 0) [
+      | true ↦ λ e.
+          let i = eqb-true k (axis_index m.axis) e in
+          let own = high_own b m whole in
+          let least = min-le_left (field b.high m.axis) m.range.high in
+          let before = fields (axis_index m.axis) (index_below m.axis) in
+          subst (λ (n : ℕ). get_or (bounds_within b m).high n 0 ≤ get_or tops n 0) (sym i)
+          (rw own (omega (arith, least, before)))
+      | false ↦ λ e. rw (get_or-set_other b.high (axis_index m.axis) k _ 0 (other k _ e)) (fields k lt)
+    ] refl
 
 -- ---- all selectors
 
@@ -129,21 +141,25 @@ step_fields : (b : Bounds) (method : Method) → IsWhole b → IsFields b.high �
 step_fields b SelectAll whole fields = fields
 step_fields b (FilterMatch m) whole fields = narrowed_fields b m whole fields
 
-step_if : (b : Bounds) (method : Method) (f : Fields) → IsWhole b → Holds b f → passes method f ≡ true → Holds (narrowed_by b method) f
+step_if : (b : Bounds) (method : Method) (f : Fields) → IsWhole b → Holds b f → passes method f ≡ true
+    → Holds (narrowed_by b method) f
 step_if b SelectAll f whole h t = h
 step_if b (FilterMatch m) f whole h t = within_if b m f whole h t
 
-step_is : (b : Bounds) (method : Method) (f : Fields) → IsWhole b → Holds (narrowed_by b method) f → Holds b f × (passes method f ≡ true)
+step_is : (b : Bounds) (method : Method) (f : Fields) → IsWhole b → Holds (narrowed_by b method) f → Holds b f
+    × (passes method f ≡ true)
 step_is b SelectAll f whole h = (h, refl)
 step_is b (FilterMatch m) f whole h = within_is b m f whole h
 
-left_if : (b : Bounds) (ss : List Selector) (f : Fields) → IsWhole b → Holds b f → all_pass ss f ≡ true → Holds (left b ss) f
+left_if : (b : Bounds) (ss : List Selector) (f : Fields) → IsWhole b → Holds b f → all_pass ss f ≡ true
+    → Holds (left b ss) f
 left_if b [] f whole h t = h
 left_if b (s ∷ ss) f whole h t =
     let parts = and_true (passes s.method f) (all_pass ss f) t in
     left_if (narrowed_by b s.method) ss f (step_whole b s.method whole) (step_if b s.method f whole h parts.0) parts.1
 
-left_is : (b : Bounds) (ss : List Selector) (f : Fields) → IsWhole b → Holds (left b ss) f → Holds b f × (all_pass ss f ≡ true)
+left_is : (b : Bounds) (ss : List Selector) (f : Fields) → IsWhole b → Holds (left b ss) f → Holds b f
+    × (all_pass ss f ≡ true)
 left_is b [] f whole h = (h, refl)
 left_is b (s ∷ ss) f whole h =
     let rest = left_is (narrowed_by b s.method) ss f (step_whole b s.method whole) h in
@@ -152,7 +168,8 @@ left_is b (s ∷ ss) f whole h =
 
 left_fields : (b : Bounds) (ss : List Selector) → IsWhole b → IsFields b.high → IsFields (left b ss).high
 left_fields b [] whole fields = fields
-left_fields b (s ∷ ss) whole fields = left_fields (narrowed_by b s.method) ss (step_whole b s.method whole) (step_fields b s.method whole fields)
+left_fields b (s ∷ ss) whole fields = left_fields (narrowed_by b s.method) ss (step_whole b s.method whole)
+    (step_fields b s.method whole fields)
 
 everything_whole : IsWhole everything
 everything_whole = (refl, refl)
@@ -163,7 +180,8 @@ tops_fields k lt = omega arith
 in_everything : (f : Fields) → IsFields f → Holds everything f
 in_everything f fields k lt =
     let at = placed k lt in
-    let none : ◌≡◌ {A = ℕ} (get_or everything.low k 0) 0 = subst (λ (n : ℕ). ◌≡◌ {A = ℕ} (get_or everything.low n 0) 0) at.1 (value_at (λ axis. 0) at.0) in
+    let none : ◌≡◌ {A = ℕ} (get_or everything.low k 0) 0 =
+    subst (λ (n : ℕ). ◌≡◌ {A = ℕ} (get_or everything.low n 0) 0) at.1 (value_at (λ axis. 0) at.0) in
     (omega (arith, none), fields k lt)
 
 -- ---- the region of a process
@@ -174,7 +192,8 @@ same_answer false true there back = back refl
 same_answer false false there back = refl
 
 -- fields within what is left are those that pass all selectors
-left_selects : (process : SelectionProcess) (f : Fields) → IsFields f → holds (bounds_of process.selectors) f ≡ selects process f
+left_selects : (process : SelectionProcess) (f : Fields) → IsFields f → holds (bounds_of process.selectors) f
+    ≡ selects process f
 left_selects process f fields =
     same_answer _ _
     (λ h. (left_is everything process.selectors f everything_whole (holds_is _ f h)).1)
@@ -182,7 +201,8 @@ left_selects process f fields =
 
 -- where fields are left, the bounds have room
 room_by : (b : Bounds) (f : Fields) → IsFields b.high → Holds b f → has_room b ≡ true
-room_by b f fields h = holds_if (record { low = b.low; high = tops }) b.high (λ k lt. let here = h k lt in (omega (arith, here.0, here.1), fields k lt))
+room_by b f fields h = holds_if (record { low = b.low; high = tops }) b.high
+    (λ k lt. let here = h k lt in (omega (arith, here.0, here.1), fields k lt))
 
 region_is : (b r : Bounds) → region_within b ≡ Some r → r ≡ b
 region_is b r = elim (has_room b) as (λ t. has_room b ≡ t → region_within b ≡ Some r → r ≡ b) [
@@ -190,19 +210,27 @@ region_is b r = elim (has_room b) as (λ t. has_room b ≡ t → region_within b
   | false ↦ λ e h. absurd (none_some (sym (rw e refl) ∙ h))
 ] refl
 
-region_selects : (process : SelectionProcess) (r : Bounds) → region_of process ≡ Some r → (f : Fields) → IsFields f → holds r f ≡ selects process f
+region_selects : (process : SelectionProcess) (r : Bounds) → region_of process ≡ Some r → (f : Fields) → IsFields f
+    → holds r f ≡ selects process f
 region_selects process r h f fields = rw (region_is (bounds_of process.selectors) r h) (left_selects process f fields)
 
-no_region_selects : (process : SelectionProcess) → region_of process ≡ None → (f : Fields) → IsFields f → selects process f ≡ false
-no_region_selects process h f fields = elim (selects process f) as (λ t. selects process f ≡ t → selects process f ≡ false) [
-  | true ↦ λ e. absurd (none_some {x = bounds_of process.selectors} (sym h ∙ rw (room_by (bounds_of process.selectors) f (left_fields everything process.selectors everything_whole tops_fields) (left_if everything process.selectors f everything_whole (in_everything f fields) e)) refl))
-  | false ↦ λ e. e
-] refl
+no_region_selects : (process : SelectionProcess) → region_of process ≡ None → (f : Fields) → IsFields f
+    → selects process f ≡ false
+no_region_selects process h f fields = elim (selects process f)
+    as (λ t. selects process f ≡ t → selects process f ≡ false) [
+      | true ↦ λ e. absurd (none_some {x = bounds_of process.selectors}
+          (sym h ∙ rw (room_by (bounds_of process.selectors) f
+          (left_fields everything process.selectors everything_whole tops_fields)
+          (left_if everything process.selectors f everything_whole (in_everything f fields) e)) refl))
+      | false ↦ λ e. e
+    ] refl
 
-pub some_selects : (process : SelectionProcess) (o : Option Bounds) → o ≡ region_of process → IfSome o (λ region. (f : Fields) → IsFields f → holds region f ≡ selects process f)
+pub some_selects : (process : SelectionProcess) (o : Option Bounds) → o ≡ region_of process
+    → IfSome o (λ region. (f : Fields) → IsFields f → holds region f ≡ selects process f)
 some_selects process None is = tt
 some_selects process (Some r) is = region_selects process r (sym is)
 
-pub none_selects : (process : SelectionProcess) (o : Option Bounds) → o ≡ region_of process → IfNone o ((f : Fields) → IsFields f → selects process f ≡ false)
+pub none_selects : (process : SelectionProcess) (o : Option Bounds) → o ≡ region_of process
+    → IfNone o ((f : Fields) → IsFields f → selects process f ≡ false)
 none_selects process None is = no_region_selects process (sym is)
 none_selects process (Some r) is = tt

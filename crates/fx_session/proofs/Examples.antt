@@ -15,12 +15,14 @@ use Rattle.fx_session.specs.declared.stream_fault.StreamFault.TheVariants as fau
 
 -- a template of a source address and the two counters, and a record: 10.0.0.1, 300 octets, 2 packets
 abbrev first : List ℕ
-first = 0 ∷ 10 ∷ 0 ∷ 60 ∷ 0 ∷ 0 ∷ 0 ∷ 2 ∷ 0 ∷ 0 ∷ 0 ∷ 0 ∷ 0 ∷ 0 ∷ 0 ∷ 0 ∷ 0 ∷ 2 ∷ 0 ∷ 20 ∷ 1 ∷ 0 ∷ 0 ∷ 3 ∷ 0 ∷ 8 ∷ 0 ∷ 4 ∷ 0 ∷ 1 ∷ 0 ∷ 8 ∷ 0 ∷ 2 ∷ 0 ∷ 8
+first = 0 ∷ 10 ∷ 0 ∷ 60 ∷ 0 ∷ 0 ∷ 0 ∷ 2 ∷ 0 ∷ 0 ∷ 0 ∷ 0 ∷ 0 ∷ 0 ∷ 0 ∷ 0 ∷ 0 ∷ 2 ∷ 0 ∷ 20 ∷ 1 ∷ 0 ∷ 0 ∷ 3 ∷ 0 ∷ 8 ∷ 0 ∷ 4
+    ∷ 0 ∷ 1 ∷ 0 ∷ 8 ∷ 0 ∷ 2 ∷ 0 ∷ 8
     ∷ 1 ∷ 0 ∷ 0 ∷ 24 ∷ 10 ∷ 0 ∷ 0 ∷ 1 ∷ 0 ∷ 0 ∷ 0 ∷ 0 ∷ 0 ∷ 0 ∷ 1 ∷ 44 ∷ 0 ∷ 0 ∷ 0 ∷ 0 ∷ 0 ∷ 0 ∷ 0 ∷ 2 ∷ []
 
 -- one packet more, under the same template
 abbrev second : List ℕ
-second = 0 ∷ 10 ∷ 0 ∷ 40 ∷ 0 ∷ 0 ∷ 0 ∷ 3 ∷ 0 ∷ 0 ∷ 0 ∷ 1 ∷ 0 ∷ 0 ∷ 0 ∷ 0 ∷ 1 ∷ 0 ∷ 0 ∷ 24 ∷ 10 ∷ 0 ∷ 0 ∷ 1 ∷ 0 ∷ 0 ∷ 0 ∷ 0 ∷ 0 ∷ 0 ∷ 1 ∷ 44 ∷ 0 ∷ 0 ∷ 0 ∷ 0 ∷ 0 ∷ 0 ∷ 0 ∷ 1 ∷ []
+second = 0 ∷ 10 ∷ 0 ∷ 40 ∷ 0 ∷ 0 ∷ 0 ∷ 3 ∷ 0 ∷ 0 ∷ 0 ∷ 1 ∷ 0 ∷ 0 ∷ 0 ∷ 0 ∷ 1 ∷ 0 ∷ 0 ∷ 24 ∷ 10 ∷ 0 ∷ 0 ∷ 1 ∷ 0 ∷ 0 ∷ 0
+    ∷ 0 ∷ 0 ∷ 0 ∷ 1 ∷ 44 ∷ 0 ∷ 0 ∷ 0 ∷ 0 ∷ 0 ∷ 0 ∷ 0 ∷ 1 ∷ []
 
 abbrev flow : ℕ → Record
 flow packets = record {
@@ -29,11 +31,13 @@ flow packets = record {
 }
 
 reads_two_messages : (after_piece start (first ++ second)).known.waiting ≡ flow 2 ∷ flow 1 ∷ []
-unfolding sets_of sets_in element_of fields_in record_at same_fields has_narrow template_record template_records template_set number_in flow_in flow_records flow_set set_read sets_read message_read read_in read_all
+unfolding sets_of sets_in element_of fields_in record_at same_fields has_narrow template_record template_records
+    template_set number_in flow_in flow_records flow_set set_read sets_read message_read read_in read_all
 reads_two_messages = refl
 
 counts_a_gap : (after_piece start (first ++ first)).known.gaps ≡ 1
-unfolding sets_of sets_in element_of fields_in record_at same_fields has_narrow template_record template_records template_set number_in flow_in flow_records flow_set set_read sets_read message_read read_in read_all
+unfolding sets_of sets_in element_of fields_in record_at same_fields has_narrow template_record template_records
+    template_set number_in flow_in flow_records flow_set set_read sets_read message_read read_in read_all
 counts_a_gap = refl
 
 needs_a_template : (after_piece start second).fault ≡ Some 617
@@ -41,12 +45,17 @@ unfolding sets_of sets_in set_read sets_read message_read read_in read_all
 needs_a_template = refl
 
 abbrev registered : ℕ → List ℕ → Value
-registered element octets = record { field = record { element = element; field_length = length octets; enterprise = None }; content = octets }
+registered element octets = record {
+  field =
+      record { element = element; field_length = length octets; enterprise = None };
+  content = octets;
+}
 
 -- 2001:db8::1 as a prefix with so many bits, 300 octets, 2 packets
 abbrev prefix : ℕ → List Value
 prefix bits =
-    registered 170 (32 ∷ 1 ∷ 13 ∷ 184 ∷ 0 ∷ 0 ∷ 0 ∷ 0 ∷ 0 ∷ 0 ∷ 0 ∷ 0 ∷ 0 ∷ 0 ∷ 0 ∷ 1 ∷ []) ∷ registered 29 (bits ∷ []) ∷ registered 1 (1 ∷ 44 ∷ []) ∷ registered 2 (2 ∷ []) ∷ []
+    registered 170 (32 ∷ 1 ∷ 13 ∷ 184 ∷ 0 ∷ 0 ∷ 0 ∷ 0 ∷ 0 ∷ 0 ∷ 0 ∷ 0 ∷ 0 ∷ 0 ∷ 0 ∷ 1 ∷ []) ∷ registered 29 (bits ∷ [])
+    ∷ registered 1 (1 ∷ 44 ∷ []) ∷ registered 2 (2 ∷ []) ∷ []
 
 -- of 2001:db8::/32 the first 32 bits are known
 reads_a_prefix : flow_in (prefix 32) ≡ Ok (Some (record {

@@ -8,11 +8,13 @@ abbrev turn : List SetParts → Result Reading StreamFault → Result Reading St
 turn ss (Ok next) = sets_read next ss
 turn ss (Err n) = Err n
 
-pub sets_read-first : (r next : Reading) (s : SetParts) (ss all : List SetParts) → all ≡ s ∷ ss → set_read r s ≡ Ok next → sets_read r all ≡ sets_read next ss
+pub sets_read-first : (r next : Reading) (s : SetParts) (ss all : List SetParts) → all ≡ s ∷ ss → set_read r s ≡ Ok next
+    → sets_read r all ≡ sets_read next ss
 unfolding sets_read
 sets_read-first r next s ss all a e = ap (sets_read r) a ∙ ap (turn ss) e
 
-pub sets_read-refused : (r : Reading) (s : SetParts) (ss all : List SetParts) (n : StreamFault) → all ≡ s ∷ ss → set_read r s ≡ Err n → sets_read r all ≡ Err n
+pub sets_read-refused : (r : Reading) (s : SetParts) (ss all : List SetParts) (n : StreamFault) → all ≡ s ∷ ss
+    → set_read r s ≡ Err n → sets_read r all ≡ Err n
 unfolding sets_read
 sets_read-refused r s ss all n a e = ap (sets_read r) a ∙ ap (turn ss) e
 

@@ -41,8 +41,10 @@ eight_of : (a b c d e f g h : ℕ) → ((i : ℕ) → get_or (a ∷ b ∷ c ∷ 
 unfolding number_in
 eight_of a b c d e f g h small =
     let whole : ℕ = fold (λ n b. n * 256 + b) 0 (a ∷ b ∷ c ∷ d ∷ e ∷ f ∷ g ∷ h ∷ []) in
-    let below : whole < 2 ^ 128 = omega (arith, small 0, small 1, small 2, small 3, small 4, small 5, small 6, small 7) in
-    mod-eq_of_lt below ∙ (let same : whole ≡ from_be_bytes w64 (a ∷ b ∷ c ∷ d ∷ e ∷ f ∷ g ∷ h ∷ []) = omega arith in same)
+    let below : whole < 2 ^ 128 = omega (arith, small 0, small 1, small 2, small 3, small 4, small 5, small 6, small 7)
+    in
+    mod-eq_of_lt below ∙ (let same : whole ≡ from_be_bytes w64 (a ∷ b ∷ c ∷ d ∷ e ∷ f ∷ g ∷ h ∷ []) = omega arith in
+    same)
 
 pub eight : (bs : List ℕ) → ((i : ℕ) → get_or bs i 0 < 256) → length bs ≡ 8 → number_in bs ≡ from_be_bytes w64 bs
 eight [] small is = absurd cc
@@ -58,13 +60,34 @@ eight (a ∷ b ∷ c ∷ d ∷ e ∷ f ∷ g ∷ h ∷ i ∷ rest) small is = ab
 
 -- ---- of sixteen neither
 
-sixteen_of : (a b c d e f g h i j k l m n o p : ℕ) → ((x : ℕ) → get_or (a ∷ b ∷ c ∷ d ∷ e ∷ f ∷ g ∷ h ∷ i ∷ j ∷ k ∷ l ∷ m ∷ n ∷ o ∷ p ∷ []) x 0 < 256)
-    → number_in (a ∷ b ∷ c ∷ d ∷ e ∷ f ∷ g ∷ h ∷ i ∷ j ∷ k ∷ l ∷ m ∷ n ∷ o ∷ p ∷ []) ≡ from_be_bytes w128 (a ∷ b ∷ c ∷ d ∷ e ∷ f ∷ g ∷ h ∷ i ∷ j ∷ k ∷ l ∷ m ∷ n ∷ o ∷ p ∷ [])
+sixteen_of : (a b c d e f g h i j k l m n o p : ℕ)
+    → ((x : ℕ) → get_or (a ∷ b ∷ c ∷ d ∷ e ∷ f ∷ g ∷ h ∷ i ∷ j ∷ k ∷ l ∷ m ∷ n ∷ o ∷ p ∷ []) x 0 < 256)
+    → number_in (a ∷ b ∷ c ∷ d ∷ e ∷ f ∷ g ∷ h ∷ i ∷ j ∷ k ∷ l ∷ m ∷ n ∷ o ∷ p ∷ [])
+    ≡ from_be_bytes w128 (a ∷ b ∷ c ∷ d ∷ e ∷ f ∷ g ∷ h ∷ i ∷ j ∷ k ∷ l ∷ m ∷ n ∷ o ∷ p ∷ [])
 unfolding number_in
 sixteen_of a b c d e f g h i j k l m n o p small =
     let whole : ℕ = fold (λ n b. n * 256 + b) 0 (a ∷ b ∷ c ∷ d ∷ e ∷ f ∷ g ∷ h ∷ i ∷ j ∷ k ∷ l ∷ m ∷ n ∷ o ∷ p ∷ []) in
-    let below : whole < 2 ^ 128 = omega (arith, small 0, small 1, small 2, small 3, small 4, small 5, small 6, small 7, small 8, small 9, small 10, small 11, small 12, small 13, small 14, small 15) in
-    mod-eq_of_lt below ∙ (let same : whole ≡ from_be_bytes w128 (a ∷ b ∷ c ∷ d ∷ e ∷ f ∷ g ∷ h ∷ i ∷ j ∷ k ∷ l ∷ m ∷ n ∷ o ∷ p ∷ []) = omega arith in same)
+    let below : whole < 2 ^ 128 = omega (
+      arith,
+      small 0,
+      small 1,
+      small 2,
+      small 3,
+      small 4,
+      small 5,
+      small 6,
+      small 7,
+      small 8,
+      small 9,
+      small 10,
+      small 11,
+      small 12,
+      small 13,
+      small 14,
+      small 15,
+    ) in
+    mod-eq_of_lt below ∙ (let same : whole ≡ from_be_bytes w128
+    (a ∷ b ∷ c ∷ d ∷ e ∷ f ∷ g ∷ h ∷ i ∷ j ∷ k ∷ l ∷ m ∷ n ∷ o ∷ p ∷ []) = omega arith in same)
 
 pub sixteen : (bs : List ℕ) → ((i : ℕ) → get_or bs i 0 < 256) → length bs ≡ 16 → number_in bs ≡ from_be_bytes w128 bs
 sixteen ([]) small is = absurd (omega (arith, is))
@@ -83,5 +106,6 @@ sixteen (a ∷ b ∷ c ∷ d ∷ e ∷ f ∷ g ∷ h ∷ i ∷ j ∷ k ∷ l ∷
 sixteen (a ∷ b ∷ c ∷ d ∷ e ∷ f ∷ g ∷ h ∷ i ∷ j ∷ k ∷ l ∷ m ∷ []) small is = absurd (omega (arith, is))
 sixteen (a ∷ b ∷ c ∷ d ∷ e ∷ f ∷ g ∷ h ∷ i ∷ j ∷ k ∷ l ∷ m ∷ n ∷ []) small is = absurd (omega (arith, is))
 sixteen (a ∷ b ∷ c ∷ d ∷ e ∷ f ∷ g ∷ h ∷ i ∷ j ∷ k ∷ l ∷ m ∷ n ∷ o ∷ []) small is = absurd (omega (arith, is))
-sixteen (a ∷ b ∷ c ∷ d ∷ e ∷ f ∷ g ∷ h ∷ i ∷ j ∷ k ∷ l ∷ m ∷ n ∷ o ∷ p ∷ []) small is = sixteen_of a b c d e f g h i j k l m n o p small
+sixteen (a ∷ b ∷ c ∷ d ∷ e ∷ f ∷ g ∷ h ∷ i ∷ j ∷ k ∷ l ∷ m ∷ n ∷ o ∷ p ∷ []) small is =
+    sixteen_of a b c d e f g h i j k l m n o p small
 sixteen (a ∷ b ∷ c ∷ d ∷ e ∷ f ∷ g ∷ h ∷ i ∷ j ∷ k ∷ l ∷ m ∷ n ∷ o ∷ p ∷ q ∷ rest) small is = absurd (omega (arith, is))

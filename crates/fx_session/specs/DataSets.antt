@@ -7,7 +7,8 @@ use Rattle.fx_session.specs.Flows.{flow_in}
 use Rattle.fx_session.specs.declared.stream_fault.StreamFault.{StreamFault}
 use Rattle.fx_session.specs.declared.stream_fault.StreamFault.TheVariants as faults
 
--- what was read so far: the waiting records, the number of skipped records, and the number of data records in the message
+-- what was read so far: the waiting records, the number of skipped records, and the number of data records in the
+-- message
 pub record Taken : Type 0 where
   pub waiting : List Record
   pub skipped : ℕ
@@ -29,7 +30,8 @@ after_values t None = Err faults.CutRecord
 abbrev pub flow_record : List FieldSpecifier → Taken → List ℕ → Result (Taken × List ℕ) StreamFault
 flow_record fields t octets = after_values t (record_at fields octets)
 
--- The records in order; fewer octets than the shortest record are padding. Each record has octets, so their number bounds the turns.
+-- The records in order; fewer octets than the shortest record are padding. Each record has octets, so their number
+-- bounds the turns.
 unfoldable pub flow_records : ℕ → List FieldSpecifier → Taken → List ℕ → Result Taken StreamFault
 flow_records zero fields t octets = Ok t
 flow_records (suc turns) fields t octets =
@@ -45,7 +47,8 @@ option_records zero fields t octets = Ok t
 option_records (suc turns) fields t octets =
     if nat_lt (length octets) (shortest_record fields) then Ok t
     else elim (after_record fields octets) [
-      | Some rest ↦ option_records turns fields (record { waiting = t.waiting; skipped = t.skipped; count = (t.count + 1) % 2 ^ 32 }) rest
+      | Some rest ↦ option_records turns fields
+          (record { waiting = t.waiting; skipped = t.skipped; count = (t.count + 1) % 2 ^ 32 }) rest
       | None ↦ Err faults.CutRecord
     ]
 

@@ -51,9 +51,12 @@ is_packets _ = false
 abbrev pub Found : Type 0
 Found = Option Leading
 
--- a prefix without its length is ignored, a prefix of length 0 says nothing, and a prefix longer than the address is refused
+-- a prefix without its length is ignored, a prefix of length 0 says nothing, and a prefix longer than the address is
+-- refused
 abbrev pub prefix_part : Axis → Option ℕ → Option ℕ → Result Found StreamFault
-prefix_part axis (Some value) (Some bits) = if bits == 0 then Ok None else if nat_lt (axis_width axis) bits then Err faults.PrefixLength else Ok (Some (record { bits = bits; value = value }))
+prefix_part axis (Some value) (Some bits) =
+    if bits == 0 then Ok None else if nat_lt (axis_width axis) bits then Err faults.PrefixLength else Ok
+    (Some (record { bits = bits; value = value }))
 prefix_part axis _ _ = Ok None
 
 -- a value takes precedence over a prefix, which only addresses have
@@ -62,7 +65,8 @@ part_on axis (Some value) prefix bits = Ok (Some (record { bits = axis_width axi
 part_on axis None prefix bits = if is_address axis then prefix_part axis prefix bits else Ok None
 
 abbrev pub found_in : List Value → Axis → Result Found StreamFault
-found_in values axis = part_on axis (first_where (is_value axis) values) (first_where (is_prefix axis) values) (first_where (is_prefix_length axis) values)
+found_in values axis = part_on axis (first_where (is_value axis) values) (first_where (is_prefix axis) values)
+    (first_where (is_prefix_length axis) values)
 
 abbrev pub part_of : Axis → Found → Layout
 part_of axis (Some p) = record { axis = axis; bits = p.bits } ∷ []
@@ -94,12 +98,14 @@ is_refused (Err fault) = true
 -- the key of what is known on the axes, if no axis is refused
 abbrev pub key_by : (Axis → Result Found StreamFault) → Result Key StreamFault
 key_by found =
-    if list_any (λ axis. is_refused (found axis)) axes then Err faults.PrefixLength else Ok (key_along (λ axis. found_or_none (found axis)))
+    if list_any (λ axis. is_refused (found axis)) axes then Err faults.PrefixLength else Ok
+    (key_along (λ axis. found_or_none (found axis)))
 
 -- ---- records
 
 abbrev pub with_counts : ℕ → ℕ → Result Key StreamFault → Result (Option Record) StreamFault
-with_counts octets packets (Ok key) = Ok (Some (record { key = key; counts = record { packets = packets % 2 ^ 64; octets = octets % 2 ^ 64 } }))
+with_counts octets packets (Ok key) = Ok
+    (Some (record { key = key; counts = record { packets = packets % 2 ^ 64; octets = octets % 2 ^ 64 } }))
 with_counts octets packets (Err fault) = Err fault
 
 abbrev pub flow_by : Option ℕ → Option ℕ → Result Key StreamFault → Result (Option Record) StreamFault

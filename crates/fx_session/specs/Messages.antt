@@ -35,7 +35,8 @@ unfoldable pub set_read : Reading → SetParts → Result Reading StreamFault
 set_read r set =
     if set.id == 2 then with_templates r.taken (template_set r.templates kinds.Plain set.content)
     else if set.id == 3 then with_templates r.taken (template_set r.templates kinds.Options set.content)
-    else with_taken r.templates (data_by (at_number r.templates.plain set.id) (at_number r.templates.options set.id) r.taken set.content)
+    else with_taken r.templates (data_by (at_number r.templates.plain set.id) (at_number r.templates.options set.id)
+    r.taken set.content)
 
 unfoldable pub sets_read : Reading → List SetParts → Result Reading StreamFault
 sets_read r [] = Ok r
@@ -51,7 +52,8 @@ abbrev pub domain_of : Option Domain → Domain
 domain_of (Some domain) = domain
 domain_of None = new_domain
 
--- what a session knows: its observation domains by number, the waiting records, and the numbers of gaps and of skipped records
+-- what a session knows: its observation domains by number, the waiting records, and the numbers of gaps and of skipped
+-- records
 pub record Known : Type 0 where
   pub domains : List (ℕ × Domain)
   pub waiting : List Record
@@ -69,7 +71,8 @@ with_domain domains number domain = with_entry (without_entry domains number) nu
 
 abbrev pub known_after : Known → Message → Domain → Result Reading StreamFault → Result Known StreamFault
 known_after k m domain (Ok r) = Ok (record {
-  domains = with_domain k.domains m.header.observation_domain (record { templates = r.templates; next = Some ((m.header.sequence_number + r.taken.count) % 2 ^ 32) });
+  domains = with_domain k.domains m.header.observation_domain
+      (record { templates = r.templates; next = Some ((m.header.sequence_number + r.taken.count) % 2 ^ 32) });
   waiting = r.taken.waiting;
   gaps = gaps_after k.gaps domain.next m.header.sequence_number;
   skipped = r.taken.skipped;
@@ -78,7 +81,12 @@ known_after k m domain (Err fault) = Err fault
 
 -- the sets are read under the templates of an observation domain
 abbrev pub read_under : Known → Message → Domain → Result Known StreamFault
-read_under k m domain = known_after k m domain (sets_read (record { templates = domain.templates; taken = record { waiting = k.waiting; skipped = k.skipped; count = 0 } }) m.sets)
+read_under k m domain = known_after k m domain
+    (sets_read (record {
+      templates = domain.templates;
+      taken =
+          record { waiting = k.waiting; skipped = k.skipped; count = 0 };
+    }) m.sets)
 
 -- The sets are read under the templates of the message's observation domain. The first fault refuses the message.
 unfoldable pub message_read : Known → Message → Result Known StreamFault

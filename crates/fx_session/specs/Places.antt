@@ -28,18 +28,21 @@ is_any_prefix _ = false
 abbrev pub have_fixed_lengths : List FieldSpecifier → Bool
 have_fixed_lengths fields = list_all (λ f. not (f.field_length == 65535)) fields
 
--- the place of the first field whose element satisfies the predicate, if the first field begins at this octet of a record
+-- the place of the first field whose element satisfies the predicate, if the first field begins at this octet of a
+-- record
 abbrev pub place_where : (Element → Bool) → ℕ → List FieldSpecifier → Option ValuePlace
 place_where is at [] = None
 place_where is at (f ∷ fs) =
-    if is (element_of f) then Some (record { start = at; end = at + f.field_length }) else place_where is (at + f.field_length) fs
+    if is (element_of f) then Some (record { start = at; end = at + f.field_length }) else place_where is
+    (at + f.field_length) fs
 
 abbrev pub octets_of_place : ValuePlace → List ℕ → List ℕ
 octets_of_place place octets = slice_range octets place.start place.end
 
 -- what the octets of a record say about an axis
 abbrev pub found_at : List ℕ → Axis → Option ValuePlace → Found
-found_at octets axis (Some place) = Some (record { bits = axis_width axis; value = number_in (octets_of_place place octets) })
+found_at octets axis (Some place) = Some (record
+    { bits = axis_width axis; value = number_in (octets_of_place place octets) })
 found_at octets axis None = None
 
 abbrev pub place_on : RecordPlaces → Axis → Option ValuePlace

@@ -36,11 +36,14 @@ abbrev pub followed_by : List ℕ → Result Templates StreamFault → Result (T
 followed_by octets (Ok ts) = Ok (ts, octets)
 followed_by octets (Err fault) = Err fault
 
-abbrev pub with_fields : Templates → TemplateKind → ℕ → ℕ → Result (List FieldSpecifier × List ℕ) Malformed → Result (Templates × List ℕ) StreamFault
-with_fields ts kind id scope (Ok p) = if narrow_in kind p.0 then Err faults.CounterLength else followed_by p.1 (after_declaration ts kind id (record { scope = scope; fields = p.0 }))
+abbrev pub with_fields : Templates → TemplateKind → ℕ → ℕ → Result (List FieldSpecifier × List ℕ) Malformed
+    → Result (Templates × List ℕ) StreamFault
+with_fields ts kind id scope (Ok p) = if narrow_in kind p.0 then Err faults.CounterLength else followed_by p.1
+    (after_declaration ts kind id (record { scope = scope; fields = p.0 }))
 with_fields ts kind id scope (Err why) = Err (faults.Malformed why)
 
-abbrev pub with_heading : Templates → TemplateKind → Result (TemplateHeading × List ℕ) Malformed → Result (Templates × List ℕ) StreamFault
+abbrev pub with_heading : Templates → TemplateKind → Result (TemplateHeading × List ℕ) Malformed
+    → Result (Templates × List ℕ) StreamFault
 with_heading ts kind (Ok p) = elim p.0 [
   | Withdrawal id ↦ Ok (after_withdrawal ts id, p.1)
   | WithdrawalOfAll ↦ Ok (after_withdrawal_of_all ts kind, p.1)
@@ -48,11 +51,13 @@ with_heading ts kind (Ok p) = elim p.0 [
 ]
 with_heading ts kind (Err why) = Err (faults.Malformed why)
 
--- the templates after the template record at the front, and the octets after it: refusal 614 takes precedence over 618, and 618 over 616
+-- the templates after the template record at the front, and the octets after it: refusal 614 takes precedence over 618,
+-- and 618 over 616
 unfoldable pub template_record : Templates → TemplateKind → List ℕ → Result (Templates × List ℕ) StreamFault
 template_record ts kind octets = with_heading ts kind (heading_at kind octets)
 
--- The records in order; fewer than four octets are padding (section 3.3.1). Each record has octets, so their number bounds the turns.
+-- The records in order; fewer than four octets are padding (section 3.3.1). Each record has octets, so their number
+-- bounds the turns.
 unfoldable pub template_records : ℕ → Templates → TemplateKind → List ℕ → Result Templates StreamFault
 template_records zero ts kind octets = Ok ts
 template_records (suc turns) ts kind octets =

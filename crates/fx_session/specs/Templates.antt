@@ -1,4 +1,5 @@
--- The templates of an observation domain (RFC 7011, section 8: an id has a meaning only in its session and observation domain).
+-- The templates of an observation domain (RFC 7011, section 8: an id has a meaning only in its session and observation
+-- domain).
 use Rattle.std.specs.Prelude.{ℕ, Bool, true, false, ◌&&◌, ◌==◌, if◌then◌else◌, is_some, List, [], ◌∷◌, Option, Some, None, Result, Ok, Err}
 use Rattle.std.specs.Map.{lookup, remove_entry}
 use Rattle.std.specs.BTreeMap.{insert_entry, is_at}
@@ -56,7 +57,8 @@ no_templates = record { plain = []; options = [] }
 -- ---- changes (section 8.1)
 
 -- a live template may only be declared again unchanged; a new one may not use an id that the other kind has
-abbrev pub in_table : Option Template → Bool → List (ℕ × Template) → ℕ → Template → Result (List (ℕ × Template)) StreamFault
+abbrev pub in_table : Option Template → Bool → List (ℕ × Template) → ℕ → Template
+    → Result (List (ℕ × Template)) StreamFault
 in_table (Some old) other table id new = if same_template old new then Ok table else Err faults.TemplateIdInUse
 in_table None other table id new = if other then Err faults.TemplateIdInUse else Ok (with_entry table id new)
 
@@ -69,8 +71,10 @@ with_options ts (Ok table) = Ok (record { plain = ts.plain; options = table })
 with_options ts (Err fault) = Err fault
 
 abbrev pub after_declaration : Templates → TemplateKind → ℕ → Template → Result Templates StreamFault
-after_declaration ts kinds.Plain id new = with_plain ts (in_table (at_number ts.plain id) (is_some (at_number ts.options id)) ts.plain id new)
-after_declaration ts kinds.Options id new = with_options ts (in_table (at_number ts.options id) (is_some (at_number ts.plain id)) ts.options id new)
+after_declaration ts kinds.Plain id new =
+    with_plain ts (in_table (at_number ts.plain id) (is_some (at_number ts.options id)) ts.plain id new)
+after_declaration ts kinds.Options id new =
+    with_options ts (in_table (at_number ts.options id) (is_some (at_number ts.plain id)) ts.options id new)
 
 -- withdrawing an id that has no template changes nothing
 abbrev pub after_withdrawal : Templates → ℕ → Templates

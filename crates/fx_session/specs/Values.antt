@@ -15,7 +15,8 @@ Values = List Value
 -- the number noted for an axis, if there is one
 abbrev pub number_on : Numbers → Axis → Option ℕ
 number_on numbers axis =
-    if slice_index_or numbers.noted (axis_index axis) false then Some (slice_index numbers.values (axis_index axis)) else None
+    if slice_index_or numbers.noted (axis_index axis) false then Some (slice_index numbers.values (axis_index axis))
+    else None
 
 -- a number is noted for its own axis, if none is noted yet, and for no other axis
 abbrev pub first_on : Numbers → Axis → ℕ → Axis → Option ℕ
@@ -32,4 +33,5 @@ pub record Notes (seen : FieldNumbers) (values : Values) : Type 0 where
 
 -- what is noted of an axis
 abbrev pub noted_part : FieldNumbers → Axis → Result Found StreamFault
-noted_part seen axis = part_on axis (number_on seen.numbers axis) (number_on seen.prefixes axis) (number_on seen.lengths axis)
+noted_part seen axis = part_on axis (number_on seen.numbers axis) (number_on seen.prefixes axis)
+    (number_on seen.lengths axis)

@@ -26,11 +26,13 @@ module _ (v : Fate × Fate → ℕ) where
       omega arith
   least_of g h (p ∷ ps) (inr i) = let k = least_of g h ps i in omega arith
 
-  pub least_at : (ps : List (Fate × Fate)) → least_number (map v ps) ≤ step_limit → (g : Fate) × (h : Fate) × Among g h ps × (v (g, h) ≡ least_number (map v ps))
+  pub least_at : (ps : List (Fate × Fate)) → least_number (map v ps) ≤ step_limit → (g : Fate) × (h : Fate)
+      × Among g h ps × (v (g, h) ≡ least_number (map v ps))
   least_at [] le = absurd (omega arith)
   least_at (p ∷ ps) le =
       elim (smaller (least_number (map v ps)) (v p)) [
-        | inl e ↦ let k = least_at ps (let d : least_number (map v ps) ≤ step_limit = omega arith in d) in (k.0, k.1, inr k.2, k.3 ∙ sym e)
+        | inl e ↦ let k = least_at ps (let d : least_number (map v ps) ≤ step_limit = omega arith in d) in
+            (k.0, k.1, inr k.2, k.3 ∙ sym e)
         | inr e ↦ (p.0, p.1, inl (refl, refl), sym e)
       ]
 
@@ -66,7 +68,8 @@ pairs_are Many = (refl, (refl, (refl, (refl, (refl, (refl, tt))))))
 pairs_are Unassigned = (refl, (refl, (refl, (refl, (refl, (refl, (refl, tt)))))))
 pairs_are Differing = tt
 
-among_all : (P : Fate × Fate → Type 0) (g h : Fate) (ps : List (Fate × Fate)) → Among g h ps → AllByRecursion P ps → P (g, h)
+among_all : (P : Fate × Fate → Type 0) (g h : Fate) (ps : List (Fate × Fate)) → Among g h ps → AllByRecursion P ps
+    → P (g, h)
 among_all P g h [] i all = absurd i
 among_all P g h (p ∷ ps) (inl (a, b)) all = subst (λ (x : Fate). P (x, h)) a (subst (λ (y : Fate). P (p.0, y)) b all.0)
 among_all P g h (p ∷ ps) (inr i) all = among_all P g h ps i all.1
@@ -110,7 +113,8 @@ module _ (A B C : Fate → ℕ → Type 0) where
     pub fate : f ≡ both first second
     pub steps : n ≡ here + there
 
-  pub both_tells : (a b : Costs) → Tells a A → Tells b B → ((f : Fate) (n : ℕ) → C f n → Both f n) → ((f g : Fate) (m n : ℕ) → A f m → B g n → C (both f g) (m + n)) → Tells (both_costs a b) C
+  pub both_tells : (a b : Costs) → Tells a A → Tells b B → ((f : Fate) (n : ℕ) → C f n → Both f n)
+      → ((f g : Fate) (m n : ℕ) → A f m → B g n → C (both f g) (m + n)) → Tells (both_costs a b) C
   both_tells a b ta tb to from = record { least = least'; reached = reached'; settled = settled' }
     where
       no_first : (f : Fate) (n : ℕ) → A f n → f ≡ Differing → ⊥
@@ -122,9 +126,12 @@ module _ (A B C : Fate → ℕ → Type 0) where
       least' : (f : Fate) (n : ℕ) → C f n → cost_of (both_costs a b) f ≤ n
       least' f n c =
           let x = to f n c in
-          let i = subst (λ (g : Fate). Among x.first x.second (pairs g)) (sym x.fate) (settled_pair x.first x.second (no_first x.first x.here x.one) (no_second x.second x.there x.other)) in
+          let i = subst (λ (g : Fate). Among x.first x.second (pairs g)) (sym x.fate)
+          (settled_pair x.first x.second (no_first x.first x.here x.one) (no_second x.second x.there x.other)) in
           let e = cost_both a b f in
-          let l : both_cost a b f ≤ limited_sum (cost_of a x.first) (cost_of b x.second) = least_of (λ (p : Fate × Fate). limited_sum (cost_of a p.0) (cost_of b p.1)) x.first x.second (pairs f) i in
+          let l : both_cost a b f ≤ limited_sum (cost_of a x.first) (cost_of b x.second) =
+          least_of (λ (p : Fate × Fate). limited_sum (cost_of a p.0) (cost_of b p.1)) x.first x.second (pairs f) i
+          in
           let s = x.steps in
           let p = ta.least x.first x.here x.one in
           let q = tb.least x.second x.there x.other in
@@ -133,43 +140,55 @@ module _ (A B C : Fate → ℕ → Type 0) where
       reached' : (f : Fate) → cost_of (both_costs a b) f ≤ step_limit → C f (cost_of (both_costs a b) f)
       reached' f le =
           let e = cost_both a b f in
-          let k = least_at (λ (p : Fate × Fate). limited_sum (cost_of a p.0) (cost_of b p.1)) (pairs f) (let d : both_cost a b f ≤ step_limit = omega arith in d) in
+          let k = least_at (λ (p : Fate × Fate). limited_sum (cost_of a p.0) (cost_of b p.1)) (pairs f)
+          (let d : both_cost a b f ≤ step_limit = omega arith in d) in
           let sum : limited_sum (cost_of a k.0) (cost_of b k.1) ≡ both_cost a b f = k.3 in
           let one = ta.reached k.0 (let d : cost_of a k.0 ≤ step_limit = omega arith in d) in
           let other = tb.reached k.1 (let d : cost_of b k.1 ≤ step_limit = omega arith in d) in
           let n : cost_of a k.0 + cost_of b k.1 ≡ cost_of (both_costs a b) f = omega arith in
-          subst (λ (g : Fate). C g (cost_of (both_costs a b) f)) (pair_is f k.0 k.1 k.2) (subst (λ (m : ℕ). C (both k.0 k.1) m) n (from k.0 k.1 (cost_of a k.0) (cost_of b k.1) one other))
+          subst (λ (g : Fate). C g (cost_of (both_costs a b) f)) (pair_is f k.0 k.1 k.2)
+          (subst (λ (m : ℕ). C (both k.0 k.1) m) n (from k.0 k.1 (cost_of a k.0) (cost_of b k.1) one other))
 
       settled' : (n : ℕ) → C Differing n → ⊥
       settled' n c =
           let x = to Differing n c in
-          subst (λ (g : Fate). Among x.first x.second (pairs g)) (sym x.fate) (settled_pair x.first x.second (no_first x.first x.here x.one) (no_second x.second x.there x.other))
+          subst (λ (g : Fate). Among x.first x.second (pairs g)) (sym x.fate)
+          (settled_pair x.first x.second (no_first x.first x.here x.one) (no_second x.second x.there x.other))
 
-  pub either_tells : (a b : Costs) → Tells a A → Tells b B → ((f : Fate) (n : ℕ) → C f n → A f n ⊎ B f n) → ((f : Fate) (n : ℕ) → A f n → C f n) → ((f : Fate) (n : ℕ) → B f n → C f n) → Tells (either_costs a b) C
+  pub either_tells : (a b : Costs) → Tells a A → Tells b B → ((f : Fate) (n : ℕ) → C f n → A f n ⊎ B f n)
+      → ((f : Fate) (n : ℕ) → A f n → C f n) → ((f : Fate) (n : ℕ) → B f n → C f n) → Tells (either_costs a b) C
   either_tells a b ta tb to one other = record {
     least = λ f n c. let e = cost_either a b f in elim (to f n c) [
       | inl x ↦ let k = ta.least f n x in omega arith
       | inr x ↦ let k = tb.least f n x in omega arith
     ];
     reached = λ f le. let e = cost_either a b f in elim (smaller (cost_of a f) (cost_of b f)) [
-      | inl d ↦ let n : cost_of a f ≡ cost_of (either_costs a b) f = omega arith in subst (λ (m : ℕ). C f m) n (one f (cost_of a f) (ta.reached f (let k : cost_of a f ≤ step_limit = omega arith in k)))
-      | inr d ↦ let n : cost_of b f ≡ cost_of (either_costs a b) f = omega arith in subst (λ (m : ℕ). C f m) n (other f (cost_of b f) (tb.reached f (let k : cost_of b f ≤ step_limit = omega arith in k)))
+      | inl d ↦ let n : cost_of a f ≡ cost_of (either_costs a b) f = omega arith in
+          subst (λ (m : ℕ). C f m) n (one f (cost_of a f)
+          (ta.reached f (let k : cost_of a f ≤ step_limit = omega arith in k)))
+      | inr d ↦ let n : cost_of b f ≡ cost_of (either_costs a b) f = omega arith in
+          subst (λ (m : ℕ). C f m) n (other f (cost_of b f)
+          (tb.reached f (let k : cost_of b f ≤ step_limit = omega arith in k)))
     ];
     settled = λ n c. elim (to Differing n c) [ inl x ↦ ta.settled n x | inr x ↦ tb.settled n x ];
   }
 
 module _ (A C : Fate → ℕ → Type 0) where
-  pub next_tells : (a : Costs) → Tells a A → ((f : Fate) (n : ℕ) → C f n → (m : ℕ) × A f m × (n ≡ suc m)) → ((f : Fate) (n : ℕ) → A f n → C f (suc n)) → Tells (one_step_more a) C
+  pub next_tells : (a : Costs) → Tells a A → ((f : Fate) (n : ℕ) → C f n → (m : ℕ) × A f m × (n ≡ suc m))
+      → ((f : Fate) (n : ℕ) → A f n → C f (suc n)) → Tells (one_step_more a) C
   next_tells a ta to from = record {
-    least = λ f n c. let x = to f n c in let e = cost_next a f in let k = ta.least f x.0 x.1 in let s = x.2 in omega arith;
+    least = λ f n c. let x = to f n c in let e = cost_next a f in let k = ta.least f x.0 x.1 in let s = x.2 in
+        omega arith;
     reached = λ f le.
         let e = cost_next a f in
         let n : suc (cost_of a f) ≡ cost_of (one_step_more a) f = omega arith in
-        subst (λ (m : ℕ). C f m) n (from f (cost_of a f) (ta.reached f (let k : cost_of a f ≤ step_limit = omega arith in k)));
+        subst (λ (m : ℕ). C f m) n (from f (cost_of a f)
+        (ta.reached f (let k : cost_of a f ≤ step_limit = omega arith in k)));
     settled = λ n c. let x = to Differing n c in ta.settled x.0 x.1;
   }
 
-  pub same_tells : (a : Costs) → Tells a A → ((f : Fate) (n : ℕ) → C f n → A f n) → ((f : Fate) (n : ℕ) → A f n → C f n) → Tells a C
+  pub same_tells : (a : Costs) → Tells a A → ((f : Fate) (n : ℕ) → C f n → A f n) → ((f : Fate) (n : ℕ) → A f n → C f n)
+      → Tells a C
   same_tells a ta to from = record {
     least = λ f n c. ta.least f n (to f n c);
     reached = λ f le. from f (cost_of a f) (ta.reached f le);

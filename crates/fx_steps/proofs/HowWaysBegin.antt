@@ -24,27 +24,33 @@ module _ (net : Net) where
   pub of_nothing : {f : Fate} {n : ℕ} → Comes net (acts []) f n → (f ≡ Never) × (n ≡ 0)
   of_nothing Comes.no_act = (refl, refl)
 
-  pub of_next : {a : Act} {as' : List Act} {f : Fate} {n : ℕ} → Comes net (acts (a ∷ as')) f n → Both (Of (one a)) (Of (acts as')) (Of (acts (a ∷ as'))) f n
-  of_next (Comes.next_act a as' f g m n d e) = record { first = f; second = g; here = m; there = n; one = d; other = e; fate = refl; steps = refl }
+  pub of_next : {a : Act} {as' : List Act} {f : Fate} {n : ℕ} → Comes net (acts (a ∷ as')) f n
+      → Both (Of (one a)) (Of (acts as')) (Of (acts (a ∷ as'))) f n
+  of_next (Comes.next_act a as' f g m n d e) =
+      record { first = f; second = g; here = m; there = n; one = d; other = e; fate = refl; steps = refl }
 
   pub of_tally : {key : Key} {f : Fate} {n : ℕ} → Comes net (one (Tally key)) f n → (f ≡ tally_fate net key) × (n ≡ 0)
   of_tally (Comes.tally key) = (refl, refl)
 
-  pub of_hold : {holder : ℕ} {key : Key} {f : Fate} {n : ℕ} → Comes net (one (Hold holder key)) f n → (m : ℕ) × Comes net (acts (acts_of_leaving net holder key)) f m × (n ≡ suc m)
+  pub of_hold : {holder : ℕ} {key : Key} {f : Fate} {n : ℕ} → Comes net (one (Hold holder key)) f n → (m : ℕ)
+      × Comes net (acts (acts_of_leaving net holder key)) f m × (n ≡ suc m)
   of_hold (Comes.hold holder key f n is d) = (n, d, refl)
 
   -- by one of the destinations
   abbrev pub Any : Key → List (Option ℕ) → Fate → ℕ → Type 0
   Any key ds f n = (number : ℕ) × (d : Option ℕ) × (entry_numbered ds number ≡ Some d) × Comes net (to key (d ∷ [])) f n
 
-  pub of_send : {e : Exporter} {key : Key} {f : Fate} {n : ℕ} → Comes net (one (Send e key)) f n → ((e.parallel ≡ true) × Comes net (to key e.destinations) f n) ⊎ ((e.parallel ≡ false) × Any key e.destinations f n)
+  pub of_send : {e : Exporter} {key : Key} {f : Fate} {n : ℕ} → Comes net (one (Send e key)) f n
+      → ((e.parallel ≡ true) × Comes net (to key e.destinations) f n)
+      ⊎ ((e.parallel ≡ false) × Any key e.destinations f n)
   of_send (Comes.to_all e key f n h d) = inl (h, d)
   of_send (Comes.to_any e key number d f n h at c) = inr (h, (number, d, at, c))
 
   pub of_none : {key : Key} {f : Fate} {n : ℕ} → Comes net (to key []) f n → (f ≡ Never) × (n ≡ 0)
   of_none (Comes.no_destination key) = (refl, refl)
 
-  pub of_outside : {key : Key} {ds : List (Option ℕ)} {f : Fate} {n : ℕ} → Comes net (to key (None ∷ ds)) f n → Comes net (to key ds) f n
+  pub of_outside : {key : Key} {ds : List (Option ℕ)} {f : Fate} {n : ℕ} → Comes net (to key (None ∷ ds)) f n
+      → Comes net (to key ds) f n
   of_outside (Comes.to_outside key ds f n d) = d
 
   pub record Linked (key : Key) (link : ℕ) (ds : List (Option ℕ)) (f : Fate) (n : ℕ) : Type 0 where
@@ -57,11 +63,14 @@ module _ (net : Net) where
     pub fate : f ≡ both first second
     pub steps : n ≡ suc here + there
 
-  pub of_link : {key : Key} {link : ℕ} {ds : List (Option ℕ)} {f : Fate} {n : ℕ} → Comes net (to key (Some link ∷ ds)) f n → Linked key link ds f n
-  of_link (Comes.to_link key link ds f g m n lt d e) = record { first = f; second = g; here = m; there = n; on = d; others = e; fate = refl; steps = refl }
+  pub of_link : {key : Key} {link : ℕ} {ds : List (Option ℕ)} {f : Fate} {n : ℕ}
+      → Comes net (to key (Some link ∷ ds)) f n → Linked key link ds f n
+  of_link (Comes.to_link key link ds f g m n lt d e) =
+      record { first = f; second = g; here = m; there = n; on = d; others = e; fate = refl; steps = refl }
 
   -- to one link alone
-  pub of_one_link : {key : Key} {link : ℕ} {f : Fate} {n : ℕ} → Comes net (to key (Some link ∷ [])) f n → (m : ℕ) × Comes net (acts (acts_of_arrival net key (slice_get net.links link))) f m × (n ≡ suc m)
+  pub of_one_link : {key : Key} {link : ℕ} {f : Fate} {n : ℕ} → Comes net (to key (Some link ∷ [])) f n → (m : ℕ)
+      × Comes net (acts (acts_of_arrival net key (slice_get net.links link))) f m × (n ≡ suc m)
   of_one_link {key} {link} {f} {n} c =
       let l = of_link c in
       let none = of_none l.others in
@@ -70,14 +79,18 @@ module _ (net : Net) where
       let z = none.1 in
       (l.here, way_is l.first f l.here l.here fate refl l.on, omega arith)
 
-  pub to_one_link : (key : Key) (link : ℕ) (f : Fate) (m : ℕ) → link < length net.links → Comes net (acts (acts_of_arrival net key (slice_get net.links link))) f m → Comes net (to key (Some link ∷ [])) f (suc m)
+  pub to_one_link : (key : Key) (link : ℕ) (f : Fate) (m : ℕ) → link < length net.links
+      → Comes net (acts (acts_of_arrival net key (slice_get net.links link))) f m
+      → Comes net (to key (Some link ∷ [])) f (suc m)
   to_one_link key link f m lt d =
       let n : suc m + 0 ≡ suc m = omega arith in
-      way_is (both f Never) f (suc m + 0) (suc m) (both_never f) n (Comes.to_link key link [] f Never m 0 lt d (Comes.no_destination key))
+      way_is (both f Never) f (suc m + 0) (suc m) (both_never f) n
+      (Comes.to_link key link [] f Never m 0 lt d (Comes.no_destination key))
 
   -- ---- lists of acts, one behind the other
 
-  pub joined : (xs ys : List Act) (f g : Fate) (m n : ℕ) → Comes net (acts xs) f m → Comes net (acts ys) g n → Comes net (acts (xs ++ ys)) (both f g) (m + n)
+  pub joined : (xs ys : List Act) (f g : Fate) (m n : ℕ) → Comes net (acts xs) f m → Comes net (acts ys) g n
+      → Comes net (acts (xs ++ ys)) (both f g) (m + n)
   joined [] ys f g m n c d =
       let none = of_nothing c in
       let fate : g ≡ both f g = sym (ap (λ (x : Fate). both x g) none.0 ∙ never_both g) in
@@ -87,13 +100,26 @@ module _ (net : Net) where
   joined (x ∷ xs) ys f g m n c d =
       let b = of_next c in
       let rest = joined xs ys b.second g b.there n b.other d in
-      let fate : both b.first (both b.second g) ≡ both f g = sym (both_assoc b.first b.second g) ∙ ap (λ (y : Fate). both y g) (sym b.fate) in
+      let fate : both b.first (both b.second g) ≡ both f g = sym (both_assoc b.first b.second g)
+      ∙ ap (λ (y : Fate). both y g) (sym b.fate) in
       let s = b.steps in
       let steps : b.here + (b.there + n) ≡ m + n = omega arith in
-      way_is (both b.first (both b.second g)) (both f g) (b.here + (b.there + n)) (m + n) fate steps (Comes.next_act x (xs ++ ys) b.first (both b.second g) b.here (b.there + n) b.one rest)
+      way_is (both b.first (both b.second g)) (both f g) (b.here + (b.there + n)) (m + n) fate steps
+      (Comes.next_act x (xs ++ ys) b.first (both b.second g) b.here (b.there + n) b.one rest)
 
-  pub parted : (xs ys : List Act) (f : Fate) (n : ℕ) → Comes net (acts (xs ++ ys)) f n → Both (Of (acts xs)) (Of (acts ys)) (Of (acts (xs ++ ys))) f n
-  parted [] ys f n c = record { first = Never; second = f; here = 0; there = n; one = Comes.no_act; other = c; fate = sym (never_both f); steps = omega arith }
+  pub parted : (xs ys : List Act) (f : Fate) (n : ℕ) → Comes net (acts (xs ++ ys)) f n
+      → Both (Of (acts xs)) (Of (acts ys)) (Of (acts (xs ++ ys))) f n
+  parted [] ys f n c = record {
+    first = Never;
+    second = f;
+    here = 0;
+    there = n;
+    one = Comes.no_act;
+    other = c;
+    fate =
+        sym (never_both f);
+    steps = omega arith;
+  }
   parted (x ∷ xs) ys f n c =
       let b = of_next c in
       let rest = parted xs ys b.second b.there b.other in
@@ -110,10 +136,14 @@ module _ (net : Net) where
         steps = omega arith;
       }
 
-  pub append_tells : (xs ys : List Act) (a b : Costs) → Tells a (Of (acts xs)) → Tells b (Of (acts ys)) → Tells (both_costs a b) (Of (acts (xs ++ ys)))
+  pub append_tells : (xs ys : List Act) (a b : Costs) → Tells a (Of (acts xs)) → Tells b (Of (acts ys))
+      → Tells (both_costs a b) (Of (acts (xs ++ ys)))
   append_tells xs ys a b ta tb =
-      both_tells (Of (acts xs)) (Of (acts ys)) (Of (acts (xs ++ ys))) a b ta tb (λ f n c. parted xs ys f n c) (λ f g m n c d. joined xs ys f g m n c d)
+      both_tells (Of (acts xs)) (Of (acts ys)) (Of (acts (xs ++ ys))) a b ta tb (λ f n c. parted xs ys f n c)
+      (λ f g m n c d. joined xs ys f g m n c d)
 
-  pub next_tells_acts : (x : Act) (xs : List Act) (a b : Costs) → Tells a (Of (one x)) → Tells b (Of (acts xs)) → Tells (both_costs a b) (Of (acts (x ∷ xs)))
+  pub next_tells_acts : (x : Act) (xs : List Act) (a b : Costs) → Tells a (Of (one x)) → Tells b (Of (acts xs))
+      → Tells (both_costs a b) (Of (acts (x ∷ xs)))
   next_tells_acts x xs a b ta tb =
-      both_tells (Of (one x)) (Of (acts xs)) (Of (acts (x ∷ xs))) a b ta tb (λ f n c. of_next c) (λ f g m n c d. Comes.next_act x xs f g m n c d)
+      both_tells (Of (one x)) (Of (acts xs)) (Of (acts (x ∷ xs))) a b ta tb (λ f n c. of_next c)
+      (λ f g m n c d. Comes.next_act x xs f g m n c d)

@@ -8,9 +8,11 @@ use Rattle.fx_steps.specs.Costs.{over_limit, cost_of, Tells}
 
 -- no settled fate but the wanted one costs less
 abbrev pub CostsLeast : Costs → Fate → Fate → Type 0
-CostsLeast fate_costs wanted fate = (f : Fate) → f ≢ wanted → f ≢ Differing → cost_of fate_costs fate ≤ cost_of fate_costs f
+CostsLeast fate_costs wanted fate = (f : Fate) → f ≢ wanted → f ≢ Differing → cost_of fate_costs fate
+    ≤ cost_of fate_costs f
 
-module _ (fate_costs : Costs) (comes : Fate → ℕ → Type 0) (tells : Tells fate_costs comes) (wanted fate : Fate) (least : CostsLeast fate_costs wanted fate) where
+module _ (fate_costs : Costs) (comes : Fate → ℕ → Type 0) (tells : Tells fate_costs comes) (wanted fate : Fate)
+    (least : CostsLeast fate_costs wanted fate) where
   settled : (f : Fate) (n : ℕ) → f ≢ wanted → f ≢ Differing → comes f n → cost_of fate_costs fate ≤ n
   settled f n unwanted differs here =
       let a = least f unwanted differs in
@@ -24,7 +26,8 @@ module _ (fate_costs : Costs) (comes : Fate → ℕ → Type 0) (tells : Tells f
   least_of_all Unassigned n unwanted here = settled Unassigned n unwanted (λ e. absurd (cc)) here
   least_of_all Differing n unwanted here = absurd (tells.settled n here)
 
-  pub none_within : over_limit ≤ cost_of fate_costs fate → (f : Fate) (n : ℕ) → f ≢ wanted → n ≤ step_limit → comes f n → ⊥
+  pub none_within : over_limit ≤ cost_of fate_costs fate → (f : Fate) (n : ℕ) → f ≢ wanted → n ≤ step_limit → comes f n
+      → ⊥
   none_within over f n unwanted le here =
       let k = least_of_all f n unwanted here in
       omega arith

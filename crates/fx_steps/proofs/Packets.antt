@@ -45,9 +45,14 @@ module _ (net : Net) (classes : List Class) (p : Packet) (network : IsNetwork ne
   goes steps s = run net classes (p ∷ []) steps s
 
   -- the next crossing is made
-  pub crosses : (s : State) (rest : List Coming) (number : ℕ) (choices : Choices) → after net classes (p ∷ []) (Cross 1 number choices) (record s { coming = record { packet = 1; crossing = number } ∷ rest }) ≡ all_acts net (one_packet p) (crossing_acts net p.fields (entry_numbered (path classes p) number)) (record s { coming = rest }) choices
+  pub crosses : (s : State) (rest : List Coming) (number : ℕ) (choices : Choices)
+      → after net classes (p ∷ []) (Cross 1 number choices)
+      (record s { coming = record { packet = 1; crossing = number } ∷ rest })
+      ≡ all_acts net (one_packet p) (crossing_acts net p.fields (entry_numbered (path classes p) number))
+      (record s { coming = rest }) choices
   crosses s rest number choices =
-      ap (λ b. after_cross net classes (Some p) (cond b (Some 0) (later (place rest 1 number))) number (record s { coming = record { packet = 1; crossing = number } ∷ rest }) choices) (eq-eqb number number refl)
+      ap (λ b. after_cross net classes (Some p) (cond b (Some 0) (later (place rest 1 number))) number
+      (record s { coming = record { packet = 1; crossing = number } ∷ rest }) choices) (eq-eqb number number refl)
 
   -- all crossings of a path from this state on
   record PathPlayed (f : Fate) (n : ℕ) (s : State) : Type 0 where
@@ -59,35 +64,50 @@ module _ (net : Net) (classes : List Class) (p : Packet) (network : IsNetwork ne
     fate_is : fate_of tallies lost ≡ f
     few : tallies ≤ n
 
-  cross_played : (c : Crossing) (cs : List Crossing) (f g : Fate) (m n : ℕ) (before : List Crossing) (s : State) → path classes p ≡ before ++ c ∷ cs → IsSized net s → s.coming ≡ crossings_from 1 (suc (length before)) (c ∷ cs) → ((s : State) → IsSized net s → RunsOfPackets.Played net classes p network (crossing_acts net p.fields (Some c)) f m s) → ((s : State) → IsSized net s → s.coming ≡ crossings_from 1 (suc (suc (length before))) cs → PathPlayed g n s) → PathPlayed (both f g) (suc m + n) s
+  cross_played : (c : Crossing) (cs : List Crossing) (f g : Fate) (m n : ℕ) (before : List Crossing) (s : State)
+      → path classes p ≡ before ++ c ∷ cs → IsSized net s → s.coming ≡ crossings_from 1 (suc (length before)) (c ∷ cs)
+      → ((s : State) → IsSized net s → RunsOfPackets.Played net classes p network (crossing_acts net p.fields (Some c))
+      f m s) → ((s : State) → IsSized net s → s.coming ≡ crossings_from 1 (suc (suc (length before))) cs
+      → PathPlayed g n s) → PathPlayed (both f g) (suc m + n) s
   cross_played c cs f g m n before s at z coming inner rest =
       let others = crossings_from 1 (suc (suc (length before))) cs in
       let s0 : State = record s { coming = others } in
       let i = inner s0 (record { held = z.held; carried = z.carried }) in
       let r = rest (counted i.tallies i.lost s0) (record { held = z.held; carried = z.carried }) refl in
       let number = suc (length before) in
-      let here : entry_numbered (path classes p) number ≡ Some c = ap (λ xs. slice_get xs (length before)) at ∙ next_here before c cs in
+      let here : entry_numbered (path classes p) number ≡ Some c = ap (λ xs. slice_get xs (length before)) at
+      ∙ next_here before c cs in
       let one = Cross 1 number i.choices in
-      let begins : after net classes (p ∷ []) one s ≡ Ok i.mid = ap (λ xs. after net classes (p ∷ []) one (record s { coming = xs })) coming ∙ crosses s others number i.choices ∙ ap (λ o. all_acts net (one_packet p) (crossing_acts net p.fields o) s0 i.choices) here ∙ i.made in
-      let end = RunsOfPackets.run_both net classes p network i.steps r.steps i.mid (counted i.tallies i.lost s0) (counted r.tallies r.lost (counted i.tallies i.lost (record s { coming = [] }))) i.ends r.ends in
+      let begins : after net classes (p ∷ []) one s ≡ Ok i.mid =
+      ap (λ xs. after net classes (p ∷ []) one (record s { coming = xs })) coming
+      ∙ crosses s others number i.choices ∙ ap (λ o. all_acts net (one_packet p) (crossing_acts net p.fields o) s0
+      i.choices) here ∙ i.made in
+      let end = RunsOfPackets.run_both net classes p network i.steps r.steps i.mid (counted i.tallies i.lost s0)
+      (counted r.tallies r.lost (counted i.tallies i.lost (record s { coming = [] }))) i.ends r.ends in
       record {
         steps = one ∷ (i.steps ++ r.steps);
         tallies = i.tallies + r.tallies;
         lost = i.lost + r.lost;
-        ends = ap (λ o. then_run o (run net classes (p ∷ []) (i.steps ++ r.steps))) begins ∙ end ∙ ap Ok (RunsOfPackets.counted_on net classes p network i.tallies i.lost r.tallies r.lost (record s { coming = [] }));
+        ends = ap (λ o. then_run o (run net classes (p ∷ []) (i.steps ++ r.steps))) begins ∙ end
+            ∙ ap Ok (RunsOfPackets.counted_on net classes p network i.tallies i.lost r.tallies r.lost
+            (record s { coming = [] }));
         number = let e = length-append i.steps r.steps in let a = i.number in let b = r.number in omega arith;
         fate_is = fates_both i.tallies i.lost r.tallies r.lost ∙ ap₂ both i.fate_is r.fate_is;
-        few = let a = i.few in let b = r.few in let e = count_meets net p.fields (occurrences net c p.fields) in omega arith;
+        few = let a = i.few in let b = r.few in let e = count_meets net p.fields (occurrences net c p.fields) in
+            omega arith;
       }
 
-  path_played : {cs : List Crossing} {f : Fate} {n : ℕ} → PacketComes net p.fields cs f n → (before : List Crossing) → path classes p ≡ before ++ cs → (s : State) → IsSized net s → s.coming ≡ crossings_from 1 (suc (length before)) cs → PathPlayed f n s
+  path_played : {cs : List Crossing} {f : Fate} {n : ℕ} → PacketComes net p.fields cs f n → (before : List Crossing)
+      → path classes p ≡ before ++ cs → (s : State) → IsSized net s → s.coming
+      ≡ crossings_from 1 (suc (length before)) cs → PathPlayed f n s
   path_played no_crossing before at s z coming =
       let e : s.unassigned ≡ s.unassigned + 0 = omega arith in
       record {
         steps = [];
         tallies = 0;
         lost = 0;
-        ends = ap (λ xs. Ok (record s { coming = xs })) coming ∙ ap (λ (n : ℕ). Ok (record s { coming = []; unassigned = n })) e;
+        ends = ap (λ xs. Ok (record s { coming = xs })) coming
+            ∙ ap (λ (n : ℕ). Ok (record s { coming = []; unassigned = n })) e;
         number = refl;
         fate_is = refl;
         few = omega arith;
@@ -95,7 +115,11 @@ module _ (net : Net) (classes : List Class) (p : Packet) (network : IsNetwork ne
   path_played (cross c cs f g m n d e) before at s z coming =
       let next = before ++ c ∷ [] in
       let size : suc (length next) ≡ suc (suc (length before)) = let k = length-append before (c ∷ []) in omega arith in
-      cross_played c cs f g m n before s at z coming (RunsOfPackets.play net classes p network (chained net d) (RunsOfPackets.met_own net classes p network (occurrences net c p.fields))) (λ s z k. path_played e next (at ∙ sym (append_assoc before (c ∷ []) cs)) s z (k ∙ ap (λ j. crossings_from 1 j cs) (sym size)))
+      cross_played c cs f g m n before s at z coming
+      (RunsOfPackets.play net classes p network (chained net d)
+      (RunsOfPackets.met_own net classes p network (occurrences net c p.fields)))
+      (λ s z k. path_played e next (at ∙ sym (append_assoc before (c ∷ []) cs)) s z
+      (k ∙ ap (λ j. crossings_from 1 j cs) (sym size)))
 
   -- ---- totals
 
@@ -106,10 +130,14 @@ module _ (net : Net) (classes : List Class) (p : Packet) (network : IsNetwork ne
   abbrev counts_of : Bool → List Packet
   counts_of exempt = cond (not exempt) (p ∷ []) []
 
-  tallied_once : (t : ℕ) → suc t < 2 ^ 64 → (c : Counts) × (total_at (totals_with (suc t) own_key (one_packet p) []) own_key ≡ Some c) × (c.packets ≡ 1 + t)
-  tallied_once t few = let one = one_packet p in total_of_times t own_key one one refl (let e : 1 + t < 2 ^ 64 = omega arith in e)
+  tallied_once : (t : ℕ) → suc t < 2 ^ 64 → (c : Counts)
+      × (total_at (totals_with (suc t) own_key (one_packet p) []) own_key ≡ Some c) × (c.packets ≡ 1 + t)
+  tallied_once t few = let one = one_packet p in
+      total_of_times t own_key one one refl (let e : 1 + t < 2 ^ 64 = omega arith in e)
 
-  not_counted : (exempt : Bool) (t u : ℕ) → t < 2 ^ 64 → fate_of t u ≢ wanted_fate exempt → (last : State) → last.totals ≡ totals_with t own_key (one_packet p) [] → last.unassigned ≡ 0 + u → CountsEachOnce net (counts_of exempt) last → ⊥
+  not_counted : (exempt : Bool) (t u : ℕ) → t < 2 ^ 64 → fate_of t u ≢ wanted_fate exempt → (last : State) → last.totals
+      ≡ totals_with t own_key (one_packet p) [] → last.unassigned ≡ 0 + u → CountsEachOnce net (counts_of exempt) last
+      → ⊥
   not_counted exempt t (suc u) few wrong last totals lost counts = let k = counts.assigned in absurd (omega arith)
   not_counted false zero zero few wrong last totals lost counts =
       let none : total_at last.totals own_key ≡ None = ap (λ ts. total_at ts own_key) totals in
@@ -130,22 +158,33 @@ module _ (net : Net) (classes : List Class) (p : Packet) (network : IsNetwork ne
       absurd (omega arith)
 
   -- where another fate was wanted, the packet isn't counted as it should be
-  pub is_wrong : (t u : ℕ) → t < 2 ^ 64 → (s : State) → s.totals ≡ [] → s.unassigned ≡ 0 → fate_of t u ≢ wanted_fate (exempts (entry_numbered classes p.class)) → CountsEachOnce net (to_count classes (p ∷ [])) (counted t u s) → ⊥
+  pub is_wrong : (t u : ℕ) → t < 2 ^ 64 → (s : State) → s.totals ≡ [] → s.unassigned ≡ 0
+      → fate_of t u ≢ wanted_fate (exempts (entry_numbered classes p.class))
+      → CountsEachOnce net (to_count classes (p ∷ [])) (counted t u s) → ⊥
   is_wrong t u few s totals lost wrong =
-      not_counted (exempts (entry_numbered classes p.class)) t u few wrong (counted t u s) (ap (totals_with t own_key (one_packet p)) totals) (ap (λ n. n + u) lost)
+      not_counted (exempts (entry_numbered classes p.class)) t u few wrong (counted t u s)
+      (ap (totals_with t own_key (one_packet p)) totals) (ap (λ n. n + u) lost)
 
   -- ---- the law
 
-  pub has_run : (f : Fate) (n : ℕ) → n < 2 ^ 64 → PacketComes net p.fields (path classes p) f n → RunOf net classes p f n
+  pub has_run : (f : Fate) (n : ℕ) → n < 2 ^ 64 → PacketComes net p.fields (path classes p) f n
+      → RunOf net classes p f n
   has_run f n small d =
       let s = opening net classes (p ∷ []) in
       let all : s.coming ≡ crossings_from 1 1 (path classes p) = append-nil (crossings_from 1 1 (path classes p)) in
-      let r = path_played d [] refl s (record { held = length_nothing net.holders; carried = length_nothing net.links }) all in
+      let r = path_played d [] refl s (record { held = length_nothing net.holders; carried = length_nothing net.links })
+      all in
       record {
         steps = r.steps;
         final = counted r.tallies r.lost (record s { coming = [] });
         runs = r.ends;
-        complete = record { crossed = refl; nothing_held = nothing_empty net.holders; nothing_carried = nothing_empty net.links };
+        complete = record {
+          crossed = refl;
+          nothing_held = nothing_empty net.holders;
+          nothing_carried =
+              nothing_empty net.links;
+        };
         number_is = r.number;
-        wrong = λ w. is_wrong r.tallies r.lost (let k = r.few in omega arith) (record s { coming = [] }) refl refl (λ e. w (sym r.fate_is ∙ e));
+        wrong = λ w. is_wrong r.tallies r.lost (let k = r.few in omega arith) (record s { coming = [] }) refl refl
+            (λ e. w (sym r.fate_is ∙ e));
       }

@@ -41,20 +41,25 @@ module _ (table : CostTable) (net : Net) (n : Numbering) where
     on_there None f h = tt
     on_there (Some link) f h = (h, tt)
 
-    to_there : (ds : List (Option ℕ)) (f : Fate) → AllByRecursion InRange ds → Every LinkThere (records_to_all table net number ds f)
+    to_there : (ds : List (Option ℕ)) (f : Fate) → AllByRecursion InRange ds
+        → Every LinkThere (records_to_all table net number ds f)
     to_there [] f all = tt
     to_there (d ∷ ds) f all =
         let p = shares (destination_costs table net number d) (all_destinations_costs table net number ds) f in
-        every_append LinkThere (records_to_destination d p.0) (records_to_all table net number ds p.1) (on_there d p.0 all.0) (to_there ds p.1 all.1)
+        every_append LinkThere (records_to_destination d p.0) (records_to_all table net number ds p.1)
+        (on_there d p.0 all.0) (to_there ds p.1 all.1)
 
-    chosen_there : (o : Option (Option ℕ)) (f : Fate) → ((d : Option ℕ) → o ≡ Some d → InRange d) → Every LinkThere (records_to_one o f)
+    chosen_there : (o : Option (Option ℕ)) (f : Fate) → ((d : Option ℕ) → o ≡ Some d → InRange d)
+        → Every LinkThere (records_to_one o f)
     chosen_there None f h = tt
     chosen_there (Some d) f h = on_there d f (h d refl)
 
-    by_there : (e : Exporter) (f : Fate) → AllByRecursion InRange e.destinations → Every LinkThere (records_by_exporter table net number e f)
+    by_there : (e : Exporter) (f : Fate) → AllByRecursion InRange e.destinations
+        → Every LinkThere (records_by_exporter table net number e f)
     by_there e f all =
         let k = choice_of table net number e.destinations f in
-        elim e.parallel as (λ b. Every LinkThere (cond b (records_to_all table net number e.destinations f) (records_to_one (slice_get e.destinations k) f))) [
+        elim e.parallel as (λ b. Every LinkThere
+        (cond b (records_to_all table net number e.destinations f) (records_to_one (slice_get e.destinations k) f))) [
           | true ↦ to_there e.destinations f all
           | false ↦ chosen_there (slice_get e.destinations k) f (λ d h. all_at InRange e.destinations k d all h)
         ]
@@ -64,24 +69,36 @@ module _ (table : CostTable) (net : Net) (n : Numbering) where
       links_there [] h = tt
       links_there (x ∷ xs) h = ((h.0, (layout, is, fits)), links_there xs h.1)
 
-      pub sends_there : (es : List Exporter) (f : Fate) → AllByRecursion (HasLinks net) es → Every (IsThere net n) (sent_pending table net number es f)
+      pub sends_there : (es : List Exporter) (f : Fate) → AllByRecursion (HasLinks net) es
+          → Every (IsThere net n) (sent_pending table net number es f)
       sends_there [] f all = tt
       sends_there (e ∷ es) f all =
           let p = shares (send_costs table net number e) (sent_costs table net number es) f in
-          every_append (IsThere net n) (pending_on_links number (records_by_exporter table net number e p.0)) (sent_pending table net number es p.1) (links_there (records_by_exporter table net number e p.0) (by_there e p.0 all.0)) (sends_there es p.1 all.1)
+          every_append (IsThere net n) (pending_on_links number (records_by_exporter table net number e p.0))
+          (sent_pending table net number es p.1) (links_there (records_by_exporter table net number e p.0)
+          (by_there e p.0 all.0)) (sends_there es p.1 all.1)
 
-  takings_there : (key : Key) (as' : List AggregationEntry) (f : Fate) → AllByRecursion (λ (a : AggregationEntry). IsHolder net a.holder) as' → Every (IsThere net n) (all_taken_pending table net n key as' f)
+  takings_there : (key : Key) (as' : List AggregationEntry) (f : Fate)
+      → AllByRecursion (λ (a : AggregationEntry). IsHolder net a.holder) as'
+      → Every (IsThere net n) (all_taken_pending table net n key as' f)
   takings_there key [] f all = tt
   takings_there key (a ∷ as') f all =
       let p = shares (holder_costs table net n a.holder) (all_taken_costs table net n key as') f in
-      elim (takes net key a) as (λ b. Every (IsThere net n) (cond b (AtHolder a.holder p.0 ∷ all_taken_pending table net n key as' p.1) (all_taken_pending table net n key as' f))) [
+      elim (takes net key a) as (λ b. Every (IsThere net n)
+      (cond b (AtHolder a.holder p.0 ∷ all_taken_pending table net n key as' p.1)
+      (all_taken_pending table net n key as' f))) [
         | true ↦ (all.0, takings_there key as' p.1 all.1)
         | false ↦ takings_there key as' f all.1
       ]
 
-  pub meets_there : (os : List Occurrence) (f : Fate) → Every (λ (o : Occurrence). IsHolder net o.holder) os → Every (IsThere net n) (occurrence_pending table net n os f)
+  pub meets_there : (os : List Occurrence) (f : Fate) → Every (λ (o : Occurrence). IsHolder net o.holder) os
+      → Every (IsThere net n) (occurrence_pending table net n os f)
   meets_there [] f all = tt
-  meets_there (o ∷ os) f all = (all.0, meets_there os (shares (holder_costs table net n o.holder) (occurrence_costs table net n os) f).1 all.1)
+  meets_there (o ∷ os) f all = (
+    all.0,
+    meets_there os
+        (shares (holder_costs table net n o.holder) (occurrence_costs table net n os) f).1 all.1,
+  )
 
   -- ---- what comes of a record on its way
 
@@ -89,35 +106,64 @@ module _ (table : CostTable) (net : Net) (n : Numbering) where
     links_at : (places : List ℕ) → AllByRecursion (HasLinks net) (at_places net.exporters places)
     links_at places = all_at_places (HasLinks net) net.exporters places whole.links
 
-    handles_there : (number : ℕ) (layout : Layout) → slice_get n.layouts number ≡ Some layout → Fits layout → (o : Option Process) (f : Fate) → ((p : Process) → o ≡ Some p → HasHolders net p) → Every (IsThere net n) (handled_pending table net n fields number layout o f)
+    handles_there : (number : ℕ) (layout : Layout) → slice_get n.layouts number ≡ Some layout → Fits layout
+        → (o : Option Process) (f : Fate) → ((p : Process) → o ≡ Some p → HasHolders net p)
+        → Every (IsThere net n) (handled_pending table net n fields number layout o f)
     handles_there number layout is fits None f h = tt
     handles_there number layout is fits (Some p) f h =
         let key = key_of layout fields in
         let es = at_places net.exporters p.exporters in
         let q = shares (sent_costs table net number es) (all_taken_costs table net n key p.aggregations) f in
-        every_append (IsThere net n) (sent_pending table net number es q.0) (all_taken_pending table net n key p.aggregations q.1) (sends_there number layout is fits es q.0 (links_at p.exporters)) (takings_there key p.aggregations q.1 (h p refl))
+        every_append (IsThere net n) (sent_pending table net number es q.0)
+        (all_taken_pending table net n key p.aggregations q.1)
+        (sends_there number layout is fits es q.0 (links_at p.exporters))
+        (takings_there key p.aggregations q.1 (h p refl))
 
-    arrives_there : (number : ℕ) (layout : Layout) → slice_get n.layouts number ≡ Some layout → Fits layout → (o : Option ℕ) (f : Fate) → Every (IsThere net n) (arrival_pending table net n fields number layout o f)
+    arrives_there : (number : ℕ) (layout : Layout) → slice_get n.layouts number ≡ Some layout → Fits layout
+        → (o : Option ℕ) (f : Fate) → Every (IsThere net n) (arrival_pending table net n fields number layout o f)
     arrives_there number layout is fits None f = tt
     arrives_there number layout is fits (Some q) f =
-        handles_there number layout is fits (slice_get net.processes q) (fate_behind_tally table net n fields q number layout f) (λ p e. all_at (HasHolders net) net.processes q p whole.aggregations e)
+        handles_there number layout is fits (slice_get net.processes q)
+        (fate_behind_tally table net n fields q number layout f)
+        (λ p e. all_at (HasHolders net) net.processes q p whole.aggregations e)
 
     pub planned_there : (x : Pending) → IsThere net n x → Every (IsThere net n) (step_pending table net n fields x)
     planned_there (AtHolder holder f) is =
-        sends_there (number_of_layout n holder) _ (own_number net n fields network numbers table holder is.there) (network.fits holder) (exporters_of net (slice_get net.holders holder)) f (links_at (named_by (slice_get net.holders holder)))
+        sends_there (number_of_layout n holder) _ (own_number net n fields network numbers table holder is.there)
+        (network.fits holder) (exporters_of net (slice_get net.holders holder)) f
+        (links_at (named_by (slice_get net.holders holder)))
     planned_there (OnLink link number f) is =
         let same : is.1.0 ≡ layout_in (slice_get n.layouts number) = sym (ap layout_in is.1.1) in
-        subst (λ (l : Layout). Every (IsThere net n) (arrival_pending table net n fields number l (slice_get net.links link) f)) same (arrives_there number is.1.0 is.1.1 is.1.2 (slice_get net.links link) f)
+        subst (λ (l : Layout). Every (IsThere net n)
+        (arrival_pending table net n fields number l (slice_get net.links link) f)) same
+        (arrives_there number is.1.0 is.1.1 is.1.2 (slice_get net.links link) f)
 
 -- ---- in the machine
 
-module _ (table : CostTable) (net : Net) (n : Numbering) (classes : List Class) (p : Packet) (network : IsNetwork net) where
-  pub leaves : (holder : ℕ) (f : Fate) (name : HolderName) → holder_place net name ≡ Some holder → holder < length net.holders → Steps table net n p.fields (AtHolder holder f) → (s : State) → IsSized net s → (rs : List Record) → slice_get s.held holder ≡ Some rs → after net classes (p ∷ []) (Expire name (suc (length rs)) (step_choices table net n p.fields (AtHolder holder f))) (with_item (one_packet p) (item_of net n p.fields (AtHolder holder f)) s) ≡ Ok (with_items (one_packet p) (pending_items net n p.fields (step_pending table net n p.fields (AtHolder holder f))) (with_tallies net (one_packet p) (step_keys net n p.fields (AtHolder holder f)) s))
-  leaves holder f name named lt x s z rs at =
-      held_leaves net classes p network holder (record { name = name; named = named; there = lt }) _ _ _ _ s rs x.spreads z at
+module _ (table : CostTable) (net : Net) (n : Numbering) (classes : List Class) (p : Packet) (network : IsNetwork net)
+  where
+    pub leaves : (holder : ℕ) (f : Fate) (name : HolderName) → holder_place net name ≡ Some holder → holder
+        < length net.holders → Steps table net n p.fields (AtHolder holder f) → (s : State) → IsSized net s
+        → (rs : List Record) → slice_get s.held holder ≡ Some rs
+        → after net classes (p ∷ []) (Expire name (suc (length rs))
+        (step_choices table net n p.fields (AtHolder holder f)))
+        (with_item (one_packet p) (item_of net n p.fields (AtHolder holder f)) s)
+        ≡ Ok (with_items (one_packet p) (pending_items net n p.fields
+        (step_pending table net n p.fields (AtHolder holder f)))
+        (with_tallies net (one_packet p) (step_keys net n p.fields (AtHolder holder f)) s))
+    leaves holder f name named lt x s z rs at =
+        held_leaves net classes p network holder (record { name = name; named = named; there = lt }) _ _ _ _ s rs
+        x.spreads z at
 
-  pub comes_in : (link number : ℕ) (f : Fate) → Steps table net n p.fields (OnLink link number f) → (s : State) → IsSized net s → (rs : List Record) → slice_get s.carried link ≡ Some rs → after net classes (p ∷ []) (Arrive (suc link) (suc (length rs)) (step_choices table net n p.fields (OnLink link number f))) (with_item (one_packet p) (item_of net n p.fields (OnLink link number f)) s) ≡ Ok (with_items (one_packet p) (pending_items net n p.fields (step_pending table net n p.fields (OnLink link number f))) (with_tallies net (one_packet p) (step_keys net n p.fields (OnLink link number f)) s))
-  comes_in link number f x s z rs at = carried_arrives net classes p network link _ _ _ _ s rs x.spreads z at
+    pub comes_in : (link number : ℕ) (f : Fate) → Steps table net n p.fields (OnLink link number f) → (s : State)
+        → IsSized net s → (rs : List Record) → slice_get s.carried link ≡ Some rs
+        → after net classes (p ∷ []) (Arrive (suc link) (suc (length rs))
+        (step_choices table net n p.fields (OnLink link number f)))
+        (with_item (one_packet p) (item_of net n p.fields (OnLink link number f)) s)
+        ≡ Ok (with_items (one_packet p) (pending_items net n p.fields
+        (step_pending table net n p.fields (OnLink link number f)))
+        (with_tallies net (one_packet p) (step_keys net n p.fields (OnLink link number f)) s))
+    comes_in link number f x s z rs at = carried_arrives net classes p network link _ _ _ _ s rs x.spreads z at
 
 pub all_of_every : {A : Type 0} (P : A → Type 0) (xs : List A) → Every P xs → AllByRecursion P xs
 all_of_every P [] h = tt

@@ -39,14 +39,24 @@ module _ (net : Net) (n : Numbering) (classes : List Class) (p : Packet) where
   }
 
   -- where all is done and another fate was wanted, the run is wrong
-  pub ends_wrong : IsNetwork net → (f : Fate) (steps : List Step) → length steps ≤ step_limit → f ≢ wanted_fate (exempts (entry_numbered classes p.class)) → UnderWay net n classes p [] f steps [] → IsWrongRun net classes p steps
+  pub ends_wrong : IsNetwork net → (f : Fate) (steps : List Step) → length steps ≤ step_limit
+      → f ≢ wanted_fate (exempts (entry_numbered classes p.class)) → UnderWay net n classes p [] f steps []
+      → IsWrongRun net classes p steps
   ends_wrong network f steps few wrong way =
       let more : way.unassigned ≡ 0 + way.unassigned = omega arith in
       let last = state_of_tallies net p way.tallies way.unassigned [] in
       record {
         last = state_of_tallies net p way.tallies way.unassigned [];
         runs = way.runs;
-        complete = record { crossed = refl; nothing_held = nothing_empty net.holders; nothing_carried = nothing_empty net.links };
-        wrong = λ counts. Packets.is_wrong net classes p network way.tallies way.unassigned (let k = way.few in omega arith) (state_of_tallies net p 0 0 []) refl refl (λ e. wrong (sym way.joint ∙ both_never (fate_of way.tallies way.unassigned) ∙ e)) (subst (λ m. CountsEachOnce net (to_count classes (p ∷ [])) (record last { unassigned = m })) more counts);
+        complete = record {
+          crossed = refl;
+          nothing_held = nothing_empty net.holders;
+          nothing_carried =
+              nothing_empty net.links;
+        };
+        wrong = λ counts. Packets.is_wrong net classes p network way.tallies way.unassigned
+            (let k = way.few in omega arith) (state_of_tallies net p 0 0 []) refl refl
+            (λ e. wrong (sym way.joint ∙ both_never (fate_of way.tallies way.unassigned) ∙ e))
+            (subst (λ m. CountsEachOnce net (to_count classes (p ∷ [])) (record last { unassigned = m })) more counts);
         few = few;
       }

@@ -71,31 +71,41 @@ moved t xs k ps =
 
 -- ---- how many wait
 
-lengths_put : (rss : List (List Record)) (n : ℕ) (r : Record) → map length (put_last rss n r) ≡ one_more_at (map length rss) n
+lengths_put : (rss : List (List Record)) (n : ℕ) (r : Record) → map length (put_last rss n r)
+    ≡ one_more_at (map length rss) n
 lengths_put [] n r = refl
-lengths_put (rs ∷ rss) zero r = let e : length (rs ++ r ∷ []) ≡ suc (length rs) = omega (arith, length-append rs (r ∷ [])) in ap (λ m. m ∷ map length rss) e
+lengths_put (rs ∷ rss) zero r = let e : length (rs ++ r ∷ []) ≡ suc (length rs) =
+    omega (arith, length-append rs (r ∷ [])) in ap (λ m. m ∷ map length rss) e
 lengths_put (rs ∷ rss) (suc n) r = ap (λ ms. length rs ∷ ms) (lengths_put rss n r)
 
 lengths_nothing : {A : Type 0} (xs : List A) → map length (nothing_at xs) ≡ zeros_for xs
 lengths_nothing [] = refl
 lengths_nothing (x ∷ xs) = ap (λ ms. 0 ∷ ms) (lengths_nothing xs)
 
-length_there : (rss : List (List Record)) (n count : ℕ) (rs : List Record) → slice_get (map length rss) n ≡ Some count → slice_get rss n ≡ Some rs → count ≡ length rs
+length_there : (rss : List (List Record)) (n count : ℕ) (rs : List Record) → slice_get (map length rss) n ≡ Some count
+    → slice_get rss n ≡ Some rs → count ≡ length rs
 length_there [] n count rs h k = absurd (cc)
-length_there (ss ∷ rss) zero count rs h k = let e : ss ≡ rs = cc in let d : length ss ≡ count = cc in sym d ∙ ap length e
+length_there (ss ∷ rss) zero count rs h k = let e : ss ≡ rs = cc in let d : length ss ≡ count = cc in
+    sym d ∙ ap length e
 length_there (ss ∷ rss) (suc n) count rs h k = length_there rss n count rs h k
 
 module _ (net : Net) (n : Numbering) (p : Packet) where
-  held_counts : (xs : List Pending) (s : State) → map length (with_items (one_packet p) (pending_items net n p.fields xs) s).held ≡ holder_counts (map length s.held) xs
+  held_counts : (xs : List Pending) (s : State)
+      → map length (with_items (one_packet p) (pending_items net n p.fields xs) s).held
+      ≡ holder_counts (map length s.held) xs
   held_counts [] s = refl
   held_counts (AtHolder holder f ∷ xs) s =
       let x = item_of net n p.fields (AtHolder holder f) in
       held_counts xs (with_item (one_packet p) x s) ∙ ap (λ cs. holder_counts cs xs) (lengths_put s.held holder _)
-  held_counts (OnLink link number f ∷ xs) s = held_counts xs (with_item (one_packet p) (item_of net n p.fields (OnLink link number f)) s)
+  held_counts (OnLink link number f ∷ xs) s =
+      held_counts xs (with_item (one_packet p) (item_of net n p.fields (OnLink link number f)) s)
 
-  carried_counts : (xs : List Pending) (s : State) → map length (with_items (one_packet p) (pending_items net n p.fields xs) s).carried ≡ link_counts (map length s.carried) xs
+  carried_counts : (xs : List Pending) (s : State)
+      → map length (with_items (one_packet p) (pending_items net n p.fields xs) s).carried
+      ≡ link_counts (map length s.carried) xs
   carried_counts [] s = refl
-  carried_counts (AtHolder holder f ∷ xs) s = carried_counts xs (with_item (one_packet p) (item_of net n p.fields (AtHolder holder f)) s)
+  carried_counts (AtHolder holder f ∷ xs) s =
+      carried_counts xs (with_item (one_packet p) (item_of net n p.fields (AtHolder holder f)) s)
   carried_counts (OnLink link number f ∷ xs) s =
       let x = item_of net n p.fields (OnLink link number f) in
       carried_counts xs (with_item (one_packet p) x s) ∙ ap (λ cs. link_counts cs xs) (lengths_put s.carried link _)
@@ -106,14 +116,23 @@ module _ (net : Net) (n : Numbering) (p : Packet) where
   record Tallied (t u : ℕ) (ks : List Key) : Type 0 where
     tallies : ℕ
     unassigned : ℕ
-    same : (coming : List Coming) → with_tallies net (one_packet p) ks (state_of_tallies net p t u coming) ≡ state_of_tallies net p tallies unassigned coming
+    same : (coming : List Coming) → with_tallies net (one_packet p) ks (state_of_tallies net p t u coming)
+        ≡ state_of_tallies net p tallies unassigned coming
     fate : fate_of tallies unassigned ≡ both (fate_of t u) (keys_fate net ks)
     few : tallies ≤ suc t
 
   none_tallied : (t u : ℕ) → Tallied t u []
-  none_tallied t u = record { tallies = t; unassigned = u; same = λ coming. refl; fate = sym (both_never (fate_of t u)); few = omega arith }
+  none_tallied t u = record {
+    tallies = t;
+    unassigned = u;
+    same = λ coming. refl;
+    fate =
+        sym (both_never (fate_of t u));
+    few = omega arith;
+  }
 
-  one_tallied : (t u : ℕ) (layout : Layout) → Fits layout → (b : Bool) → refines layout net.report_layout ≡ b → Tallied t u (key_of layout p.fields ∷ [])
+  one_tallied : (t u : ℕ) (layout : Layout) → Fits layout → (b : Bool) → refines layout net.report_layout ≡ b
+      → Tallied t u (key_of layout p.fields ∷ [])
   one_tallied t u layout fits true e =
       let key = key_of layout p.fields in
       let own = key_of net.report_layout p.fields in
@@ -127,8 +146,11 @@ module _ (net : Net) (n : Numbering) (p : Packet) where
         unassigned = u + 0;
         same = λ coming.
             ap (λ b. cond b (yes (state_of_tallies net p t u coming)) (no (state_of_tallies net p t u coming))) e
-            ∙ ap (λ k. record (state_of_tallies net p t u coming) { totals = add_at (totals_with t own counts []) k counts }) (project_key layout net.report_layout p.fields fits e)
-            ∙ ap₂ (λ (ts : List Record) (m : ℕ). record (state_of_tallies net p t u coming) { totals = ts; unassigned = m }) (times_on t 1 own counts []) zero_more;
+            ∙ ap (λ k. record (state_of_tallies net p t u coming)
+            { totals = add_at (totals_with t own counts []) k counts })
+            (project_key layout net.report_layout p.fields fits e)
+            ∙ ap₂ (λ (ts : List Record) (m : ℕ). record (state_of_tallies net p t u coming)
+            { totals = ts; unassigned = m }) (times_on t 1 own counts []) zero_more;
         fate = fates_both t u 1 0 ∙ ap (both (fate_of t u)) (sym (both_never (tally_fate net key) ∙ fate));
         few = omega arith;
       }
@@ -145,12 +167,14 @@ module _ (net : Net) (n : Numbering) (p : Packet) where
         unassigned = u + 1;
         same = λ coming.
             ap (λ b. cond b (yes (state_of_tallies net p t u coming)) (no (state_of_tallies net p t u coming))) e
-            ∙ ap (λ m. record (state_of_tallies net p t u coming) { totals = totals_with m own counts []; unassigned = u + 1 }) zero_more;
+            ∙ ap (λ m. record (state_of_tallies net p t u coming)
+            { totals = totals_with m own counts []; unassigned = u + 1 }) zero_more;
         fate = fates_both t u 0 1 ∙ ap (both (fate_of t u)) (sym (both_never (tally_fate net key) ∙ fate));
         few = omega arith;
       }
 
-  arrival_tallied : (t u : ℕ) (layout : Layout) → Fits layout → (o : Option ℕ) → Tallied t u (arrival_keys net p.fields layout o)
+  arrival_tallied : (t u : ℕ) (layout : Layout) → Fits layout → (o : Option ℕ)
+      → Tallied t u (arrival_keys net p.fields layout o)
   arrival_tallied t u layout fits None = none_tallied t u
   arrival_tallied t u layout fits (Some process) =
       elim (process == net.report) as (λ b. Tallied t u (cond b (key_of layout p.fields ∷ []) [])) [
@@ -171,15 +195,23 @@ module _ (net : Net) (n : Numbering) (p : Packet) where
 
   module _ (table : CostTable) (classes : List Class) (network : IsNetwork net) where
     -- by its step
-    made : (xs : List Pending) (x : Pending) (step : Step) (t u : ℕ) (coming : List Coming) → IsStepOf table net n p.fields xs x step → IsThere net n x → Steps table net n p.fields x → let s = with_items (one_packet p) (pending_items net n p.fields xs) (state_of_tallies net p t u coming) in after net classes (p ∷ []) step (with_item (one_packet p) (item_of net n p.fields x) s) ≡ Ok (with_items (one_packet p) (pending_items net n p.fields (step_pending table net n p.fields x)) (with_tallies net (one_packet p) (step_keys net n p.fields x) s))
+    made : (xs : List Pending) (x : Pending) (step : Step) (t u : ℕ) (coming : List Coming)
+        → IsStepOf table net n p.fields xs x step → IsThere net n x → Steps table net n p.fields x → let s =
+        with_items (one_packet p) (pending_items net n p.fields xs) (state_of_tallies net p t u coming) in
+        after net classes (p ∷ []) step (with_item (one_packet p) (item_of net n p.fields x) s)
+        ≡ Ok (with_items (one_packet p) (pending_items net n p.fields (step_pending table net n p.fields x))
+        (with_tallies net (one_packet p) (step_keys net n p.fields x) s))
     made xs (AtHolder holder f) step t u coming is at x =
         let base = state_of_tallies net p t u coming in
         let s = with_items (one_packet p) (pending_items net n p.fields xs) base in
         let z = sized_put_each net (one_packet p) (pending_items net n p.fields xs) base (sized t u coming) in
         let here = there s.held holder (let lt = at.there in let e = z.held in omega arith) in
         let counts = held_counts xs base ∙ ap (λ cs. holder_counts cs xs) (lengths_nothing net.holders) in
-        let e : is.1 ≡ length here.0 = length_there s.held holder is.1 here.0 (ap (λ cs. slice_get cs holder) counts ∙ is.3) here.1 in
-        ap (λ step. after net classes (p ∷ []) step (with_item (one_packet p) (item_of net n p.fields (AtHolder holder f)) s)) (is.4 ∙ ap (λ m. Expire is.0 (suc m) _) e)
+        let e : is.1 ≡ length here.0 = length_there s.held holder is.1 here.0
+        (ap (λ cs. slice_get cs holder) counts ∙ is.3) here.1 in
+        ap (λ step. after net classes (p ∷ []) step
+        (with_item (one_packet p) (item_of net n p.fields (AtHolder holder f)) s))
+        (is.4 ∙ ap (λ m. Expire is.0 (suc m) _) e)
         ∙ leaves table net n classes p network holder f is.0 is.2 at.there x s z here.0 here.1
     made xs (OnLink link number f) step t u coming is at x =
         let base = state_of_tallies net p t u coming in
@@ -187,11 +219,17 @@ module _ (net : Net) (n : Numbering) (p : Packet) where
         let z = sized_put_each net (one_packet p) (pending_items net n p.fields xs) base (sized t u coming) in
         let here = there s.carried link (let lt = at.0 in let e = z.carried in omega arith) in
         let counts = carried_counts xs base ∙ ap (λ cs. link_counts cs xs) (lengths_nothing net.links) in
-        let e : is.0 ≡ length here.0 = length_there s.carried link is.0 here.0 (ap (λ cs. slice_get cs link) counts ∙ is.1) here.1 in
-        ap (λ step. after net classes (p ∷ []) step (with_item (one_packet p) (item_of net n p.fields (OnLink link number f)) s)) (is.2 ∙ ap (λ m. Arrive (suc link) (suc m) _) e)
+        let e : is.0 ≡ length here.0 = length_there s.carried link is.0 here.0
+        (ap (λ cs. slice_get cs link) counts ∙ is.1) here.1 in
+        ap (λ step. after net classes (p ∷ []) step
+        (with_item (one_packet p) (item_of net n p.fields (OnLink link number f)) s))
+        (is.2 ∙ ap (λ m. Arrive (suc link) (suc m) _) e)
         ∙ comes_in table net n classes p network link number f x s z here.0 here.1
 
-    pub goes_on : (xs : List Pending) (x : Pending) (old new : List Step) (coming : List Coming) (f : Fate) → IsThere net n x → Steps table net n p.fields x → Leaves table net n p.fields xs x old new → UnderWay net n classes p coming f old (xs ++ x ∷ []) → UnderWay net n classes p coming f new (xs ++ step_pending table net n p.fields x)
+    pub goes_on : (xs : List Pending) (x : Pending) (old new : List Step) (coming : List Coming) (f : Fate)
+        → IsThere net n x → Steps table net n p.fields x → Leaves table net n p.fields xs x old new
+        → UnderWay net n classes p coming f old (xs ++ x ∷ [])
+        → UnderWay net n classes p coming f new (xs ++ step_pending table net n p.fields x)
     goes_on xs x old new coming f at can left way =
         let counts = one_packet p in
         let t = step_tallied way.tallies way.unassigned x at in
@@ -200,20 +238,33 @@ module _ (net : Net) (n : Numbering) (p : Packet) where
         let ps = step_pending table net n p.fields x in
         let s = with_items counts is base in
         let ks = step_keys net n p.fields x in
-        let top : with_items counts (pending_items net n p.fields (xs ++ x ∷ [])) base ≡ with_item counts (item_of net n p.fields x) s =
-        ap (λ js. with_items counts js base) (items_joined table net n p.fields xs (x ∷ [])) ∙ put_append net counts is (item_of net n p.fields x ∷ []) base in
-        let under : with_tallies net counts ks s ≡ with_items counts is (state_of_tallies net p t.tallies t.unassigned coming) =
+        let top : with_items counts (pending_items net n p.fields (xs ++ x ∷ [])) base
+        ≡ with_item counts (item_of net n p.fields x) s =
+        ap (λ js. with_items counts js base) (items_joined table net n p.fields xs (x ∷ []))
+        ∙ put_append net counts is (item_of net n p.fields x ∷ []) base in
+        let under : with_tallies net counts ks s
+        ≡ with_items counts is (state_of_tallies net p t.tallies t.unassigned coming) =
         tally_put_each net counts ks is base ∙ ap (with_items counts is) (t.same coming) in
-        let ends : after net classes (p ∷ []) left.step (with_items counts (pending_items net n p.fields (xs ++ x ∷ [])) base) ≡ Ok (with_items counts (pending_items net n p.fields (xs ++ ps)) (state_of_tallies net p t.tallies t.unassigned coming)) =
+        let ends : after net classes (p ∷ []) left.step
+        (with_items counts (pending_items net n p.fields (xs ++ x ∷ [])) base)
+        ≡ Ok (with_items counts (pending_items net n p.fields (xs ++ ps))
+        (state_of_tallies net p t.tallies t.unassigned coming)) =
         ap (after net classes (p ∷ []) left.step) top
         ∙ made xs x left.step way.tallies way.unassigned coming left.is at can
         ∙ ap (λ r. Ok (with_items counts (pending_items net n p.fields ps) r)) under
-        ∙ ap Ok (sym (put_append net counts is (pending_items net n p.fields ps) (state_of_tallies net p t.tallies t.unassigned coming)) ∙ ap (λ js. with_items counts js (state_of_tallies net p t.tallies t.unassigned coming)) (sym (items_joined table net n p.fields xs ps))) in
-        let one : run net classes (p ∷ []) (left.step ∷ []) (with_items counts (pending_items net n p.fields (xs ++ x ∷ [])) base) ≡ Ok (with_items counts (pending_items net n p.fields (xs ++ ps)) (state_of_tallies net p t.tallies t.unassigned coming)) =
+        ∙ ap Ok (sym (put_append net counts is (pending_items net n p.fields ps)
+        (state_of_tallies net p t.tallies t.unassigned coming))
+        ∙ ap (λ js. with_items counts js (state_of_tallies net p t.tallies t.unassigned coming))
+        (sym (items_joined table net n p.fields xs ps))) in
+        let one : run net classes (p ∷ []) (left.step ∷ [])
+        (with_items counts (pending_items net n p.fields (xs ++ x ∷ [])) base)
+        ≡ Ok (with_items counts (pending_items net n p.fields (xs ++ ps))
+        (state_of_tallies net p t.tallies t.unassigned coming)) =
         ap (λ o. then_run o (run net classes (p ∷ []) [])) ends in
         let old_fate : total_fate (xs ++ x ∷ []) ≡ both (total_fate xs) (pending_fate x) =
         fate_joined table net n p.fields xs (x ∷ []) ∙ ap (both (total_fate xs)) (both_never (pending_fate x)) in
-        let new_fate : both (fate_of t.tallies t.unassigned) (total_fate (xs ++ ps)) ≡ both (fate_of way.tallies way.unassigned) (total_fate (xs ++ x ∷ [])) =
+        let new_fate : both (fate_of t.tallies t.unassigned) (total_fate (xs ++ ps))
+        ≡ both (fate_of way.tallies way.unassigned) (total_fate (xs ++ x ∷ [])) =
         ap₂ both t.fate (fate_joined table net n p.fields xs ps)
         ∙ moved (fate_of way.tallies way.unassigned) (total_fate xs) (keys_fate net ks) (total_fate ps)
         ∙ ap (λ g. both (fate_of way.tallies way.unassigned) (both (total_fate xs) g)) can.fate
@@ -221,7 +272,12 @@ module _ (net : Net) (n : Numbering) (p : Packet) where
         record {
           tallies = t.tallies;
           unassigned = t.unassigned;
-          runs = ap (λ steps. run net classes (p ∷ []) steps (opening net classes (p ∷ []))) left.last ∙ RunsOfPackets.run_both net classes p network old (left.step ∷ []) (opening net classes (p ∷ [])) (with_items counts (pending_items net n p.fields (xs ++ x ∷ [])) base) (with_items counts (pending_items net n p.fields (xs ++ ps)) (state_of_tallies net p t.tallies t.unassigned coming)) way.runs one;
+          runs = ap (λ steps. run net classes (p ∷ []) steps (opening net classes (p ∷ []))) left.last
+              ∙ RunsOfPackets.run_both net classes p network old (left.step ∷ []) (opening net classes (p ∷ []))
+              (with_items counts (pending_items net n p.fields (xs ++ x ∷ [])) base)
+              (with_items counts (pending_items net n p.fields (xs ++ ps))
+              (state_of_tallies net p t.tallies t.unassigned coming)) way.runs one;
           joint = new_fate ∙ way.joint;
-          few = let a = t.few in let b = way.few in let l = ap length left.last ∙ length-append old (left.step ∷ []) in omega arith;
+          few = let a = t.few in let b = way.few in let l = ap length left.last ∙ length-append old (left.step ∷ []) in
+              omega arith;
         }

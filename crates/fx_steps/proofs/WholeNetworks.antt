@@ -13,7 +13,8 @@ abbrev pub HasHolders : Net → Process → Type 0
 HasHolders net p = AllByRecursion (λ (a : AggregationEntry). IsHolder net a.holder) p.aggregations
 
 abbrev pub HasCaches : Net → DeviceEntry → Type 0
-HasCaches net d = AllByRecursion (λ (p : Point). AllByRecursion (λ (s : Selection). IfSome s.holder (IsHolder net)) p.selections) d.points
+HasCaches net d = AllByRecursion (λ (p : Point). AllByRecursion (λ (s : Selection). IfSome s.holder (IsHolder net))
+    p.selections) d.points
 
 pub record IsWhole (net : Net) : Type 0 where
   pub links : AllByRecursion (HasLinks net) net.exporters
@@ -29,7 +30,12 @@ same_along P xs h = along P P xs (λ x y. y) h
 
 pub whole : (net : Net) → IsRunnable net → IsWhole net
 whole net is = record {
-  links = along (runnable.HasDestinations net) (HasLinks net) net.exporters (λ e h. same_along (λ d. IfSome d (λ link. link < length net.links)) e.destinations h.links) is.destinations;
-  aggregations = along (runnable.HasAggregations net) (HasHolders net) net.processes (λ p h. same_along (λ (a : AggregationEntry). IsHolder net a.holder) p.aggregations h) is.aggregations;
-  caches = along (runnable.HasCaches net) (HasCaches net) net.devices (λ d h. along (λ (p : Point). All (λ (s : Selection). IfSome s.holder (IsHolder net)) p.selections) (λ (p : Point). AllByRecursion (λ (s : Selection). IfSome s.holder (IsHolder net)) p.selections) d.points (λ p k. same_along (λ (s : Selection). IfSome s.holder (IsHolder net)) p.selections k) h) is.caches;
+  links = along (runnable.HasDestinations net) (HasLinks net) net.exporters
+      (λ e h. same_along (λ d. IfSome d (λ link. link < length net.links)) e.destinations h.links) is.destinations;
+  aggregations = along (runnable.HasAggregations net) (HasHolders net) net.processes
+      (λ p h. same_along (λ (a : AggregationEntry). IsHolder net a.holder) p.aggregations h) is.aggregations;
+  caches = along (runnable.HasCaches net) (HasCaches net) net.devices
+      (λ d h. along (λ (p : Point). All (λ (s : Selection). IfSome s.holder (IsHolder net)) p.selections)
+      (λ (p : Point). AllByRecursion (λ (s : Selection). IfSome s.holder (IsHolder net)) p.selections) d.points
+      (λ p k. same_along (λ (s : Selection). IfSome s.holder (IsHolder net)) p.selections k) h) is.caches;
 }

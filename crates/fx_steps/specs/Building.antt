@@ -15,8 +15,10 @@ pub data Item : Type 0 where
 
 -- the record is appended at its place
 abbrev pub with_item : Counts → Item → State → State
-with_item counts (Held holder key) s = record s { held = put_last s.held holder (record { key = key; counts = counts }) }
-with_item counts (Carried link key) s = record s { carried = put_last s.carried link (record { key = key; counts = counts }) }
+with_item counts (Held holder key) s = record s
+    { held = put_last s.held holder (record { key = key; counts = counts }) }
+with_item counts (Carried link key) s =
+    record s { carried = put_last s.carried link (record { key = key; counts = counts }) }
 
 -- these records are appended in order; the last of them is on top
 abbrev pub with_items : Counts → List Item → State → State
@@ -31,11 +33,19 @@ with_tallies net counts (k ∷ ks) s = with_tallies net counts ks (after_tally n
 -- the task can be done with these choices: it results in these records, in this order, and these keys are tallied
 pub data Spreads (net : Net) : Task → Choices → List Item → List Key → Type 0 where
   no_act : Spreads net (acts []) [] [] []
-  next_act : (a : Act) (as' : List Act) (c d : Choices) (is js : List Item) (ks ls : List Key) → Spreads net (one a) c is ks → Spreads net (acts as') d js ls → Spreads net (acts (a ∷ as')) (c ++ d) (is ++ js) (ks ++ ls)
+  next_act : (a : Act) (as' : List Act) (c d : Choices) (is js : List Item) (ks ls : List Key)
+      → Spreads net (one a) c is ks → Spreads net (acts as') d js ls
+      → Spreads net (acts (a ∷ as')) (c ++ d) (is ++ js) (ks ++ ls)
   tally : (key : Key) → Spreads net (one (Tally key)) [] [] (key ∷ [])
-  hold : (holder : ℕ) (key : Key) → holder < length net.holders → Spreads net (one (Hold holder key)) (None ∷ []) (Held holder key ∷ []) []
-  to_all : (e : Exporter) (key : Key) (is : List Item) → e.parallel ≡ true → Spreads net (to key e.destinations) [] is [] → Spreads net (one (Send e key)) [] is []
-  to_any : (e : Exporter) (key : Key) (number : ℕ) (d : Option ℕ) (is : List Item) → e.parallel ≡ false → entry_numbered e.destinations number ≡ Some d → Spreads net (to key (d ∷ [])) [] is [] → Spreads net (one (Send e key)) (Some number ∷ []) is []
+  hold : (holder : ℕ) (key : Key) → holder < length net.holders
+      → Spreads net (one (Hold holder key)) (None ∷ []) (Held holder key ∷ []) []
+  to_all : (e : Exporter) (key : Key) (is : List Item) → e.parallel ≡ true
+      → Spreads net (to key e.destinations) [] is [] → Spreads net (one (Send e key)) [] is []
+  to_any : (e : Exporter) (key : Key) (number : ℕ) (d : Option ℕ) (is : List Item) → e.parallel ≡ false
+      → entry_numbered e.destinations number ≡ Some d → Spreads net (to key (d ∷ [])) [] is []
+      → Spreads net (one (Send e key)) (Some number ∷ []) is []
   no_destination : (key : Key) → Spreads net (to key []) [] [] []
-  to_outside : (key : Key) (ds : List (Option ℕ)) (is : List Item) → Spreads net (to key ds) [] is [] → Spreads net (to key (None ∷ ds)) [] is []
-  to_link : (key : Key) (link : ℕ) (ds : List (Option ℕ)) (is : List Item) → link < length net.links → Spreads net (to key ds) [] is [] → Spreads net (to key (Some link ∷ ds)) [] (Carried link key ∷ is) []
+  to_outside : (key : Key) (ds : List (Option ℕ)) (is : List Item) → Spreads net (to key ds) [] is []
+      → Spreads net (to key (None ∷ ds)) [] is []
+  to_link : (key : Key) (link : ℕ) (ds : List (Option ℕ)) (is : List Item) → link < length net.links
+      → Spreads net (to key ds) [] is [] → Spreads net (to key (Some link ∷ ds)) [] (Carried link key ∷ is) []

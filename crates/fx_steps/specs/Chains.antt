@@ -20,9 +20,19 @@ any_of destinations = record { parallel = false; destinations = destinations }
 
 pub data Chain (net : Net) : List Act → Fate → ℕ → Type 0 where
   no_act : Chain net [] Never 0
-  tally : (key : Key) (acts : List Act) (f : Fate) (n : ℕ) → Chain net acts f n → Chain net (Tally key ∷ acts) (both (tally_fate net key) f) n
-  hold : (holder : ℕ) (key : Key) (acts : List Act) (f g : Fate) (m n : ℕ) → IsHolder net holder → Chain net (acts_of_leaving net holder key) f m → Chain net acts g n → Chain net (Hold holder key ∷ acts) (both f g) (suc (m + n))
-  send_end : (key : Key) (acts : List Act) (f : Fate) (n : ℕ) → Chain net acts f n → Chain net (Send (all_of []) key ∷ acts) f n
-  send_out : (ds : List (Option ℕ)) (key : Key) (acts : List Act) (f : Fate) (n : ℕ) → Chain net (Send (all_of ds) key ∷ acts) f n → Chain net (Send (all_of (None ∷ ds)) key ∷ acts) f n
-  send_on : (link : ℕ) (ds : List (Option ℕ)) (key : Key) (acts : List Act) (f g : Fate) (m n : ℕ) → link < length net.links → Chain net (acts_of_arrival net key (slice_get net.links link)) f m → Chain net (Send (all_of ds) key ∷ acts) g n → Chain net (Send (all_of (Some link ∷ ds)) key ∷ acts) (both f g) (suc (m + n))
-  choose : (ds : List (Option ℕ)) (number : ℕ) (d : Option ℕ) (key : Key) (acts : List Act) (f : Fate) (n : ℕ) → entry_numbered ds number ≡ Some d → Chain net (Send (all_of (d ∷ [])) key ∷ acts) f n → Chain net (Send (any_of ds) key ∷ acts) f n
+  tally : (key : Key) (acts : List Act) (f : Fate) (n : ℕ) → Chain net acts f n
+      → Chain net (Tally key ∷ acts) (both (tally_fate net key) f) n
+  hold : (holder : ℕ) (key : Key) (acts : List Act) (f g : Fate) (m n : ℕ) → IsHolder net holder
+      → Chain net (acts_of_leaving net holder key) f m → Chain net acts g n
+      → Chain net (Hold holder key ∷ acts) (both f g) (suc (m + n))
+  send_end : (key : Key) (acts : List Act) (f : Fate) (n : ℕ) → Chain net acts f n
+      → Chain net (Send (all_of []) key ∷ acts) f n
+  send_out : (ds : List (Option ℕ)) (key : Key) (acts : List Act) (f : Fate) (n : ℕ)
+      → Chain net (Send (all_of ds) key ∷ acts) f n → Chain net (Send (all_of (None ∷ ds)) key ∷ acts) f n
+  send_on : (link : ℕ) (ds : List (Option ℕ)) (key : Key) (acts : List Act) (f g : Fate) (m n : ℕ) → link
+      < length net.links → Chain net (acts_of_arrival net key (slice_get net.links link)) f m
+      → Chain net (Send (all_of ds) key ∷ acts) g n
+      → Chain net (Send (all_of (Some link ∷ ds)) key ∷ acts) (both f g) (suc (m + n))
+  choose : (ds : List (Option ℕ)) (number : ℕ) (d : Option ℕ) (key : Key) (acts : List Act) (f : Fate) (n : ℕ)
+      → entry_numbered ds number ≡ Some d → Chain net (Send (all_of (d ∷ [])) key ∷ acts) f n
+      → Chain net (Send (any_of ds) key ∷ acts) f n

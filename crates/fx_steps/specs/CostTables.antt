@@ -44,14 +44,17 @@ destination_costs table net number (Some link) = one_step_more (process_costs ta
 
 abbrev pub all_destinations_costs : CostTable → Net → ℕ → List (Option ℕ) → Costs
 all_destinations_costs table net number [] = costs_of_never
-all_destinations_costs table net number (d ∷ ds) = both_costs (destination_costs table net number d) (all_destinations_costs table net number ds)
+all_destinations_costs table net number (d ∷ ds) =
+    both_costs (destination_costs table net number d) (all_destinations_costs table net number ds)
 
 abbrev pub one_destination_costs : CostTable → Net → ℕ → List (Option ℕ) → Costs
 one_destination_costs table net number [] = costs_of_no_way
-one_destination_costs table net number (d ∷ ds) = either_costs (destination_costs table net number d) (one_destination_costs table net number ds)
+one_destination_costs table net number (d ∷ ds) =
+    either_costs (destination_costs table net number d) (one_destination_costs table net number ds)
 
 abbrev pub send_costs : CostTable → Net → ℕ → Exporter → Costs
-send_costs table net number e = if e.parallel then all_destinations_costs table net number e.destinations else one_destination_costs table net number e.destinations
+send_costs table net number e = if e.parallel then all_destinations_costs table net number e.destinations
+    else one_destination_costs table net number e.destinations
 
 abbrev pub sent_costs : CostTable → Net → ℕ → List Exporter → Costs
 sent_costs table net number [] = costs_of_never
@@ -61,24 +64,29 @@ sent_costs table net number (e ∷ es) = both_costs (send_costs table net number
 
 -- a record that a holder adds
 abbrev pub holder_costs : CostTable → Net → Numbering → ℕ → Costs
-holder_costs table net n holder = one_step_more (sent_costs table net (number_of_layout n holder) (exporters_of net (slice_get net.holders holder)))
+holder_costs table net n holder = one_step_more
+    (sent_costs table net (number_of_layout n holder) (exporters_of net (slice_get net.holders holder)))
 
 abbrev pub all_taken_costs : CostTable → Net → Numbering → Key → List AggregationEntry → Costs
 all_taken_costs table net n key [] = costs_of_never
 all_taken_costs table net n key (a ∷ as') =
-    if takes net key a then both_costs (holder_costs table net n a.holder) (all_taken_costs table net n key as') else all_taken_costs table net n key as'
+    if takes net key a then both_costs (holder_costs table net n a.holder) (all_taken_costs table net n key as')
+    else all_taken_costs table net n key as'
 
 abbrev pub tally_costs : Net → Layout → ℕ → Costs
-tally_costs net layout process = if process == net.report then (if refines layout net.report_layout then costs_of_once else costs_of_unassigned) else costs_of_never
+tally_costs net layout process = if process == net.report
+    then (if refines layout net.report_layout then costs_of_once else costs_of_unassigned) else costs_of_never
 
 abbrev pub handled_costs : CostTable → Net → Numbering → Fields → ℕ → Layout → Option Process → Costs
 handled_costs table net n fields number layout None = costs_of_never
 handled_costs table net n fields number layout (Some p) =
-    both_costs (sent_costs table net number (at_places net.exporters p.exporters)) (all_taken_costs table net n (key_of layout fields) p.aggregations)
+    both_costs (sent_costs table net number (at_places net.exporters p.exporters))
+    (all_taken_costs table net n (key_of layout fields) p.aggregations)
 
 abbrev pub cost_entry_from : CostTable → Net → Numbering → Fields → ℕ → ℕ → Layout → Costs
 cost_entry_from table net n fields process number layout =
-    both_costs (tally_costs net layout process) (handled_costs table net n fields number layout (slice_get net.processes process))
+    both_costs (tally_costs net layout process)
+    (handled_costs table net n fields number layout (slice_get net.processes process))
 
 -- a row, starting at the layout of this number
 abbrev pub cost_row : CostTable → Net → Numbering → Fields → ℕ → ℕ → List Layout → List Costs
@@ -102,4 +110,5 @@ occurrence_costs table net n (o ∷ os) = both_costs (holder_costs table net n o
 abbrev pub path_costs : CostTable → Net → Numbering → Fields → List Crossing → Costs
 path_costs table net n fields [] = costs_of_never
 path_costs table net n fields (c ∷ cs) =
-    both_costs (one_step_more (occurrence_costs table net n (occurrences net c fields))) (path_costs table net n fields cs)
+    both_costs (one_step_more (occurrence_costs table net n (occurrences net c fields)))
+    (path_costs table net n fields cs)

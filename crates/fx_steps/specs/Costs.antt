@@ -28,20 +28,39 @@ abbrev pub pairs : Fate → List (Fate × Fate)
 pairs Never = (Never, Never) ∷ []
 pairs Once = (Never, Once) ∷ (Once, Never) ∷ []
 pairs Many = (Never, Many) ∷ (Many, Never) ∷ (Once, Once) ∷ (Once, Many) ∷ (Many, Once) ∷ (Many, Many) ∷ []
-pairs Unassigned = (Unassigned, Never) ∷ (Unassigned, Once) ∷ (Unassigned, Many) ∷ (Unassigned, Unassigned) ∷ (Never, Unassigned) ∷ (Once, Unassigned) ∷ (Many, Unassigned) ∷ []
+pairs Unassigned = (Unassigned, Never) ∷ (Unassigned, Once) ∷ (Unassigned, Many) ∷ (Unassigned, Unassigned)
+    ∷ (Never, Unassigned) ∷ (Once, Unassigned) ∷ (Many, Unassigned) ∷ []
 pairs Differing = []
 
 abbrev pub both_cost : Costs → Costs → Fate → ℕ
 both_cost a b f = least_number (map (λ (p : Fate × Fate). limited_sum (cost_of a p.0) (cost_of b p.1)) (pairs f))
 
 abbrev pub both_costs : Costs → Costs → Costs
-both_costs a b = record { never = both_cost a b Never; once = both_cost a b Once; many = both_cost a b Many; unassigned = both_cost a b Unassigned }
+both_costs a b = record {
+  never = both_cost a b Never;
+  once = both_cost a b Once;
+  many =
+      both_cost a b Many;
+  unassigned = both_cost a b Unassigned;
+}
 
 abbrev pub either_costs : Costs → Costs → Costs
-either_costs a b = record { never = min a.never b.never; once = min a.once b.once; many = min a.many b.many; unassigned = min a.unassigned b.unassigned }
+either_costs a b = record {
+  never = min a.never b.never;
+  once = min a.once b.once;
+  many =
+      min a.many b.many;
+  unassigned = min a.unassigned b.unassigned;
+}
 
 abbrev pub one_step_more : Costs → Costs
-one_step_more c = record { never = limited_sum 1 c.never; once = limited_sum 1 c.once; many = limited_sum 1 c.many; unassigned = limited_sum 1 c.unassigned }
+one_step_more c = record {
+  never = limited_sum 1 c.never;
+  once = limited_sum 1 c.once;
+  many =
+      limited_sum 1 c.many;
+  unassigned = limited_sum 1 c.unassigned;
+}
 
 abbrev pub costs_of_never : Costs
 costs_of_never = record { never = 0; once = over_limit; many = over_limit; unassigned = over_limit }

@@ -24,7 +24,8 @@ pub record Keep (net : Net) (old new : List HolderName) : Type 0 where
 
 -- the holder with this name is named
 abbrev pub Note : Net → List HolderName → HolderName → Type 0
-Note net names name = (holder : ℕ) → holder_place net name ≡ Some holder → holder < length names → IsNamed net names holder
+Note net names name = (holder : ℕ) → holder_place net name ≡ Some holder → holder < length names
+    → IsNamed net names holder
 
 abbrev pub device_of : HolderName → ℕ
 device_of (Cache device cache) = device

@@ -48,11 +48,13 @@ sent_choices table net number (e ∷ es) f =
 -- the records sent by the first exporting process, if there is one, given the costs of the others
 abbrev pub first_pending : CostTable → Net → ℕ → Option Exporter → Costs → Fate → List Pending
 first_pending table net number None others f = []
-first_pending table net number (Some e) others f = pending_on_links number (records_by_exporter table net number e (shares (send_costs table net number e) others f).0)
+first_pending table net number (Some e) others f =
+    pending_on_links number (records_by_exporter table net number e (shares (send_costs table net number e) others f).0)
 
 abbrev pub first_choices : CostTable → Net → ℕ → Option Exporter → Costs → Fate → Choices
 first_choices table net number None others f = []
-first_choices table net number (Some e) others f = choices_by_exporter table net number e (shares (send_costs table net number e) others f).0
+first_choices table net number (Some e) others f =
+    choices_by_exporter table net number e (shares (send_costs table net number e) others f).0
 
 abbrev pub fate_left_by : CostTable → Net → ℕ → Option Exporter → Costs → Fate → Fate
 fate_left_by table net number None others f = f
@@ -64,7 +66,8 @@ abbrev pub all_taken_pending : CostTable → Net → Numbering → Key → List 
 all_taken_pending table net n key [] f = []
 all_taken_pending table net n key (a ∷ as') f =
     let p = shares (holder_costs table net n a.holder) (all_taken_costs table net n key as') f in
-    if takes net key a then AtHolder a.holder p.0 ∷ all_taken_pending table net n key as' p.1 else all_taken_pending table net n key as' f
+    if takes net key a then AtHolder a.holder p.0
+    ∷ all_taken_pending table net n key as' p.1 else all_taken_pending table net n key as' f
 
 abbrev pub all_taken_choices : CostTable → Net → Numbering → Key → List AggregationEntry → Choices
 all_taken_choices table net n key [] = []
@@ -76,19 +79,24 @@ all_taken_choices table net n key (a ∷ as') =
 abbrev pub handled_pending : CostTable → Net → Numbering → Fields → ℕ → Layout → Option Process → Fate → List Pending
 handled_pending table net n fields number layout None f = []
 handled_pending table net n fields number layout (Some p) f =
-    let q = shares (sent_costs table net number (at_places net.exporters p.exporters)) (all_taken_costs table net n (key_of layout fields) p.aggregations) f in
-    sent_pending table net number (at_places net.exporters p.exporters) q.0 ++ all_taken_pending table net n (key_of layout fields) p.aggregations q.1
+    let q = shares (sent_costs table net number (at_places net.exporters p.exporters))
+    (all_taken_costs table net n (key_of layout fields) p.aggregations) f in
+    sent_pending table net number (at_places net.exporters p.exporters) q.0
+    ++ all_taken_pending table net n (key_of layout fields) p.aggregations q.1
 
 abbrev pub handled_choices : CostTable → Net → Numbering → Fields → ℕ → Layout → Option Process → Fate → Choices
 handled_choices table net n fields number layout None f = []
 handled_choices table net n fields number layout (Some p) f =
-    let q = shares (sent_costs table net number (at_places net.exporters p.exporters)) (all_taken_costs table net n (key_of layout fields) p.aggregations) f in
-    sent_choices table net number (at_places net.exporters p.exporters) q.0 ++ all_taken_choices table net n (key_of layout fields) p.aggregations
+    let q = shares (sent_costs table net number (at_places net.exporters p.exporters))
+    (all_taken_costs table net n (key_of layout fields) p.aggregations) f in
+    sent_choices table net number (at_places net.exporters p.exporters) q.0
+    ++ all_taken_choices table net n (key_of layout fields) p.aggregations
 
 -- the fate that remains after the report's tally
 abbrev pub fate_behind_tally : CostTable → Net → Numbering → Fields → ℕ → ℕ → Layout → Fate → Fate
 fate_behind_tally table net n fields process number layout f =
-    (shares (tally_costs net layout process) (handled_costs table net n fields number layout (slice_get net.processes process)) f).1
+    (shares (tally_costs net layout process)
+    (handled_costs table net n fields number layout (slice_get net.processes process)) f).1
 
 -- ---- what caches add for a packet
 
@@ -135,11 +143,15 @@ pending_items net n fields xs = map (item_of net n fields) xs
 
 abbrev pub arrival_pending : CostTable → Net → Numbering → Fields → ℕ → Layout → Option ℕ → Fate → List Pending
 arrival_pending table net n fields number layout None f = []
-arrival_pending table net n fields number layout (Some process) f = handled_pending table net n fields number layout (slice_get net.processes process) (fate_behind_tally table net n fields process number layout f)
+arrival_pending table net n fields number layout (Some process) f =
+    handled_pending table net n fields number layout (slice_get net.processes process)
+    (fate_behind_tally table net n fields process number layout f)
 
 abbrev pub arrival_choices : CostTable → Net → Numbering → Fields → ℕ → Layout → Option ℕ → Fate → Choices
 arrival_choices table net n fields number layout None f = []
-arrival_choices table net n fields number layout (Some process) f = handled_choices table net n fields number layout (slice_get net.processes process) (fate_behind_tally table net n fields process number layout f)
+arrival_choices table net n fields number layout (Some process) f =
+    handled_choices table net n fields number layout (slice_get net.processes process)
+    (fate_behind_tally table net n fields process number layout f)
 
 abbrev pub arrival_keys : Net → Fields → Layout → Option ℕ → List Key
 arrival_keys net fields layout None = []
@@ -147,21 +159,28 @@ arrival_keys net fields layout (Some process) = if process == net.report then ke
 
 -- the records that result from the step, the choices of the step, and the keys that are tallied
 abbrev pub step_pending : CostTable → Net → Numbering → Fields → Pending → List Pending
-step_pending table net n fields (AtHolder holder f) = sent_pending table net (number_of_layout n holder) (exporters_of net (slice_get net.holders holder)) f
-step_pending table net n fields (OnLink link number f) = arrival_pending table net n fields number (layout_in (slice_get n.layouts number)) (slice_get net.links link) f
+step_pending table net n fields (AtHolder holder f) =
+    sent_pending table net (number_of_layout n holder) (exporters_of net (slice_get net.holders holder)) f
+step_pending table net n fields (OnLink link number f) =
+    arrival_pending table net n fields number (layout_in (slice_get n.layouts number)) (slice_get net.links link) f
 
 abbrev pub step_choices : CostTable → Net → Numbering → Fields → Pending → Choices
-step_choices table net n fields (AtHolder holder f) = sent_choices table net (number_of_layout n holder) (exporters_of net (slice_get net.holders holder)) f
-step_choices table net n fields (OnLink link number f) = arrival_choices table net n fields number (layout_in (slice_get n.layouts number)) (slice_get net.links link) f
+step_choices table net n fields (AtHolder holder f) =
+    sent_choices table net (number_of_layout n holder) (exporters_of net (slice_get net.holders holder)) f
+step_choices table net n fields (OnLink link number f) =
+    arrival_choices table net n fields number (layout_in (slice_get n.layouts number)) (slice_get net.links link) f
 
 abbrev pub step_keys : Net → Numbering → Fields → Pending → List Key
 step_keys net n fields (AtHolder holder f) = []
-step_keys net n fields (OnLink link number f) = arrival_keys net fields (layout_in (slice_get n.layouts number)) (slice_get net.links link)
+step_keys net n fields (OnLink link number f) =
+    arrival_keys net fields (layout_in (slice_get n.layouts number)) (slice_get net.links link)
 
 -- the acts of the record's step
 abbrev pub step_acts : Net → Numbering → Fields → Pending → List Act
-step_acts net n fields (AtHolder holder f) = acts_of_leaving net holder (key_of (layout_of (slice_get net.holders holder)) fields)
-step_acts net n fields (OnLink link number f) = acts_of_arrival net (key_of (layout_in (slice_get n.layouts number)) fields) (slice_get net.links link)
+step_acts net n fields (AtHolder holder f) =
+    acts_of_leaving net holder (key_of (layout_of (slice_get net.holders holder)) fields)
+step_acts net n fields (OnLink link number f) =
+    acts_of_arrival net (key_of (layout_in (slice_get n.layouts number)) fields) (slice_get net.links link)
 
 abbrev pub keys_fate : Net → List Key → Fate
 keys_fate net [] = Never
@@ -170,16 +189,22 @@ keys_fate net (k ∷ ks) = both (tally_fate net k) (keys_fate net ks)
 -- the record's place exists, and so does its layout
 abbrev pub IsThere : Net → Numbering → Pending → Type 0
 IsThere net n (AtHolder holder f) = IsHolder net holder
-IsThere net n (OnLink link number f) = (link < length net.links) × ((layout : Layout) × (slice_get n.layouts number ≡ Some layout) × Fits layout)
+IsThere net n (OnLink link number f) = (link < length net.links)
+    × ((layout : Layout) × (slice_get n.layouts number ≡ Some layout) × Fits layout)
 
 -- the record can make this step: the resulting records cost one step less, and with the tallied keys have the same fate
 pub record Steps (table : CostTable) (net : Net) (n : Numbering) (fields : Fields) (x : Pending) : Type 0 where
-  pub spreads : Spreads net (acts (step_acts net n fields x)) (step_choices table net n fields x) (pending_items net n fields (step_pending table net n fields x)) (step_keys net n fields x)
+  pub spreads : Spreads net (acts (step_acts net n fields x)) (step_choices table net n fields x)
+      (pending_items net n fields (step_pending table net n fields x)) (step_keys net n fields x)
   pub cost : suc (total_cost table net n (step_pending table net n fields x)) ≡ pending_cost table net n x
-  pub fate : both (keys_fate net (step_keys net n fields x)) (total_fate (step_pending table net n fields x)) ≡ pending_fate x
+  pub fate : both (keys_fate net (step_keys net n fields x)) (total_fate (step_pending table net n fields x))
+      ≡ pending_fate x
 
 -- the packet can make this crossing with these choices
-pub record Crosses (table : CostTable) (net : Net) (n : Numbering) (fields : Fields) (c : Crossing) (f : Fate) : Type 0 where
-  pub spreads : Spreads net (acts (crossing_acts net fields (Some c))) (occurrence_choices (occurrences net c fields)) (pending_items net n fields (occurrence_pending table net n (occurrences net c fields) f)) []
-  pub cost : total_cost table net n (occurrence_pending table net n (occurrences net c fields) f) ≡ cost_of (occurrence_costs table net n (occurrences net c fields)) f
-  pub fate : total_fate (occurrence_pending table net n (occurrences net c fields) f) ≡ f
+pub record Crosses (table : CostTable) (net : Net) (n : Numbering) (fields : Fields) (c : Crossing) (f : Fate) : Type 0
+  where
+    pub spreads : Spreads net (acts (crossing_acts net fields (Some c))) (occurrence_choices (occurrences net c fields))
+        (pending_items net n fields (occurrence_pending table net n (occurrences net c fields) f)) []
+    pub cost : total_cost table net n (occurrence_pending table net n (occurrences net c fields) f)
+        ≡ cost_of (occurrence_costs table net n (occurrences net c fields)) f
+    pub fate : total_fate (occurrence_pending table net n (occurrences net c fields) f) ≡ f

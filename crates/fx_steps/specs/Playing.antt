@@ -35,4 +35,5 @@ pub record RunOf (net : Net) (classes : List Class) (p : Packet) (fate : Fate) (
   pub runs : run net classes (p ∷ []) steps (opening net classes (p ∷ [])) ≡ Ok final
   pub complete : Complete final
   pub number_is : length steps ≡ number
-  pub wrong : fate ≢ wanted_fate (exempts (entry_numbered classes p.class)) → CountsEachOnce net (to_count classes (p ∷ [])) final → ⊥
+  pub wrong : fate ≢ wanted_fate (exempts (entry_numbered classes p.class))
+      → CountsEachOnce net (to_count classes (p ∷ [])) final → ⊥

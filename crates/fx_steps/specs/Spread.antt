@@ -47,11 +47,13 @@ records_to_one None f = []
 records_to_one (Some d) f = records_to_destination d f
 
 abbrev pub choice_of : CostTable → Net → ℕ → List (Option ℕ) → Fate → ℕ
-choice_of table net number ds f = cheapest_place table net number ds f (cost_of (one_destination_costs table net number ds) f)
+choice_of table net number ds f = cheapest_place table net number ds f
+    (cost_of (one_destination_costs table net number ds) f)
 
 -- for an exporting process: its choices, and the records that it puts on links
 abbrev pub choices_by_exporter : CostTable → Net → ℕ → Exporter → Fate → Choices
-choices_by_exporter table net number e f = if e.parallel then [] else Some (suc (choice_of table net number e.destinations f)) ∷ []
+choices_by_exporter table net number e f =
+    if e.parallel then [] else Some (suc (choice_of table net number e.destinations f)) ∷ []
 
 abbrev pub records_by_exporter : CostTable → Net → ℕ → Exporter → Fate → List SentRecord
 records_by_exporter table net number e f =
@@ -62,7 +64,8 @@ records_by_exporter table net number e f =
 
 abbrev pub records_cost : CostTable → Net → ℕ → List SentRecord → ℕ
 records_cost table net number [] = 0
-records_cost table net number (x ∷ xs) = cost_of (destination_costs table net number (Some x.link)) x.fate + records_cost table net number xs
+records_cost table net number (x ∷ xs) = cost_of (destination_costs table net number (Some x.link)) x.fate
+    + records_cost table net number xs
 
 abbrev pub joint_fate : List SentRecord → Fate
 joint_fate [] = Never

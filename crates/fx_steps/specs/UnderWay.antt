@@ -38,12 +38,16 @@ state_of_tallies net p tallies unassigned coming = record {
   unassigned = unassigned;
 }
 
--- the steps lead to a state with these records in transit and these crossings pending; combined with the fates required of
+-- the steps lead to a state with these records in transit and these crossings pending; combined with the fates required
+-- of
 -- these records, the packet has this fate
-pub record UnderWay (net : Net) (n : Numbering) (classes : List Class) (p : Packet) (coming : List Coming) (fate : Fate) (steps : List Step) (xs : List Pending) : Type 0 where
+pub record UnderWay (net : Net) (n : Numbering) (classes : List Class) (p : Packet) (coming : List Coming) (fate : Fate)
+    (steps : List Step) (xs : List Pending) : Type 0 where
   pub tallies : ℕ
   pub unassigned : ℕ
-  pub runs : run net classes (p ∷ []) steps (opening net classes (p ∷ [])) ≡ Ok (with_items (one_packet p) (pending_items net n p.fields xs) (state_of_tallies net p tallies unassigned coming))
+  pub runs : run net classes (p ∷ []) steps (opening net classes (p ∷ []))
+      ≡ Ok (with_items (one_packet p) (pending_items net n p.fields xs)
+      (state_of_tallies net p tallies unassigned coming))
   pub joint : both (fate_of tallies unassigned) (total_fate xs) ≡ fate
   pub few : tallies ≤ length steps
 
@@ -53,7 +57,8 @@ pub record HasCosts (t : Tables) (fields : Fields) (table : CostTable) : Type 0 
   pub room : length before ≡ length t.net.processes
   pub filled : table ≡ cost_fill t.net t.numbering fields t.order before
 
--- everything is available from which a run of the packet is built: the table filled for the packet, and the holders' names
+-- everything is available from which a run of the packet is built: the table filled for the packet, and the holders'
+-- names
 pub record IsPrepared (c : PacketCosts) (names : List HolderName) : Type 0 where
   pub tables : AreTables c.tables
   pub runnable : IsRunnable c.tables.net
@@ -61,7 +66,8 @@ pub record IsPrepared (c : PacketCosts) (names : List HolderName) : Type 0 where
   pub named : NameAll c.tables.net names
 
 -- these records can leave, after this number of steps, within the limit
-pub record CanLeave (table : CostTable) (net : Net) (n : Numbering) (steps : ℕ) (xs : List Pending) (w : Waiting) : Type 0 where
+pub record CanLeave (table : CostTable) (net : Net) (n : Numbering) (steps : ℕ) (xs : List Pending) (w : Waiting) : Type
+    0 where
   pub there : AllByRecursion (IsThere net n) xs
   pub waiting : Wait net xs w
   pub few : steps + total_cost table net n xs ≤ step_limit
@@ -69,21 +75,25 @@ pub record CanLeave (table : CostTable) (net : Net) (n : Numbering) (steps : ℕ
 -- this is the step of a record that was added after all of these
 abbrev pub IsStepOf : CostTable → Net → Numbering → Fields → List Pending → Pending → Step → Type 0
 IsStepOf table net n fields xs (AtHolder holder f) step =
-    (name : HolderName) × (count : ℕ) × (holder_place net name ≡ Some holder) × (slice_get (holder_counts (zeros_for net.holders) xs) holder ≡ Some count)
+    (name : HolderName) × (count : ℕ) × (holder_place net name ≡ Some holder)
+    × (slice_get (holder_counts (zeros_for net.holders) xs) holder ≡ Some count)
     × (step ≡ Expire name (suc count) (step_choices table net n fields (AtHolder holder f)))
 IsStepOf table net n fields xs (OnLink link number f) step =
     (count : ℕ) × (slice_get (link_counts (zeros_for net.links) xs) link ≡ Some count)
     × (step ≡ Arrive (suc link) (suc count) (step_choices table net n fields (OnLink link number f)))
 
 -- this step was made, and these records are in transit after it
-pub record Leaves (table : CostTable) (net : Net) (n : Numbering) (fields : Fields) (xs : List Pending) (x : Pending) (old new : List Step) : Type 0 where
+pub record Leaves (table : CostTable) (net : Net) (n : Numbering) (fields : Fields) (xs : List Pending) (x : Pending)
+    (old new : List Step) : Type 0 where
   pub step : Step
   pub is : IsStepOf table net n fields xs x step
   pub last : new ≡ old ++ step ∷ []
 
--- this is the step by which the last record added leaves; the resulting records are appended to those in transit, but not
+-- this is the step by which the last record added leaves; the resulting records are appended to those in transit, but
+-- not
 -- yet counted as waiting
 pub record TopLeaves (c : PacketCosts) (old new : Building) (x : Pending) (step : Step) : Type 0 where
   pub is : IsStepOf c.table c.tables.net c.tables.numbering c.packet.fields old.plan.pending.items x step
-  pub pending : new.plan.pending.items ≡ old.plan.pending.items ++ step_pending c.table c.tables.net c.tables.numbering c.packet.fields x
+  pub pending : new.plan.pending.items ≡ old.plan.pending.items
+      ++ step_pending c.table c.tables.net c.tables.numbering c.packet.fields x
   pub waiting : Wait c.tables.net old.plan.pending.items new.waiting

@@ -28,7 +28,8 @@ pub record HasOneMore (counts : List ℕ) (place : ℕ) : Type 0 where
 -- the last record added at this index leaves, from this position
 pub record LastLeaves (old new : List ℕ) (place position : ℕ) : Type 0 where
   pub left : (before : List ℕ) → place < length before → old ≡ one_more_at before place → new ≡ before
-  pub last : (before : List ℕ) (count : ℕ) → slice_get before place ≡ Some count → old ≡ one_more_at before place → position ≡ suc count
+  pub last : (before : List ℕ) (count : ℕ) → slice_get before place ≡ Some count → old ≡ one_more_at before place
+      → position ≡ suc count
 
 -- these records are added to the counts of holders, and of links
 abbrev pub holder_counts : List ℕ → List Pending → List ℕ

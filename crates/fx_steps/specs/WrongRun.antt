@@ -14,7 +14,8 @@ use Rattle.fx_leaf.specs.Fates.{wanted_fate}
 use Rattle.fx_machine.specs.Limits.{step_limit}
 use Rattle.fx_steps.specs.Ways.{PacketComes}
 
--- the steps, no more than a run may have, lead from the opening state of this one packet to a complete state, in which the
+-- the steps, no more than a run may have, lead from the opening state of this one packet to a complete state, in which
+-- the
 -- packet isn't counted as it should be
 pub record IsWrongRun (net : Net) (classes : List Class) (p : Packet) (steps : List Step) : Type 0 where
   pub last : State
@@ -23,7 +24,8 @@ pub record IsWrongRun (net : Net) (classes : List Class) (p : Packet) (steps : L
   pub wrong : CountsEachOnce net (to_count classes (p ∷ [])) last → ⊥
   pub few : length steps ≤ step_limit
 
--- a packet with these fields, on this path, needs at least this number of steps to have a fate other than the required one
+-- a packet with these fields, on this path, needs at least this number of steps to have a fate other than the required
+-- one
 abbrev pub IsLeast : Net → Fields → List Crossing → Bool → ℕ → Type 0
 IsLeast net fields path exempt number =
     (f : Fate) (n : ℕ) → f ≢ wanted_fate exempt → PacketComes net fields path f n → number ≤ n

@@ -27,27 +27,41 @@ turned k q x y = ap (λ b. cond b x y) ((eq_by_cmp_equiv key_cmp_total).symm k q
 
 -- ---- changes
 
-pub insert_is : (m n : List Entry) (k : Key) (v : Counts) → ((q : Key) → lookup (is_at (key_cmp q)) n ≡ cond (is_at (key_cmp k) q) (Some v) (lookup (is_at (key_cmp q)) m)) → flows_of n ≡ insert (flows_of m) k v
+pub insert_is : (m n : List Entry) (k : Key) (v : Counts)
+    → ((q : Key) → lookup (is_at (key_cmp q)) n ≡ cond (is_at (key_cmp k) q) (Some v) (lookup (is_at (key_cmp q)) m))
+    → flows_of n ≡ insert (flows_of m) k v
 insert_is m n k v h =
-    same_map key_cmp_total key_cmp_apart _ _ (λ q. found q n ∙ h q ∙ turned k q _ _ ∙ ap (cond (eq_by_cmp key_cmp q k) (Some v)) (sym (found q m)) ∙ sym (get-insert key_cmp_total (flows_of m) k v q))
+    same_map key_cmp_total key_cmp_apart _ _
+    (λ q. found q n ∙ h q ∙ turned k q _ _ ∙ ap (cond (eq_by_cmp key_cmp q k) (Some v)) (sym (found q m))
+    ∙ sym (get-insert key_cmp_total (flows_of m) k v q))
 
-pub remove_is : (m n : List Entry) (k : Key) → ((q : Key) → lookup (is_at (key_cmp q)) n ≡ cond (is_at (key_cmp k) q) None (lookup (is_at (key_cmp q)) m)) → flows_of n ≡ remove (flows_of m) k
+pub remove_is : (m n : List Entry) (k : Key)
+    → ((q : Key) → lookup (is_at (key_cmp q)) n ≡ cond (is_at (key_cmp k) q) None (lookup (is_at (key_cmp q)) m))
+    → flows_of n ≡ remove (flows_of m) k
 remove_is m n k h =
-    same_map key_cmp_total key_cmp_apart _ _ (λ q. found q n ∙ h q ∙ turned k q _ _ ∙ ap (cond (eq_by_cmp key_cmp q k) None) (sym (found q m)) ∙ sym (get-remove key_cmp_total (flows_of m) k q))
+    same_map key_cmp_total key_cmp_apart _ _
+    (λ q. found q n ∙ h q ∙ turned k q _ _ ∙ ap (cond (eq_by_cmp key_cmp q k) None) (sym (found q m))
+    ∙ sym (get-remove key_cmp_total (flows_of m) k q))
 
 -- counts added at a key, where no entry leaves
-pub adds_alone : (m n : List Entry) (k : Key) (c v : Counts) → ((q : Key) → lookup (is_at (key_cmp q)) n ≡ cond (is_at (key_cmp k) q) (Some v) (lookup (is_at (key_cmp q)) m)) → v ≡ with_more (lookup (is_at (key_cmp k)) m) c → Adds (flows_of m) (flows_of n) k c None
+pub adds_alone : (m n : List Entry) (k : Key) (c v : Counts)
+    → ((q : Key) → lookup (is_at (key_cmp q)) n ≡ cond (is_at (key_cmp k) q) (Some v) (lookup (is_at (key_cmp q)) m))
+    → v ≡ with_more (lookup (is_at (key_cmp k)) m) c → Adds (flows_of m) (flows_of n) k c None
 adds_alone m n k c v h is = record {
-  flows = insert_is m n k v h ∙ ap (insert (flows_of m) k) (is ∙ ap (λ (o : Option Counts). with_more o c) (sym (found k m)));
+  flows = insert_is m n k v h ∙ ap (insert (flows_of m) k)
+      (is ∙ ap (λ (o : Option Counts). with_more o c) (sym (found k m)));
   whole = tt;
 }
 
-pub not_there : {X : Type 0} (k : Key) (es : List Entry) → lookup (is_at (key_cmp k)) es ≡ None → IsSome (get (flows_of es) k) → X
-not_there k es none there = let gone : is_some (get (flows_of es) k) ≡ false = ap is_some (found k es ∙ none) in absurd (cc)
+pub not_there : {X : Type 0} (k : Key) (es : List Entry) → lookup (is_at (key_cmp k)) es ≡ None
+    → IsSome (get (flows_of es) k) → X
+not_there k es none there = let gone : is_some (get (flows_of es) k) ≡ false = ap is_some (found k es ∙ none) in
+    absurd (cc)
 
 -- ---- the number of keys
 
-absent_key : (k : Key) (es : List Entry) → AllByRecursion (λ y. eq_by_cmp key_cmp k y ≡ false) (keys_of es) → find key_cmp k es ≡ None
+absent_key : (k : Key) (es : List Entry) → AllByRecursion (λ y. eq_by_cmp key_cmp k y ≡ false) (keys_of es)
+    → find key_cmp k es ≡ None
 absent_key k [] h = refl
 absent_key k (e ∷ es) h = ap (λ b. cond b (Some e.1) (find key_cmp k es)) h.0 ∙ absent_key k es h.1
 
@@ -57,7 +71,9 @@ len_is [] h = len-empty key_cmp Counts
 len_is (e ∷ es) h =
     let rest = len_is es h.1 in
     let new : get (flows_of es) e.0 ≡ None = get-from_entries key_cmp_total es e.0 ∙ absent_key e.0 es h.0 in
-    let more : len (insert (flows_of es) e.0 e.1) ≡ len (flows_of es) + 1 = len-insert key_cmp_total (flows_of es) e.0 e.1 ∙ ap (λ (o : Option Counts). cond (is_some o) (len (flows_of es)) (len (flows_of es) + 1)) new in
+    let more : len (insert (flows_of es) e.0 e.1) ≡ len (flows_of es) + 1 =
+    len-insert key_cmp_total (flows_of es) e.0 e.1
+    ∙ ap (λ (o : Option Counts). cond (is_some o) (len (flows_of es)) (len (flows_of es) + 1)) new in
     more ∙ omega (arith, rest)
 
 -- ---- the least key
@@ -76,7 +92,8 @@ both_tests true b h = (refl, h)
 both_tests false b h = absurd h
 
 lower_is : (a b : Key) → is_lt (key_cmp a b) ≡ true → key_cmp a b ≡ Less
-lower_is a b h = elim (key_cmp a b) as (λ o. is_lt o ≡ true → o ≡ Less) [ Less ↦ λ _. refl | Equal ↦ λ e. absurd (cc) | Greater ↦ λ e. absurd (cc) ] h
+lower_is a b h = elim (key_cmp a b) as (λ o. is_lt o ≡ true → o ≡ Less)
+    [ Less ↦ λ _. refl | Equal ↦ λ e. absurd (cc) | Greater ↦ λ e. absurd (cc) ] h
 
 -- a key below one that is below all is not there
 missed : (k e : Key) (es : List Entry) → key_cmp k e ≡ Less → T (below_all key_cmp e es) → find key_cmp k es ≡ None
@@ -86,12 +103,14 @@ missed k e (f ∷ es) lt h =
     let far : key_cmp k f.0 ≡ Less = key_cmp_total.trans k e f.0 lt (lower_is e f.0 two.0) in
     ap (λ o. cond (is_eq o) (Some f.1) (find key_cmp k es)) far ∙ missed k e es lt two.1
 
-first_is : (es : List Entry) (k : Key) (v : Counts) → T (is_sorted key_cmp es) → find key_cmp k es ≡ Some v → ((q : Key) → IsSome (find key_cmp q es) → is_gt (key_cmp k q) ≡ false) → slice_get es 0 ≡ Some (k, v)
+first_is : (es : List Entry) (k : Key) (v : Counts) → T (is_sorted key_cmp es) → find key_cmp k es ≡ Some v
+    → ((q : Key) → IsSome (find key_cmp q es) → is_gt (key_cmp k q) ≡ false) → slice_get es 0 ≡ Some (k, v)
 first_is [] k v s f low = absurd (cc)
 first_is (e ∷ es) k v s f low =
     elim (key_cmp k e.0) as (λ o. key_cmp k e.0 ≡ o → Some e ≡ Some (k, v)) [
       | Less ↦ λ p.
-          let gone : find key_cmp k (e ∷ es) ≡ None = ap (λ o. cond (is_eq o) (Some e.1) (find key_cmp k es)) p ∙ missed k e.0 es p (both s).0 in
+          let gone : find key_cmp k (e ∷ es) ≡ None = ap (λ o. cond (is_eq o) (Some e.1) (find key_cmp k es)) p
+          ∙ missed k e.0 es p (both s).0 in
           let no : None ≡ Some v = sym gone ∙ f in
           absurd (cc)
       | Equal ↦ λ p.
@@ -100,20 +119,26 @@ first_is (e ∷ es) k v s f low =
           let value : e.1 ≡ v = cc in
           ap (λ (x : Key × Counts). Some x) (λ i. (sym key i, value i))
       | Greater ↦ λ p.
-          let own : IsSome (find key_cmp e.0 (e ∷ es)) = ap (λ o. is_some (cond (is_eq o) (Some e.1) (find key_cmp e.0 es))) (tied_itself key_cmp_total e.0) in
+          let own : IsSome (find key_cmp e.0 (e ∷ es)) =
+          ap (λ o. is_some (cond (is_eq o) (Some e.1) (find key_cmp e.0 es))) (tied_itself key_cmp_total e.0) in
           let not_above : is_gt (key_cmp k e.0) ≡ false = low e.0 own in
           let above : is_gt (key_cmp k e.0) ≡ true = ap is_gt p in
           let no : true ≡ false = sym above ∙ not_above in
           absurd (cc)
     ] refl
   where
-    both : T (below_all key_cmp e.0 es && is_sorted key_cmp es) → T (below_all key_cmp e.0 es) × T (is_sorted key_cmp es)
-    both h = elim (below_all key_cmp e.0 es) as (λ b. T (b && is_sorted key_cmp es) → T b × T (is_sorted key_cmp es)) [ true ↦ λ g. (tt, g) | false ↦ λ g. absurd g ] h
+    both : T (below_all key_cmp e.0 es && is_sorted key_cmp es) → T (below_all key_cmp e.0 es)
+        × T (is_sorted key_cmp es)
+    both h = elim (below_all key_cmp e.0 es) as (λ b. T (b && is_sorted key_cmp es) → T b × T (is_sorted key_cmp es))
+        [ true ↦ λ g. (tt, g) | false ↦ λ g. absurd g ] h
 
 in_order : (q : Key) (es : List Entry) → find key_cmp q (entries (flows_of es)) ≡ lookup (is_at (key_cmp q)) es
 in_order q es = sym (get-entries (flows_of es) q) ∙ found q es
 
 -- a key that is there and that no key is below has the first entry
-pub least_is : (es : List Entry) (k : Key) (v : Counts) → lookup (is_at (key_cmp k)) es ≡ Some v → ((q : Key) → IsSome (lookup (is_at (key_cmp q)) es) → is_gt (key_cmp k q) ≡ false) → least (flows_of es) ≡ Some (k, v)
+pub least_is : (es : List Entry) (k : Key) (v : Counts) → lookup (is_at (key_cmp k)) es ≡ Some v
+    → ((q : Key) → IsSome (lookup (is_at (key_cmp q)) es) → is_gt (key_cmp k q) ≡ false) → least (flows_of es)
+    ≡ Some (k, v)
 least_is es k v h low =
-    first_is (entries (flows_of es)) k v (entries_sorted (flows_of es)) (in_order k es ∙ h) (λ q there. low q (sym (ap is_some (in_order q es)) ∙ there))
+    first_is (entries (flows_of es)) k v (entries_sorted (flows_of es)) (in_order k es ∙ h)
+    (λ q there. low q (sym (ap is_some (in_order q es)) ∙ there))

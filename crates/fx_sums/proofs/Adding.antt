@@ -18,17 +18,21 @@ module _ (layout : Layout) (keys : ℕ) (t : Totals) where
   abbrev with_rest : Totals × Rest → Result (Totals × Rest) Fault
   with_rest s = unassigned_in s.1 >>= λ u. Ok (with_unassigned s.0 u.0, u.1)
 
-  pub records_refused : (old new : Lines) (e : Fault) → Refuses (tallied layout keys None t) old new e → Refuses (totals_with layout keys t) old new e
+  pub records_refused : (old new : Lines) (e : Fault) → Refuses (tallied layout keys None t) old new e
+      → Refuses (totals_with layout keys t) old new e
   unfolding totals_with
   records_refused old new e h = refuses_first (tallied layout keys None t) with_rest old new e h
 
   module _ (old mid : Lines) (s : Totals) (records : Gives (tallied layout keys None t) old mid s) where
-    pub unassigned_refused : (new : Lines) (e : Fault) → mid.stopped ≡ None → GoesOnToLines old mid → Refuses unassigned_in mid new e → Refuses (totals_with layout keys t) old new e
+    pub unassigned_refused : (new : Lines) (e : Fault) → mid.stopped ≡ None → GoesOnToLines old mid
+        → Refuses unassigned_in mid new e → Refuses (totals_with layout keys t) old new e
     unfolding totals_with
     unassigned_refused new e going on h =
-        refuses_then (tallied layout keys None t) with_rest old mid new s records e going on (refuses_first unassigned_in (λ u. Ok (with_unassigned s u.0, u.1)) mid new e h)
+        refuses_then (tallied layout keys None t) with_rest old mid new s records e going on
+        (refuses_first unassigned_in (λ u. Ok (with_unassigned s u.0, u.1)) mid new e h)
 
-    pub totals_added : (new : Lines) (u : ℕ) (s' : Totals) → Gives unassigned_in mid new u → s' ≡ with_unassigned s u → Gives (totals_with layout keys t) old new s'
+    pub totals_added : (new : Lines) (u : ℕ) (s' : Totals) → Gives unassigned_in mid new u → s' ≡ with_unassigned s u
+        → Gives (totals_with layout keys t) old new s'
     unfolding totals_with
     totals_added new u s' h is rest left =
         let b = h rest left in
@@ -38,7 +42,8 @@ module _ (layout : Layout) (keys : ℕ) (t : Totals) where
 -- ---- totals and notes
 
 -- a sum is seen as its totals and its notes, and knows the layout of its totals
-module _ (keys : ℕ) (s : Sum) (layout : Layout) (t : Totals) (notes : Notes) (view : record { totals = t; notes = notes } ≡ s) (own : layout ≡ t.layout) (old new : Lines) where
+module _ (keys : ℕ) (s : Sum) (layout : Layout) (t : Totals) (notes : Notes)
+    (view : record { totals = t; notes = notes } ≡ s) (own : layout ≡ t.layout) (old new : Lines) where
   abbrev with_notes : Totals × Rest → Result (Sum × Next) Fault
   with_notes u = notes_of u.1 >>= λ more. Ok (record { totals = u.0; notes = plus_notes notes more.0 }, more.1)
 
@@ -48,7 +53,8 @@ module _ (keys : ℕ) (s : Sum) (layout : Layout) (t : Totals) (notes : Notes) (
   sum_is rest =
       ap (λ (l : Layout). totals_with l keys t rest >>= with_notes) own ∙ ap (λ (u : Sum). sum_with keys u rest) view
 
-  to_sum : (e : Fault) → Refuses (λ rest. totals_with layout keys t rest >>= with_notes) old new e → Refuses (sum_with keys s) old new e
+  to_sum : (e : Fault) → Refuses (λ rest. totals_with layout keys t rest >>= with_notes) old new e
+      → Refuses (sum_with keys s) old new e
   to_sum e (inl fails) = inl fails
   to_sum e (inr (text, left, is)) = inr (text, left, sym (sum_is (old.number, text_lines text)) ∙ is)
 
@@ -56,21 +62,28 @@ module _ (keys : ℕ) (s : Sum) (layout : Layout) (t : Totals) (notes : Notes) (
   totals_refused e h = to_sum e (refuses_first (totals_with layout keys t) with_notes old new e h)
 
   module _ (mid : Lines) (t' : Totals) (totals : Gives (totals_with layout keys t) old mid t') where
-    pub notes_refused : (e : Fault) → mid.stopped ≡ None → GoesOnToLines old mid → Refuses notes_of mid new e → Refuses (sum_with keys s) old new e
+    pub notes_refused : (e : Fault) → mid.stopped ≡ None → GoesOnToLines old mid → Refuses notes_of mid new e
+        → Refuses (sum_with keys s) old new e
     notes_refused e going on h =
-        to_sum e (refuses_then (totals_with layout keys t) with_notes old mid new t' totals e going on (refuses_first notes_of _ mid new e h))
+        to_sum e (refuses_then (totals_with layout keys t) with_notes old mid new t' totals e going on
+        (refuses_first notes_of _ mid new e h))
 
-    one_added : (more notes' : Notes) (next : Next) → MayGive notes_of mid (Ok (more, next)) → notes' ≡ plus_notes notes more → MayGive (sum_with keys s) old (Ok (record { totals = t'; notes = notes' }, next))
+    one_added : (more notes' : Notes) (next : Next) → MayGive notes_of mid (Ok (more, next)) → notes'
+        ≡ plus_notes notes more → MayGive (sum_with keys s) old (Ok (record { totals = t'; notes = notes' }, next))
     one_added more notes' next (text, left, is) same =
         let a = totals text left in
         (a.0, a.1, sym (sum_is (old.number, text_lines a.0)) ∙ rw (a.2, is, same) refl)
 
-    pub sum_added : (more notes' : Notes) (next : Option ℕ) → GoesOnFrom old mid → GivesText notes_of mid new more next → notes' ≡ plus_notes notes more → GivesText (sum_with keys s) old new (record { totals = t'; notes = notes' }) next
+    pub sum_added : (more notes' : Notes) (next : Option ℕ) → GoesOnFrom old mid → GivesText notes_of mid new more next
+        → notes' ≡ plus_notes notes more → GivesText (sum_with keys s) old new (record { totals = t'; notes = notes' })
+        next
     sum_added more notes' None on h same = one_added more notes' None h same
-    sum_added more notes' (Some k) on h same = (behind, λ rest left. one_added more notes' (Some (k, (new.number, text_lines rest))) (h.1 rest left) same) where
-      behind : GoesOnFrom old new
-      behind = record {
-        going = h.0.going;
-        on = goes_then old mid new on.on h.0.on;
-        smaller = let one = on.smaller in let two = h.0.smaller in omega (arith, one, two);
-      }
+    sum_added more notes' (Some k) on h same =
+        (behind, λ rest left. one_added more notes' (Some (k, (new.number, text_lines rest))) (h.1 rest left) same)
+      where
+        behind : GoesOnFrom old new
+        behind = record {
+          going = h.0.going;
+          on = goes_then old mid new on.on h.0.on;
+          smaller = let one = on.smaller in let two = h.0.smaller in omega (arith, one, two);
+        }

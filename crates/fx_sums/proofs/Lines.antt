@@ -19,12 +19,18 @@ line_len_le : (text : List ℕ) → line_len text ≤ length text
 line_len_le text = prefix_len-le-length (λ b. not (b == 10)) text
 
 -- a text whose first line is too long
-long_first : (text : List ℕ) → 4096 < line_len text → (l : TextLine) × (ls : List TextLine) × (text_lines text ≡ l ∷ ls) × (nat_lt 4096 (length l.0) ≡ true)
+long_first : (text : List ℕ) → 4096 < line_len text → (l : TextLine) × (ls : List TextLine) × (text_lines text ≡ l ∷ ls)
+    × (nat_lt 4096 (length l.0) ≡ true)
 long_first text long =
     let le : line_len text ≤ length text = line_len_le text in
     let some : 0 < length text = omega arith in
-    let len : length (first_line text) ≡ line_len text = length-take-le (line_len text) text le in
-    ((first_line text, line_ends text), text_lines (after_line text), lines_first text some, lt-ltb 4096 (length (first_line text)) (omega arith))
+    let len : length (first_line text) ≡ line_len text = length-take-le (line_len text) text le in (
+      (first_line text, line_ends text),
+      text_lines (after_line text),
+      lines_first text some,
+      lt-ltb 4096
+          (length (first_line text)) (omega arith),
+    )
 
 pub at_line_of : (old new : Lines) (going : Bool) → AdvancesToLine old new (Ok going) → going ≡ true → AtLine old new
 at_line_of old new going h e = subst (λ b. AdvancesToLine old new (Ok b)) e h
@@ -40,7 +46,8 @@ MeetsFault lines e = MayMeet lines (λ l ls. bytes_of (next_number lines.number)
 
 pub stops_at : (old new : Lines) (e : Fault) → RefusesText old new e → Fails old new e ⊎ MeetsFault old e
 stops_at old new e h = by_stopped old.stopped refl h.again h.first where
-  too_long : (e ≡ fault_at 903 (places.Line (next_number old.number))) × ((text : List ℕ) × MayBeLeft old.left text × (4096 < line_len text)) → MeetsFault old e
+  too_long : (e ≡ fault_at 903 (places.Line (next_number old.number)))
+      × ((text : List ℕ) × MayBeLeft old.left text × (4096 < line_len text)) → MeetsFault old e
   too_long (is, (text, left, long)) =
       let f = long_first text long in
       (text, left, (f.0, f.1, f.2, rw f.3 (ap (λ (x : Fault). Err x) (sym is))))
@@ -49,15 +56,25 @@ stops_at old new e h = by_stopped old.stopped refl h.again h.first where
   by_stop (inl device) = inl (inr device)
   by_stop (inr long) = inr (too_long long)
 
-  by_stopped : (s : Option Fault) → old.stopped ≡ s → IfSome s (λ f. e ≡ f) → (s ≡ None → StopsText old new e) → Fails old new e ⊎ MeetsFault old e
+  by_stopped : (s : Option Fault) → old.stopped ≡ s → IfSome s (λ f. e ≡ f) → (s ≡ None → StopsText old new e)
+      → Fails old new e ⊎ MeetsFault old e
   by_stopped (Some f) is again first = inl (inl (is ∙ ap (λ (x : Fault). Some x) (sym again)))
   by_stopped None is again first = by_stop (first refl)
 
 pub unended : (old new : Lines) → AtLine old new → new.ended ≡ false → MeetsFault old (wrong new.number)
 unended old new at ended =
     let some = something_follows old new at in
-    let before = at.lines some.0 some.1 in
-    (before.0, before.1, ((new.line, new.ended), text_lines some.0, before.2, rw (short old new at, ended) (ap (λ (n : ℕ). Err (wrong n)) (sym at.number))))
+    let before = at.lines some.0 some.1 in (
+      before.0,
+      before.1,
+      (
+        (new.line, new.ended),
+        text_lines some.0,
+        before.2,
+        rw (short old new at, ended)
+            (ap (λ (n : ℕ). Err (wrong n)) (sym at.number)),
+      ),
+    )
 
 pub goes_on : (old new : Lines) → AtLine old new → new.ended ≡ true → GoesOnToLine old new
 goes_on old new at ended = record {
@@ -66,8 +83,16 @@ goes_on old new at ended = record {
   number = at.number;
   smaller = at.smaller;
   meets = λ rest left.
-      let before = at.lines rest (may_follow new rest ended left) in
-      (before.0, before.1, ((new.line, new.ended), text_lines rest, before.2, (rw (short old new at, ended) refl, refl)));
+      let before = at.lines rest (may_follow new rest ended left) in (
+        before.0,
+        before.1,
+        (
+          (new.line, new.ended),
+          text_lines rest,
+          before.2,
+          (rw (short old new at, ended) refl, refl),
+        ),
+      );
 }
 
 pub stays : (old new : Lines) → AtTextEnd old new → IsAtEnd old new
@@ -80,12 +105,14 @@ gives_line old new on rest left =
     let at = on.meets rest left in
     let m = at.2 in
     (at.0, at.1, ap (λ (ls : List TextLine). next_line (old.number, ls)) m.2 ∙ line_is m.0 m.1 m.3.0 m.3.1) where
-      line_is : (l : TextLine) (ls : List TextLine) → bytes_of new.number l ≡ Ok new.line → ls ≡ text_lines rest → next_line (old.number, l ∷ ls) ≡ Ok (new.line, (new.number, text_lines rest))
+      line_is : (l : TextLine) (ls : List TextLine) → bytes_of new.number l ≡ Ok new.line → ls ≡ text_lines rest
+          → next_line (old.number, l ∷ ls) ≡ Ok (new.line, (new.number, text_lines rest))
       line_is l ls said same = rw (← on.number, said, same) refl
 
 pub refuses_line : (old new : Lines) (e : Fault) → Fails old new e ⊎ MeetsFault old e → Refuses next_line old new e
 refuses_line old new e (inl f) = inl f
-refuses_line old new e (inr (text, left, (l, ls, is, said))) = inr (text, left, ap (λ (ls : List TextLine). next_line (old.number, ls)) is ∙ rw said refl)
+refuses_line old new e (inr (text, left, (l, ls, is, said))) =
+    inr (text, left, ap (λ (ls : List TextLine). next_line (old.number, ls)) is ∙ rw said refl)
 
 pub misses_line : (old new : Lines) → IsAtEnd old new → MayGive next_line old (Err (missing new.number))
 misses_line old new at =

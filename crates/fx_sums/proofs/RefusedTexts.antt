@@ -20,19 +20,22 @@ IsTextFault e = (e.number ≡ totals_form) ⊎ (e.number ≡ long_line)
 abbrev HasTextFault : {A : Type 0} → Result A Fault → Type 0
 HasTextFault r = IfErr r IsTextFault
 
-either_reported : {A : Type 0} (test : Bool) (x y : Result A Fault) → HasTextFault x → HasTextFault y → HasTextFault (cond test x y)
+either_reported : {A : Type 0} (test : Bool) (x y : Result A Fault) → HasTextFault x → HasTextFault y
+    → HasTextFault (cond test x y)
 either_reported true x y one other = one
 either_reported false x y one other = other
 
 -- one result behind another
-then_reported : {A B : Type 0} (r : Result A Fault) (f : A → Result B Fault) → HasTextFault r → ((a : A) → HasTextFault (f a)) → HasTextFault (r >>= f)
+then_reported : {A B : Type 0} (r : Result A Fault) (f : A → Result B Fault) → HasTextFault r
+    → ((a : A) → HasTextFault (f a)) → HasTextFault (r >>= f)
 then_reported (Ok a) f one all = all a
 then_reported (Err e) f one all = one
 
 -- ---- lines
 
 bytes_reported : (n : ℕ) (l : TextLine) → HasTextFault (bytes_of n l)
-bytes_reported n l = either_reported (nat_lt line_length_limit (length l.0)) _ _ (inr refl) (either_reported l.1 _ _ tt (inl refl))
+bytes_reported n l = either_reported (nat_lt line_length_limit (length l.0)) _ _ (inr refl)
+    (either_reported l.1 _ _ tt (inl refl))
 
 formed_reported : {A : Type 0} (n : ℕ) (o : Option A) → HasTextFault (formed n o)
 formed_reported n None = inl refl
@@ -44,22 +47,28 @@ next_reported (n, l ∷ ls) = then_reported (bytes_of (next_number n) l) _ (byte
 
 line_reported : {A : Type 0} (read : List ℕ → Option A) (rest : Rest) → HasTextFault (in_line read rest)
 line_reported read rest =
-    then_reported (next_line rest) _ (next_reported rest) (λ line. then_reported (formed line.1.0 (read line.0)) _ (formed_reported line.1.0 (read line.0)) (λ x. tt))
+    then_reported (next_line rest) _ (next_reported rest)
+    (λ line. then_reported (formed line.1.0 (read line.0)) _ (formed_reported line.1.0 (read line.0)) (λ x. tt))
 
 -- ---- a text
 
-tallied_reported : (layout : Layout) (keys : ℕ) (last : Option (List ℕ)) (t : Totals) (rest : Rest) → HasTextFault (tallied layout keys last t rest)
+tallied_reported : (layout : Layout) (keys : ℕ) (last : Option (List ℕ)) (t : Totals) (rest : Rest)
+    → HasTextFault (tallied layout keys last t rest)
 tallied_reported layout zero last t rest = tt
 tallied_reported layout (suc more) last t rest =
-    then_reported (in_line (record_behind layout last) rest) _ (line_reported (record_behind layout last) rest) (λ r. tallied_reported layout more (Some r.0.key.values) (with_record t r.0) r.1)
+    then_reported (in_line (record_behind layout last) rest) _ (line_reported (record_behind layout last) rest)
+    (λ r. tallied_reported layout more (Some r.0.key.values) (with_record t r.0) r.1)
 
-totals_reported : (layout : Layout) (keys : ℕ) (t : Totals) (rest : Rest) → HasTextFault (totals_with layout keys t rest)
+totals_reported : (layout : Layout) (keys : ℕ) (t : Totals) (rest : Rest)
+    → HasTextFault (totals_with layout keys t rest)
 unfolding totals_with
 totals_reported layout keys t rest =
     then_reported (tallied layout keys None t rest) _ (tallied_reported layout keys None t rest)
-    (λ sum. then_reported (in_line (number_behind (codes "unassigned")) sum.1) _ (line_reported (number_behind (codes "unassigned")) sum.1) (λ unassigned. tt))
+    (λ sum. then_reported (in_line (number_behind (codes "unassigned")) sum.1) _
+    (line_reported (number_behind (codes "unassigned")) sum.1) (λ unassigned. tt))
 
-said_reported : (on : Notes → Result (Notes × Next) Fault) (notes : Notes) (rest : Rest) (said : LineBehind) → ((more : Notes) → HasTextFault (on more)) → HasTextFault (on_or_next on notes rest said)
+said_reported : (on : Notes → Result (Notes × Next) Fault) (notes : Notes) (rest : Rest) (said : LineBehind)
+    → ((more : Notes) → HasTextFault (on more)) → HasTextFault (on_or_next on notes rest said)
 said_reported on notes rest (behind.Notes more) all = all more
 said_reported on notes rest (behind.Keys keys) all = tt
 
@@ -67,13 +76,16 @@ notes_reported : (notes : Notes) (n : ℕ) (ls : List TextLine) → HasTextFault
 notes_reported notes n [] = either_reported (are_whole notes) _ _ (tt) (inl refl)
 notes_reported notes n (l ∷ ls) =
     then_reported (bytes_of (next_number n) l) _ (bytes_reported (next_number n) l)
-    (λ line. then_reported (formed (next_number n) (line_behind notes line)) _ (formed_reported (next_number n) (line_behind notes line))
-    (λ said. said_reported (λ more. notes_first more (next_number n) ls) notes (next_number n, ls) said (λ more. notes_reported more (next_number n) ls)))
+    (λ line. then_reported (formed (next_number n) (line_behind notes line)) _
+    (formed_reported (next_number n) (line_behind notes line))
+    (λ said. said_reported (λ more. notes_first more (next_number n) ls) notes (next_number n, ls) said
+    (λ more. notes_reported more (next_number n) ls)))
 
 sum_reported : (keys : ℕ) (s : Sum) (rest : Rest) → HasTextFault (sum_with keys s rest)
 unfolding sum_with
 sum_reported keys s rest =
-    then_reported (totals_with s.totals.layout keys s.totals rest) _ (totals_reported s.totals.layout keys s.totals rest)
+    then_reported (totals_with s.totals.layout keys s.totals rest) _
+    (totals_reported s.totals.layout keys s.totals rest)
     (λ totals. then_reported (notes_of totals.1) _ (notes_reported no_notes totals.1.0 totals.1.1) (λ notes. tt))
 
 -- ---- texts
@@ -81,12 +93,14 @@ sum_reported keys s rest =
 up_to_reported : (s : Sum) (next : Next) (most : ℕ) → HasTextFault (texts_up_to s next most)
 up_to_reported s None most = tt
 up_to_reported s (Some next) zero = inl refl
-up_to_reported s (Some next) (suc most) = then_reported (sum_with next.0 s next.1) _ (sum_reported next.0 s next.1) (λ r. up_to_reported r.0 r.1 most)
+up_to_reported s (Some next) (suc most) =
+    then_reported (sum_with next.0 s next.1) _ (sum_reported next.0 s next.1) (λ r. up_to_reported r.0 r.1 most)
 
 refused_reported : (s : Sum) (rest : Rest) → HasTextFault (sum_of_texts s rest)
 unfolding sum_of_texts
 refused_reported s rest =
-    then_reported (in_line (number_behind (codes "keys")) rest) _ (line_reported (number_behind (codes "keys")) rest) (λ first. up_to_reported s (Some first) (length rest.1))
+    then_reported (in_line (number_behind (codes "keys")) rest) _ (line_reported (number_behind (codes "keys")) rest)
+    (λ first. up_to_reported s (Some first) (length rest.1))
 
 pub texts_refused : (s : Sum) (rest : Rest) (e : Fault) → sum_of_texts s rest ≡ Err e → IsTextFault e
 texts_refused s rest e same = subst HasTextFault same (refused_reported s rest)

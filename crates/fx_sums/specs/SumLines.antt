@@ -54,7 +54,8 @@ prefix_start part word = do
 
 -- the first value with the leading bits that the word spells
 abbrev pub start_of : Part → List ℕ → Option ℕ
-start_of part word = if nat_lt part.bits (axis_width part.axis) then prefix_start part word else written_on part.axis word
+start_of part word = if nat_lt part.bits (axis_width part.axis) then prefix_start part word else written_on part.axis
+    word
 
 -- a value for each part, and the remaining words
 unfoldable pub values_first : Layout → Words → Option (List ℕ × Words)
@@ -99,7 +100,8 @@ record_behind layout last line = do
 unfoldable pub complete_of : Words → Option Note
 complete_of ws = do
   w ← first_word ws
-  if bytes_eq w.0 (codes "yes") then at_end (Complete true) w.1 else if bytes_eq w.0 (codes "no") then at_end (Complete false) w.1 else None
+  if bytes_eq w.0 (codes "yes") then at_end (Complete true) w.1 else if bytes_eq w.0 (codes "no") then at_end
+      (Complete false) w.1 else None
 
 unfoldable pub frames_of : Words → Option Note
 frames_of ws = do
@@ -130,9 +132,11 @@ note_of line = do
 abbrev pub with_note : Notes → Note → Option Notes
 with_note n (Complete whole) =
     if is_some n.complete || is_some n.frames || is_some n.gaps then None else Some (record n { complete = Some whole })
-with_note n (Frames frames) = if is_some n.frames || is_some n.gaps then None else Some (record n { frames = Some frames })
+with_note n (Frames frames) = if is_some n.frames || is_some n.gaps then None
+    else Some (record n { frames = Some frames })
 with_note n (Gaps gaps) = if is_some n.gaps then None else Some (record n { gaps = Some gaps })
-with_note n (Skipped skipped) = if is_some n.gaps && not (is_some n.skipped) then Some (record n { skipped = Some skipped }) else None
+with_note n (Skipped skipped) = if is_some n.gaps && not (is_some n.skipped)
+    then Some (record n { skipped = Some skipped }) else None
 
 -- the notes with that of a line appended
 unfoldable pub notes_with : Notes → List ℕ → Option Notes

@@ -40,7 +40,8 @@ wrong n = fault_at totals_form (places.Line n)
 
 -- the bytes of line n, which is within the limit and ended by a line feed
 abbrev pub bytes_of : ℕ → TextLine → Result (List ℕ) Fault
-bytes_of n l = if nat_lt line_length_limit (length l.0) then Err (fault_at long_line (places.Line n)) else if l.1 then Ok l.0 else Err (wrong n)
+bytes_of n l = if nat_lt line_length_limit (length l.0) then Err (fault_at long_line (places.Line n)) else if l.1
+    then Ok l.0 else Err (wrong n)
 
 -- what line n says, or the fault if it says nothing
 abbrev pub formed : {A : Type 0} → ℕ → Option A → Result A Fault
@@ -64,7 +65,8 @@ in_line read rest = do
 -- the totals with this number of records added, each on its own line, with keys that ascend after the last one
 abbrev pub tallied : Layout → ℕ → Option (List ℕ) → Totals → Rest → Result (Totals × Rest) Fault
 tallied layout zero last t rest = Ok (t, rest)
-tallied layout (suc more) last t rest = in_line (record_behind layout last) rest >>= λ r. tallied layout more (Some r.0.key.values) (with_record t r.0) r.1
+tallied layout (suc more) last t rest =
+    in_line (record_behind layout last) rest >>= λ r. tallied layout more (Some r.0.key.values) (with_record t r.0) r.1
 
 -- the totals with those of a text added, after the line that gives its number of keys
 unfoldable pub totals_with : Layout → ℕ → Totals → Rest → Result (Totals × Rest) Fault
@@ -73,7 +75,8 @@ totals_with layout keys t rest = do
   unassigned ← in_line (number_behind (codes "unassigned")) sum.1
   Ok (with_unassigned sum.0 unassigned.0, unassigned.1)
 
--- where a text ends: at the end of the lines, or at the line that gives the next text's number of keys, with the lines after it
+-- where a text ends: at the end of the lines, or at the line that gives the next text's number of keys, with the lines
+-- after it
 abbrev pub Next : Type 0
 Next = Option (ℕ × Rest)
 
@@ -129,7 +132,8 @@ MayGive read lines result = MayHaveLeft lines.left (λ text. read (lines.number,
 
 -- whatever is left now, this is what was read from what may have been left before
 abbrev pub Gives : {A : Type 0} → (Rest → Result (A × Rest) Fault) → Lines → Lines → A → Type 0
-Gives read old new x = (rest : List ℕ) → MayBeLeft new.left rest → MayGive read old (Ok (x, (new.number, text_lines rest)))
+Gives read old new x = (rest : List ℕ) → MayBeLeft new.left rest
+    → MayGive read old (Ok (x, (new.number, text_lines rest)))
 
 -- the reader fails as a reader of lines does, or with the fault of this reading
 abbrev pub Refuses : {A : Type 0} → (Rest → Result A Fault) → Lines → Lines → Fault → Type 0
@@ -140,11 +144,13 @@ abbrev pub GivesText : {A : Type 0} → (Rest → Result (A × Next) Fault) → 
 GivesText read old new x None = MayGive read old (Ok (x, None))
 GivesText read old new x (Some keys) =
     GoesOnFrom old new
-    × ((rest : List ℕ) → MayBeLeft new.left rest → MayGive read old (Ok (x, Some (keys, (new.number, text_lines rest)))))
+    × ((rest : List ℕ) → MayBeLeft new.left rest
+    → MayGive read old (Ok (x, Some (keys, (new.number, text_lines rest)))))
 
 -- a line is left, and the property holds for it and the lines after it
 abbrev pub MayMeet : Lines → (TextLine → List TextLine → Type 0) → Type 0
-MayMeet lines P = MayHaveLeft lines.left (λ text. (l : TextLine) × (ls : List TextLine) × (text_lines text ≡ l ∷ ls) × P l ls)
+MayMeet lines P = MayHaveLeft lines.left
+    (λ text. (l : TextLine) × (ls : List TextLine) × (text_lines text ≡ l ∷ ls) × P l ls)
 
 -- the reader advances to a line that a line feed ends
 pub record GoesOnToLine (old new : Lines) : Type 0 where
@@ -152,7 +158,8 @@ pub record GoesOnToLine (old new : Lines) : Type 0 where
   pub on : GoesOnToLines old new
   pub number : new.number ≡ next_number old.number
   pub smaller : line_budget new < line_budget old
-  pub meets : (rest : List ℕ) → MayBeLeft new.left rest → MayMeet old (λ l ls. (bytes_of new.number l ≡ Ok new.line) × (ls ≡ text_lines rest))
+  pub meets : (rest : List ℕ) → MayBeLeft new.left rest
+      → MayMeet old (λ l ls. (bytes_of new.number l ≡ Ok new.line) × (ls ≡ text_lines rest))
 
 -- the reader is at the end of the text
 pub record IsAtEnd (old new : Lines) : Type 0 where

@@ -29,7 +29,8 @@ number_text word (Some n) = number_line word n
 
 -- the last two notes are those of a stream
 abbrev pub notes_text : Notes → List ℕ
-notes_text n = complete_text n.complete ++ (frames_text n.frames ++ (number_text (codes "gaps ") n.gaps ++ number_text (codes "skipped ") n.skipped))
+notes_text n = complete_text n.complete
+    ++ (frames_text n.frames ++ (number_text (codes "gaps ") n.gaps ++ number_text (codes "skipped ") n.skipped))
 
 abbrev pub noted_text : Sum → List ℕ
 noted_text s = totals_text s.totals ++ notes_text s.notes

@@ -15,7 +15,8 @@ pub record Exporter : Type 0 where
   pub parallel : Bool
   pub destinations : List (Option ℕ)
 
--- a cache or an aggregation: the layout of the records that it holds, and the indices of the exporting processes that it names
+-- a cache or an aggregation: the layout of the records that it holds, and the indices of the exporting processes that
+-- it names
 pub record Holder : Type 0 where
   pub layout : Layout
   pub exporters : List ℕ
@@ -118,7 +119,8 @@ held_at (Some aggregation) = Some aggregation.holder
 abbrev pub place_named : List DeviceEntry → List Process → HolderName → Option ℕ
 place_named devices processes (Cache device cache) = entry_numbered (caches_of (entry_numbered devices device)) cache
 place_named devices processes (AggregationOf device process aggregation) =
-    held_at (entry_numbered (aggregations_of (process_at processes (entry_numbered (processes_of (entry_numbered devices device)) process))) aggregation)
+    held_at (entry_numbered (aggregations_of
+    (process_at processes (entry_numbered (processes_of (entry_numbered devices device)) process))) aggregation)
 
 -- the index of the holder with this name, if there is one
 abbrev pub holder_place : Net → HolderName → Option ℕ

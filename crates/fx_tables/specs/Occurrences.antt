@@ -26,7 +26,8 @@ met_by point process (s ∷ ss) fields =
 -- the point observes the interface in the direction of the crossing
 abbrev pub watches : Point → Crossing → Bool
 watches point crossing =
-    list_any (λ name. bytes_eq name crossing.interface) point.interfaces && (if crossing.inwards then point.ingress else point.egress)
+    list_any (λ name. bytes_eq name crossing.interface) point.interfaces &&
+    (if crossing.inwards then point.ingress else point.egress)
 
 abbrev pub met_at : ℕ → List Point → Crossing → Fields → List Occurrence
 met_at n [] crossing fields = []

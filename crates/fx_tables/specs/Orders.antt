@@ -6,4 +6,5 @@ use Rattle.fx_tables.specs.Network.{Net}
 abbrev pub Descends : Net → (ℕ → ℕ) → List ℕ → List ℕ → Type 0
 Descends net rank done [] = Unit {0}
 Descends net rank done (process ∷ processes) =
-    (process < length net.processes) × ((q : ℕ) → q < length net.processes → rank process < rank q → Contains done q) × Descends net rank (process ∷ done) processes
+    (process < length net.processes) × ((q : ℕ) → q < length net.processes → rank process < rank q → Contains done q)
+    × Descends net rank (process ∷ done) processes

@@ -20,7 +20,8 @@ AllRise rank net from exporters = All (λ e. All (Rises rank net from) e.destina
 abbrev pub ProcessRises : (ℕ → ℕ) → Net → ℕ → Option Process → Type 0
 ProcessRises rank net from None = Unit {0}
 ProcessRises rank net from (Some process) =
-    AllRise rank net from (at_places net.exporters process.exporters) × All (λ a. AllRise rank net from (exporters_of net (slice_get net.holders a.holder))) process.aggregations
+    AllRise rank net from (at_places net.exporters process.exporters)
+    × All (λ a. AllRise rank net from (exporters_of net (slice_get net.holders a.holder))) process.aggregations
 
 -- each link leads to a process of higher rank than each process that feeds it
 pub record IsRanked (net : Net) : Type 0 where

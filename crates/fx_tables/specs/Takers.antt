@@ -7,7 +7,11 @@ use Rattle.fx_tables.specs.Network.{Holder, AggregationEntry, layout_of, takes_w
 -- the aggregation with the projected key, if it accepts the key
 abbrev pub intake_of : List Holder → Key → AggregationEntry → List Holding
 intake_of holders key a =
-    if takes_with holders key a then record { holder = a.holder; key = project key (layout_of (slice_get holders a.holder)) } ∷ [] else []
+    if takes_with holders key a then record {
+      holder = a.holder;
+      key =
+          project key (layout_of (slice_get holders a.holder));
+    } ∷ [] else []
 
 abbrev pub intakes : List Holder → Key → List AggregationEntry → List Holding
 intakes holders key [] = []

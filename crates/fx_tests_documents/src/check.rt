@@ -5,7 +5,8 @@ use crate::plan::plan_of;
 use fx_base::{Fault, LineReader, Octets};
 use fx_cert::Version;
 use fx_check::{
-    Checker, Due, certificates_are_accepted, certificates_count_once, check, wrong_leaves_are_reported,
+    Checker, Due, certificates_are_accepted, certificates_count_once, check,
+    wrong_leaves_are_reported,
 };
 use fx_elements::Axis;
 use fx_plan::Plan;

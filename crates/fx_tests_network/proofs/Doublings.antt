@@ -43,14 +43,24 @@ one_layout = record { layouts = [] ∷ []; numbers = 0 ∷ [] }
 
 module _ (devices : List DeviceEntry) (first : Exporter) where
   abbrev pub doubling : Net
-  doubling = record { devices = devices; exporters = first ∷ second ∷ []; holders = cache; processes = collectors; links = 0 ∷ 0 ∷ 1 ∷ 1 ∷ []; report = 1; report_layout = [] }
+  doubling = record {
+    devices = devices;
+    exporters = first ∷ second ∷ [];
+    holders = cache;
+    processes =
+        collectors;
+    links = 0 ∷ 0 ∷ 1 ∷ 1 ∷ [];
+    report = 1;
+    report_layout = [];
+  }
 
   abbrev rank : ℕ → ℕ
   rank p = min p 1
 
   rises : (process : ℕ) → ProcessRises rank doubling process (slice_get collectors process)
   rises zero = (
-    all_one (λ (e : Exporter). All (Rises rank doubling 0) e.destinations) second (all_two (Rises rank doubling 0) (Some 2) (Some 3) (omega arith) (omega arith)),
+    all_one (λ (e : Exporter). All (Rises rank doubling 0) e.destinations) second
+        (all_two (Rises rank doubling 0) (Some 2) (Some 3) (omega arith) (omega arith)),
     all_none (λ (a : AggregationEntry). AllRise rank doubling 0 (exporters_of doubling (slice_get cache a.holder))),
   )
   rises (suc zero) = (
@@ -63,7 +73,8 @@ module _ (devices : List DeviceEntry) (first : Exporter) where
   fits zero = tt
   fits (suc h) = tt
 
-  numbers : (holder : ℕ) (h : Holder) → slice_get cache holder ≡ Some h → slice_get one_layout.layouts (number_of_layout one_layout holder) ≡ Some h.layout
+  numbers : (holder : ℕ) (h : Holder) → slice_get cache holder ≡ Some h
+      → slice_get one_layout.layouts (number_of_layout one_layout holder) ≡ Some h.layout
   numbers zero h e = ap (λ o. Some (layout_of o)) e
   numbers (suc k) h e = absurd (cc)
 
@@ -105,7 +116,8 @@ IsMeter d = (d.caches ≡ 0 ∷ []) × All (λ (p : Point). All (λ (s : Selecti
 abbrev pub InRange : Option ℕ → Type 0
 InRange d = IfSome d (λ link. link < 4)
 
-module _ (d : DeviceEntry) (is : IsMeter d) (parallel : Bool) (one other : Option ℕ) (here : InRange one) (there : InRange other) where
+module _ (d : DeviceEntry) (is : IsMeter d) (parallel : Bool) (one other : Option ℕ) (here : InRange one)
+    (there : InRange other) where
   abbrev first : Exporter
   first = record { parallel = parallel; destinations = one ∷ other ∷ [] }
 
@@ -117,9 +129,15 @@ module _ (d : DeviceEntry) (is : IsMeter d) (parallel : Bool) (one other : Optio
 
   doubling_runs : IsRunnable net
   doubling_runs = record {
-    destinations = all_two (HasDestinations net) first second (record { links = all_two InRange one other here there; some = λ e. omega arith }) (record { links = all_two InRange (Some 2) (Some 3) (omega arith) (omega arith); some = λ e. omega arith });
-    aggregations = all_two (HasAggregations net) _ _ (all_none (λ (a : AggregationEntry). IsHolder net a.holder)) (all_none (λ (a : AggregationEntry). IsHolder net a.holder));
-    caches = all_one (HasCaches net) d (on_all (λ (p : Point). All (λ (s : Selection). s.holder ≡ Some 0) p.selections) (λ (p : Point). All (λ (s : Selection). IfSome s.holder (IsHolder net)) p.selections) d.points (λ p h. on_all (λ (s : Selection). s.holder ≡ Some 0) (λ (s : Selection). IfSome s.holder (IsHolder net)) p.selections (λ s e. subst (λ o. IfSome o (IsHolder net)) (sym e) held) h) is.1);
+    destinations = all_two (HasDestinations net) first second
+        (record { links = all_two InRange one other here there; some = λ e. omega arith })
+        (record { links = all_two InRange (Some 2) (Some 3) (omega arith) (omega arith); some = λ e. omega arith });
+    aggregations = all_two (HasAggregations net) _ _ (all_none (λ (a : AggregationEntry). IsHolder net a.holder))
+        (all_none (λ (a : AggregationEntry). IsHolder net a.holder));
+    caches = all_one (HasCaches net) d (on_all (λ (p : Point). All (λ (s : Selection). s.holder ≡ Some 0) p.selections)
+        (λ (p : Point). All (λ (s : Selection). IfSome s.holder (IsHolder net)) p.selections) d.points
+        (λ p h. on_all (λ (s : Selection). s.holder ≡ Some 0) (λ (s : Selection). IfSome s.holder (IsHolder net))
+        p.selections (λ s e. subst (λ o. IfSome o (IsHolder net)) (sym e) held) h) is.1);
   }
 
 one_of : (ds : List DeviceEntry) → length ds ≡ 1 → All IsMeter ds → (d : DeviceEntry) × (ds ≡ d ∷ []) × IsMeter d
@@ -127,11 +145,18 @@ one_of [] e h = absurd (omega arith)
 one_of (d ∷ []) e h = (d, refl, h 0 d (omega arith))
 one_of (d ∷ x ∷ ds) e h = absurd (omega arith)
 
-pub are_tables : (n : Net) (first : Exporter) → n ≡ doubling n.devices first → AreTables (record { net = n; order = 1 ∷ 0 ∷ []; numbering = one_layout })
-are_tables n first e = subst (λ (m : Net). AreTables (record { net = m; order = 1 ∷ 0 ∷ []; numbering = one_layout })) (sym e) (doubling_tables n.devices first)
+pub are_tables : (n : Net) (first : Exporter) → n ≡ doubling n.devices first
+    → AreTables (record { net = n; order = 1 ∷ 0 ∷ []; numbering = one_layout })
+are_tables n first e = subst (λ (m : Net). AreTables (record { net = m; order = 1 ∷ 0 ∷ []; numbering = one_layout }))
+    (sym e) (doubling_tables n.devices first)
 
-pub is_runnable : (n : Net) (first : Exporter) (parallel : Bool) (one other : Option ℕ) → n ≡ doubling n.devices first → first ≡ record { parallel = parallel; destinations = one ∷ other ∷ [] } → length n.devices ≡ 1 → All IsMeter n.devices → InRange one → InRange other → IsRunnable n
+pub is_runnable : (n : Net) (first : Exporter) (parallel : Bool) (one other : Option ℕ) → n ≡ doubling n.devices first
+    → first ≡ record { parallel = parallel; destinations = one ∷ other ∷ [] } → length n.devices ≡ 1
+    → All IsMeter n.devices → InRange one → InRange other → IsRunnable n
 is_runnable n first parallel one other e f size meters here there =
     let m = one_of n.devices size meters in
     let x : Exporter = record { parallel = parallel; destinations = one ∷ other ∷ [] } in
-    subst (λ (m : Net). IsRunnable m) (sym e) (subst (λ (ds : List DeviceEntry). IsRunnable (doubling ds first)) (sym m.1) (subst (λ (y : Exporter). IsRunnable (doubling (m.0 ∷ []) y)) (sym f) (doubling_runs m.0 m.2 parallel one other here there)))
+    subst (λ (m : Net). IsRunnable m) (sym e)
+    (subst (λ (ds : List DeviceEntry). IsRunnable (doubling ds first)) (sym m.1)
+    (subst (λ (y : Exporter). IsRunnable (doubling (m.0 ∷ []) y)) (sym f)
+    (doubling_runs m.0 m.2 parallel one other here there)))

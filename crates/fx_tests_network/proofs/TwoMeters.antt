@@ -19,7 +19,16 @@ one_layout = record { layouts = [] ∷ []; numbers = 0 ∷ 0 ∷ [] }
 
 module _ (devices : List DeviceEntry) (exporters : List Exporter) (links : List ℕ) (report_layout : Layout) where
   abbrev net_of : List Holder → List Process → ℕ → Net
-  net_of holders processes report = record { devices = devices; exporters = exporters; holders = holders; processes = processes; links = links; report = report; report_layout = report_layout }
+  net_of holders processes report = record {
+    devices = devices;
+    exporters = exporters;
+    holders = holders;
+    processes =
+        processes;
+    links = links;
+    report = report;
+    report_layout = report_layout;
+  }
 
   abbrev small : Net
   small = net_of two_caches one_process 0
@@ -33,7 +42,8 @@ module _ (devices : List DeviceEntry) (exporters : List Exporter) (links : List 
   fits (suc zero) = tt
   fits (suc (suc h)) = tt
 
-  numbers : (holder : ℕ) (h : Holder) → slice_get two_caches holder ≡ Some h → slice_get one_layout.layouts (number_of_layout one_layout holder) ≡ Some h.layout
+  numbers : (holder : ℕ) (h : Holder) → slice_get two_caches holder ≡ Some h
+      → slice_get one_layout.layouts (number_of_layout one_layout holder) ≡ Some h.layout
   numbers zero h e = ap (λ o. Some (layout_of o)) e
   numbers (suc zero) h e = ap (λ o. Some (layout_of o)) e
   numbers (suc (suc k)) h e = absurd (cc)
@@ -60,15 +70,26 @@ module _ (devices : List DeviceEntry) (exporters : List Exporter) (links : List 
     entries = entries;
   }
 
-pub two_meters : (t : Tables) → t.net.holders ≡ two_caches → t.net.processes ≡ one_process → t.net.report ≡ 0 → t.order ≡ 0 ∷ [] → t.numbering ≡ one_layout → AreTables t
+pub two_meters : (t : Tables) → t.net.holders ≡ two_caches → t.net.processes ≡ one_process → t.net.report ≡ 0 → t.order
+    ≡ 0 ∷ [] → t.numbering ≡ one_layout → AreTables t
 two_meters t holders processes report order numbering =
     let n = t.net in
-    let P : List Holder → List Process → ℕ → List ℕ → Numbering → Type 0 = λ hs. λ ps. λ r. λ o. λ i. AreTables (record { net = net_of n.devices n.exporters n.links n.report_layout hs ps r; order = o; numbering = i }) in
-    subst (λ hs. P hs n.processes n.report t.order t.numbering) (sym holders) (subst (λ ps. P two_caches ps n.report t.order t.numbering) (sym processes) (subst (λ r. P two_caches one_process r t.order t.numbering) (sym report) (subst (λ o. P two_caches one_process 0 o t.numbering) (sym order) (subst (λ i. P two_caches one_process 0 (0 ∷ []) i) (sym numbering) (small_tables n.devices n.exporters n.links n.report_layout)))))
+    let P : List Holder → List Process → ℕ → List ℕ → Numbering → Type 0 =
+    λ hs. λ ps. λ r. λ o. λ i. AreTables (record
+    { net = net_of n.devices n.exporters n.links n.report_layout hs ps r; order = o; numbering = i }) in
+    subst (λ hs. P hs n.processes n.report t.order t.numbering) (sym holders)
+    (subst (λ ps. P two_caches ps n.report t.order t.numbering) (sym processes)
+    (subst (λ r. P two_caches one_process r t.order t.numbering) (sym report)
+    (subst (λ o. P two_caches one_process 0 o t.numbering) (sym order)
+    (subst (λ i. P two_caches one_process 0 (0 ∷ []) i) (sym numbering)
+    (small_tables n.devices n.exporters n.links n.report_layout)))))
 
 -- lent with the one layout, which has no part
-pub lent : (t : Tables) (net : Net) (l : Layout) → t ≡ record { net = net; order = 0 ∷ []; numbering = record { layouts = l ∷ []; numbers = 0 ∷ 0 ∷ [] } } → l ≡ []
+pub lent : (t : Tables) (net : Net) (l : Layout) → t
+    ≡ record { net = net; order = 0 ∷ []; numbering = record { layouts = l ∷ []; numbers = 0 ∷ 0 ∷ [] } } → l ≡ []
     → net.holders ≡ two_caches → net.processes ≡ one_process → net.report ≡ 0 → AreTables t
 lent t net l is none holders processes report =
-    let numbering : t.numbering ≡ one_layout = ap (λ (t : Tables). t.numbering) is ∙ ap (λ (l : Layout). let n : Numbering = record { layouts = l ∷ []; numbers = 0 ∷ 0 ∷ [] } in n) none in
-    two_meters t (ap (λ (t : Tables). t.net.holders) is ∙ holders) (ap (λ (t : Tables). t.net.processes) is ∙ processes) (ap (λ (t : Tables). t.net.report) is ∙ report) (ap (λ (t : Tables). t.order) is) numbering
+    let numbering : t.numbering ≡ one_layout = ap (λ (t : Tables). t.numbering) is
+    ∙ ap (λ (l : Layout). let n : Numbering = record { layouts = l ∷ []; numbers = 0 ∷ 0 ∷ [] } in n) none in
+    two_meters t (ap (λ (t : Tables). t.net.holders) is ∙ holders) (ap (λ (t : Tables). t.net.processes) is ∙ processes)
+    (ap (λ (t : Tables). t.net.report) is ∙ report) (ap (λ (t : Tables). t.order) is) numbering

@@ -187,7 +187,8 @@ fn is_queried(net: &Net, classes: &Classes, rt: &impl Abort, alloc: Global) -> b
         && number(state.step(second)) == 0
         && first_records(&state) == [true, false]
         && effects_of(&state, third) == (1, None, Tally::Untallied);
-    reported && number(state.step(third)) == 0
+    reported
+        && number(state.step(third)) == 0
         && counts(&state) == [0, 1, 0]
         && first_records(&state) == [false, true]
         && effects_of(&state, last) == (0, None, Tally::Counted)

@@ -32,7 +32,8 @@ device_named (x ∷ xs) name = if bytes_eq x.name name then Some x.config else d
 
 -- an exporting process has this name and a destination of that name
 abbrev pub sends_to : List ℕ → List ℕ → ExportingProcess → Bool
-sends_to process destination exporting = bytes_eq exporting.name process && is_among (map (λ x. x.name) exporting.destinations) destination
+sends_to process destination exporting =
+    bytes_eq exporting.name process && is_among (map (λ x. x.name) exporting.destinations) destination
 
 abbrev pub has_destination : List ℕ → List ℕ → Option Device → Bool
 has_destination process destination None = false
@@ -50,7 +51,8 @@ has_ends devices link =
 
 -- two links lead from one destination
 abbrev pub same_start : NamedLink → NamedLink → Bool
-same_start a b = bytes_eq a.device b.device && (bytes_eq a.exporting_process b.exporting_process && bytes_eq a.destination b.destination)
+same_start a b = bytes_eq a.device b.device &&
+    (bytes_eq a.exporting_process b.exporting_process && bytes_eq a.destination b.destination)
 
 -- one of these links leads from the same destination
 abbrev pub starts_there : List NamedLink → NamedLink → Bool
@@ -80,7 +82,8 @@ link_faults devices earlier = object_faults (link_rows devices earlier)
 -- the faults of the links from the i-th on, after these earlier ones
 abbrev pub links_faults : List NetworkDevice → List NamedLink → List ℕ → ℕ → List Data → List FoundFault
 links_faults devices earlier up i [] = []
-links_faults devices earlier up i (d ∷ ds) = link_faults devices earlier (nth up i) d ++ links_faults devices (earlier ++ link_of d ∷ []) up (i + 1) ds
+links_faults devices earlier up i (d ∷ ds) = link_faults devices earlier (nth up i) d
+    ++ links_faults devices (earlier ++ link_of d ∷ []) up (i + 1) ds
 
 -- the list of links, which may be empty but is required
 abbrev pub links_row : List NetworkDevice → Row
@@ -88,4 +91,5 @@ links_row devices = required_row (codes "links") (list_faults 0 link_limit (λ u
 
 -- whether a link leads from this destination of an exporting process of a device
 abbrev pub leads_from : List ℕ → List ℕ → List ℕ → NamedLink → Bool
-leads_from device process destination link = bytes_eq link.device device && (bytes_eq link.exporting_process process && bytes_eq link.destination destination)
+leads_from device process destination link =
+    bytes_eq link.device device && (bytes_eq link.exporting_process process && bytes_eq link.destination destination)

@@ -23,7 +23,8 @@ devices_of d = map network_device_of (items_of (member_of (codes "devices") d))
 abbrev pub network_rows : List NetworkDevice → List Row
 network_rows devices =
     required_entries device_limit (codes "devices") network_device_faults (λ d. (network_device_of d).name)
-    ∷ then_check (λ up d. fault_if (nat_lt process_limit (process_count devices)) too_many_entries (below up (codes "devices")))
+    ∷ then_check (λ up d. fault_if (nat_lt process_limit (process_count devices)) too_many_entries
+    (below up (codes "devices")))
     ∷ links_row devices
     ∷ required_row (codes "report") (report_faults devices)
     ∷ []

@@ -20,11 +20,13 @@ IsStartOf start link = IsStartAt start link.device link.exporting_process link.d
 
 -- the order of starts by their three names
 abbrev pub start_cmp : Start → Start → Ordering
-start_cmp a b = ordering_then (string_cmp a.device b.device) (ordering_then (string_cmp a.exporting_process b.exporting_process) (string_cmp a.destination b.destination))
+start_cmp a b = ordering_then (string_cmp a.device b.device)
+    (ordering_then (string_cmp a.exporting_process b.exporting_process) (string_cmp a.destination b.destination))
 
 -- whether the link leads from this start
 abbrev pub leads_from_start : Start → NamedLink → Bool
-leads_from_start start = leads_from (string_bytes start.device) (string_bytes start.exporting_process) (string_bytes start.destination)
+leads_from_start start = leads_from (string_bytes start.device) (string_bytes start.exporting_process)
+    (string_bytes start.destination)
 
 -- the map has the index of the link that leads from each start, and no other start
 abbrev pub ArePlacesOfLinks : BTreeMap Start ℕ → List NamedLink → Type 0

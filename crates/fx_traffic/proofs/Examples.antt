@@ -129,10 +129,12 @@ blank = refl
 -- ---- a whole region
 
 -- sources in 10.0.0.0/8 and ports from 80 to 443, and all values on the other axes
-web : region_of (object (member (codes "destinationTransportPort") (string (codes "80-443")) (member (codes "sourceIPv4Address") (string (codes "10.0.0.0/8")) no_members))) ≡ record {
-  low = 167772160 ∷ 0 ∷ 0 ∷ 0 ∷ 80 ∷ 0 ∷ 0 ∷ 0 ∷ 0 ∷ [];
-  high = 184549375 ∷ 4294967295 ∷ 255 ∷ 65535 ∷ 443 ∷ 255 ∷ 255 ∷ 340282366920938463463374607431768211455 ∷ 340282366920938463463374607431768211455 ∷ [];
-}
+web : region_of (object (member (codes "destinationTransportPort") (string (codes "80-443"))
+    (member (codes "sourceIPv4Address") (string (codes "10.0.0.0/8")) no_members))) ≡ record {
+      low = 167772160 ∷ 0 ∷ 0 ∷ 0 ∷ 80 ∷ 0 ∷ 0 ∷ 0 ∷ 0 ∷ [];
+      high = 184549375 ∷ 4294967295 ∷ 255 ∷ 65535 ∷ 443 ∷ 255 ∷ 255 ∷ 340282366920938463463374607431768211455
+          ∷ 340282366920938463463374607431768211455 ∷ [];
+    }
 unfolding number_of quad_of prefix_of
 web = refl
 
@@ -140,7 +142,11 @@ web = refl
 no_axis : region_of (object no_members) ≡ whole
 no_axis = refl
 
-all_fields : whole ≡ record { low = 0 ∷ 0 ∷ 0 ∷ 0 ∷ 0 ∷ 0 ∷ 0 ∷ 0 ∷ 0 ∷ []; high = 4294967295 ∷ 4294967295 ∷ 255 ∷ 65535 ∷ 65535 ∷ 255 ∷ 255 ∷ 340282366920938463463374607431768211455 ∷ 340282366920938463463374607431768211455 ∷ [] }
+all_fields : whole ≡ record {
+  low = 0 ∷ 0 ∷ 0 ∷ 0 ∷ 0 ∷ 0 ∷ 0 ∷ 0 ∷ 0 ∷ [];
+  high = 4294967295 ∷ 4294967295 ∷ 255 ∷ 65535
+      ∷ 65535 ∷ 255 ∷ 255 ∷ 340282366920938463463374607431768211455 ∷ 340282366920938463463374607431768211455 ∷ [];
+}
 all_fields = refl
 
 -- ---- what is refused
@@ -149,26 +155,32 @@ abbrev one_member : List ℕ → Data → Data
 one_member name d = object (member name d no_members)
 
 -- it stands at the member, by its name
-refused : region_faults (codes "/region") (one_member (codes "destinationTransportPort") (string (codes "80-"))) ≡ (302, codes "/region/destinationTransportPort") ∷ []
+refused : region_faults (codes "/region") (one_member (codes "destinationTransportPort") (string (codes "80-")))
+    ≡ (302, codes "/region/destinationTransportPort") ∷ []
 unfolding number_of chars lib.Utf8.encode
 refused = refl
 
 -- a number in place of a text is a value of another kind
-number_for_text : region_faults (codes "/region") (one_member (codes "destinationTransportPort") (number (unsigned 80))) ≡ (104, codes "/region/destinationTransportPort") ∷ []
+number_for_text : region_faults (codes "/region") (one_member (codes "destinationTransportPort") (number (unsigned 80)))
+    ≡ (104, codes "/region/destinationTransportPort") ∷ []
 unfolding chars lib.Utf8.encode
 number_for_text = refl
 
 -- only axes have names
-no_such_axis : region_faults (codes "/region") (one_member (codes "port") (string (codes "80"))) ≡ (102, codes "/region/port") ∷ []
+no_such_axis : region_faults (codes "/region") (one_member (codes "port") (string (codes "80")))
+    ≡ (102, codes "/region/port") ∷ []
 unfolding chars lib.Utf8.encode
 no_such_axis = refl
 
 -- axes in their order, whatever the order of the members
-two_refused : region_faults (codes "/region") (object (member (codes "destinationTransportPort") (string (codes "443-80")) (member (codes "sourceIPv4Address") (string (codes "10.0.0")) no_members)))
+two_refused : region_faults (codes "/region")
+    (object (member (codes "destinationTransportPort") (string (codes "443-80"))
+    (member (codes "sourceIPv4Address") (string (codes "10.0.0")) no_members)))
     ≡ (302, codes "/region/sourceIPv4Address") ∷ (302, codes "/region/destinationTransportPort") ∷ []
 unfolding number_of quad_of prefix_of chars lib.Utf8.encode
 two_refused = refl
 
-none_refused : region_faults (codes "/region") (one_member (codes "destinationTransportPort") (string (codes "80-443"))) ≡ []
+none_refused : region_faults (codes "/region") (one_member (codes "destinationTransportPort") (string (codes "80-443")))
+    ≡ []
 unfolding number_of
 none_refused = refl

@@ -46,7 +46,8 @@ class_of devices d = record {
 -- ---- the document; crates above use only these two functions
 
 abbrev pub list_of_classes_faults : List (List ℕ) → List ℕ → Data → List FoundFault
-list_of_classes_faults devices = list_faults 0 class_limit (λ up ds. entries_faults (class_faults devices) class_name [] up 0 ds)
+list_of_classes_faults devices = list_faults 0 class_limit
+    (λ up ds. entries_faults (class_faults devices) class_name [] up 0 ds)
 
 abbrev pub traffic_rows : List (List ℕ) → List Row
 traffic_rows devices =

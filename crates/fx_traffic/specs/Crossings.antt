@@ -20,14 +20,16 @@ number_in devices name = option_map (λ place. suc place) (place_in devices name
 
 -- a value that is the name of one of the devices
 abbrev pub device_faults : List (List ℕ) → List ℕ → Data → List FoundFault
-device_faults devices up d = name_faults up d ++ fault_if (not (is_some (number_in devices (text_of d)))) unknown_device up
+device_faults devices up d = name_faults up d
+    ++ fault_if (not (is_some (number_in devices (text_of d)))) unknown_device up
 
 abbrev pub number_of : List (List ℕ) → Data → ℕ
 number_of devices d = unwrap_or (number_in devices (text_of d)) 0
 
 -- whether a packet comes into the device
 abbrev pub inwards_in : List ℕ → Option Bool
-inwards_in text = if bytes_eq text (codes "ingress") then Some true else (if bytes_eq text (codes "egress") then Some false else None)
+inwards_in text = if bytes_eq text (codes "ingress") then Some true
+    else (if bytes_eq text (codes "egress") then Some false else None)
 
 abbrev pub direction_faults : List ℕ → Data → List FoundFault
 direction_faults = text_that (λ text. is_some (inwards_in text))

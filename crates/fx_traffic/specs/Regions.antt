@@ -24,7 +24,8 @@ span None high = None
 span (Some low) None = None
 span (Some low) (Some high) = if nat_le low high then Some (record { low = low; high = high; bits = 0 }) else None
 
--- two values with a hyphen between them denote all values from the first to the second; any other text is a single value
+-- two values with a hyphen between them denote all values from the first to the second; any other text is a single
+-- value
 -- or a prefix of addresses
 abbrev pub values_by : Axis → List ℕ → Option (List ℕ × List ℕ) → Option Range
 values_by axis text None = option_or (values_of (OnAxis axis) text) (values_of (Prefix axis) text)

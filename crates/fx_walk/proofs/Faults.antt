@@ -16,7 +16,8 @@ use Rattle.fx_walk.specs.Walk.{FoundFault, first, refuses, Refuses, Reads, other
 pub pointer-Root : pointer Root ≡ []
 pointer-Root = search (rules, the_lemmas)
 
-pub pointer-Member : (up : Bor DocumentPath) (name : Bor (List ℕ)) → pointer (Member up name) ≡ below (pointer up.now) name.now
+pub pointer-Member : (up : Bor DocumentPath) (name : Bor (List ℕ)) → pointer (Member up name)
+    ≡ below (pointer up.now) name.now
 pointer-Member up name = search (rules, the_lemmas)
 
 pub pointer-Item : (up : Bor DocumentPath) (i : ℕ) → pointer (Item up i) ≡ nth (pointer up.now) i
@@ -36,49 +37,66 @@ more n (places.Octet o) a b h = absurd h
 pub refuses_more : (e : Fault) (a b : List FoundFault) → Refuses e a → Refuses e (a ++ b)
 refuses_more e a b h = more e.number e.place a b h
 
-first_of : (n : ℕ) (p : Place) (f : FoundFault) (a : List FoundFault) → first a ≡ Some f → refuses n p (f ∷ []) → refuses n p a
+first_of : (n : ℕ) (p : Place) (f : FoundFault) (a : List FoundFault) → first a ≡ Some f → refuses n p (f ∷ [])
+    → refuses n p a
 first_of n places.None f a e h = h
 first_of n (places.Text s) f a e h = e ∙ h
 first_of n (places.Line l) f a e h = absurd h
 first_of n (places.Octet o) f a e h = absurd h
 
 -- the first of these faults, alone or with others behind it
-pub refuses_first : (e : Fault) (f : FoundFault) (a : List FoundFault) → first a ≡ Some f → Refuses e (f ∷ []) → Refuses e a
+pub refuses_first : (e : Fault) (f : FoundFault) (a : List FoundFault) → first a ≡ Some f → Refuses e (f ∷ [])
+    → Refuses e a
 refuses_first e f a is h = first_of e.number e.place f a is h
 
 -- the exit of a `?`
-pub exit : {X : Type 0} (fs : List FoundFault) (x : X) (r : Result X Fault) (e : Fault) → IsErr r × IsErrAnd r (λ d. d ≡ e) → Refuses e fs → Reads fs x r
+pub exit : {X : Type 0} (fs : List FoundFault) (x : X) (r : Result X Fault) (e : Fault) → IsErr r
+    × IsErrAnd r (λ d. d ≡ e) → Refuses e fs → Reads fs x r
 exit fs x (Ok y) e h refused = absurd h.1
 exit fs x (Err d) e h refused = rw h.1 refused
 
-none_cond : {A : Type 0} (b : Bool) (x : A) (rest : Option A) (k : List ℕ) (ks : List (List ℕ)) (g : List ℕ → FoundFault) → None ≡ cond (not b) (Some x) rest → (None ≡ rest → map g ks ≡ []) → map g (cond (not b) (k ∷ ks) ks) ≡ []
+none_cond : {A : Type 0} (b : Bool) (x : A) (rest : Option A) (k : List ℕ) (ks : List (List ℕ))
+    (g : List ℕ → FoundFault) → None ≡ cond (not b) (Some x) rest → (None ≡ rest → map g ks ≡ [])
+    → map g (cond (not b) (k ∷ ks) ks) ≡ []
 none_cond true x rest k ks g h next = next h
 none_cond false x rest k ks g h next = absurd cc
 
-some_cond : {A : Type 0} (b : Bool) (x y : A) (text : A → List ℕ) (rest : Option A) (ks : List (List ℕ)) (g : List ℕ → FoundFault) → Some y ≡ cond (not b) (Some x) rest → (Some y ≡ rest → first (map g ks) ≡ Some (g (text y))) → first (map g (cond (not b) (text x ∷ ks) ks)) ≡ Some (g (text y))
+some_cond : {A : Type 0} (b : Bool) (x y : A) (text : A → List ℕ) (rest : Option A) (ks : List (List ℕ))
+    (g : List ℕ → FoundFault) → Some y ≡ cond (not b) (Some x) rest
+    → (Some y ≡ rest → first (map g ks) ≡ Some (g (text y))) → first (map g (cond (not b) (text x ∷ ks) ks))
+    ≡ Some (g (text y))
 some_cond true x y text rest ks g h next = next h
 some_cond {A} false x y text rest ks g h next = let e : x ≡ y = cc in ap (λ (z : A). Some (g (text z))) e
 
 -- no member stands out, and one does
-pub none_other : (may : List ℕ → Bool) (up : List ℕ) (es : List (String Global × Value)) → None ≡ find (λ k. not (may (string_bytes k))) (keys_of es) → others may up (members_view es) ≡ []
+pub none_other : (may : List ℕ → Bool) (up : List ℕ) (es : List (String Global × Value)) → None
+    ≡ find (λ k. not (may (string_bytes k))) (keys_of es) → others may up (members_view es) ≡ []
 none_other may up [] h = refl
 none_other may up (e ∷ es) h =
     none_cond (may (string_bytes e.0)) e.0 _ (string_bytes e.0) _ (λ k. (102, below up k)) h (none_other may up es)
 
-first_other : (may : List ℕ → Bool) (up : List ℕ) (es : List (String Global × Value)) (k : String Global) → Some k ≡ find (λ k. not (may (string_bytes k))) (keys_of es) → first (others may up (members_view es)) ≡ Some (102, below up (string_bytes k))
+first_other : (may : List ℕ → Bool) (up : List ℕ) (es : List (String Global × Value)) (k : String Global) → Some k
+    ≡ find (λ k. not (may (string_bytes k))) (keys_of es) → first (others may up (members_view es))
+    ≡ Some (102, below up (string_bytes k))
 first_other may up [] k h = absurd cc
 first_other may up (e ∷ es) k h =
     some_cond (may (string_bytes e.0)) e.0 k string_bytes _ _ (λ k. (102, below up k)) h (first_other may up es k)
 
-pub other_refused : (e : Fault) (may : List ℕ → Bool) (up : List ℕ) (es : List (String Global × Value)) (k : String Global) (rest : List FoundFault) → Some k ≡ find (λ k. not (may (string_bytes k))) (keys_of es) → Refuses e ((102, below up (string_bytes k)) ∷ []) → Refuses e (others may up (members_view es) ++ rest)
+pub other_refused : (e : Fault) (may : List ℕ → Bool) (up : List ℕ) (es : List (String Global × Value))
+    (k : String Global) (rest : List FoundFault) → Some k ≡ find (λ k. not (may (string_bytes k))) (keys_of es)
+    → Refuses e ((102, below up (string_bytes k)) ∷ []) → Refuses e (others may up (members_view es) ++ rest)
 other_refused e may up es k rest is h =
-    refuses_more e (others may up (members_view es)) rest (refuses_first e (102, below up (string_bytes k)) (others may up (members_view es)) (first_other may up es k is) h)
+    refuses_more e (others may up (members_view es)) rest
+    (refuses_first e (102, below up (string_bytes k)) (others may up (members_view es)) (first_other may up es k is)
+    h)
 
-any_map : (listed : List (Bor (List ℕ))) (k : List ℕ) → list_any (λ t. bytes_eq t k) (map (λ t. t.now) listed) ≡ list_any (λ t. bytes_eq t.now k) listed
+any_map : (listed : List (Bor (List ℕ))) (k : List ℕ) → list_any (λ t. bytes_eq t k) (map (λ t. t.now) listed)
+    ≡ list_any (λ t. bytes_eq t.now k) listed
 any_map [] k = refl
 any_map (t ∷ ts) k = rw (any_map ts k) refl
 
-pub listed-now : (listed : List (Bor (List ℕ))) (k : List ℕ) → list_any (λ t. bytes_eq t.now k) listed ≡ is_listed (map (λ t. t.now) listed) k
+pub listed-now : (listed : List (Bor (List ℕ))) (k : List ℕ) → list_any (λ t. bytes_eq t.now k) listed
+    ≡ is_listed (map (λ t. t.now) listed) k
 listed-now listed k = sym (any_map listed k)
 
 pub is_some-option_map : {X Y : Type 0} (f : X → Y) (o : Option X) → is_some (option_map f o) ≡ is_some o

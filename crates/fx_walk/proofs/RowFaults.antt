@@ -24,10 +24,12 @@ pub no_rows : (a b : List FoundFault) → a ≡ b → b ≡ [] → a ≡ []
 no_rows a b same none = same ∙ none
 
 -- the faults of some rows come before those of the rows below them
-pub rows_before : (above rest : List Row) (up : List ℕ) (d : Data) → row_faults (above ++ rest) up d ≡ row_faults above up d ++ row_faults rest up d
+pub rows_before : (above rest : List Row) (up : List ℕ) (d : Data) → row_faults (above ++ rest) up d
+    ≡ row_faults above up d ++ row_faults rest up d
 rows_before [] rest up d = refl
 rows_before (row ∷ above) rest up d =
-    ap (λ (fs : List FoundFault). row.faults up d ++ fs) (rows_before above rest up d) ∙ sym (append_assoc (row.faults up d) (row_faults above up d) (row_faults rest up d))
+    ap (λ (fs : List FoundFault). row.faults up d ++ fs) (rows_before above rest up d)
+    ∙ sym (append_assoc (row.faults up d) (row_faults above up d) (row_faults rest up d))
 
 -- an answer for the last of some rows
 module _ {X : Type 0} (x : X) (r : Result X Fault) where

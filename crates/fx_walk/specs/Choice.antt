@@ -18,7 +18,8 @@ one_of names = record { names = []; faults = λ up d. unless_one (count_by (λ n
 
 abbrev pub numbered_faults : List (List ℕ × ℕ) → List ℕ → Data → List FoundFault
 numbered_faults [] up d = []
-numbered_faults (r ∷ rows) up d = cond (is_some (get r.0 d)) ((r.1, below up r.0) ∷ numbered_faults rows up d) (numbered_faults rows up d)
+numbered_faults (r ∷ rows) up d = cond (is_some (get r.0 d)) ((r.1, below up r.0) ∷ numbered_faults rows up d)
+    (numbered_faults rows up d)
 
 -- none of these members is allowed
 abbrev pub none_of : List (List ℕ × ℕ) → Row

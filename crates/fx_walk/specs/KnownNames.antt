@@ -18,5 +18,6 @@ unknown_if_there known up None = []
 unknown_if_there known up (Some name) = unknown known up name
 
 -- the faults of a list's items, where the list is an object's member of this name
-abbrev pub member_references : {X : Type 0} → (List ℕ → X → List FoundFault) → List ℕ → List ℕ → List X → List FoundFault
+abbrev pub member_references : {X : Type 0} → (List ℕ → X → List FoundFault) → List ℕ → List ℕ → List X
+    → List FoundFault
 member_references faults up name xs = items_faults faults (below up name) 0 xs

@@ -32,21 +32,28 @@ items_of d = unwrap_or (items_in d) []
 
 -- too many items, too few, or the faults of the items; the first two have these numbers
 abbrev pub by_length : ℕ → ℕ → ℕ → ℕ → List ℕ → ℕ → List FoundFault → List FoundFault
-by_length few many least most up n rest = if nat_lt most n then (many, up) ∷ [] else (if nat_lt n least then (few, up) ∷ [] else rest)
+by_length few many least most up n rest = if nat_lt most n then (many, up)
+    ∷ [] else (if nat_lt n least then (few, up) ∷ [] else rest)
 
 abbrev pub list_faults_by : ℕ → ℕ → ℕ → ℕ → (List ℕ → List Data → List FoundFault) → List ℕ → Data → List FoundFault
-list_faults_by few many least most faults up d = of_kind (items_in d) (λ ds. by_length few many least most up (length ds) (faults up ds)) up
+list_faults_by few many least most faults up d =
+    of_kind (items_in d) (λ ds. by_length few many least most up (length ds) (faults up ds)) up
 
 abbrev pub list_faults : ℕ → ℕ → (List ℕ → List Data → List FoundFault) → List ℕ → Data → List FoundFault
 list_faults = list_faults_by missing_member too_many_entries
 
-abbrev pub faults_of_list : ℕ → ℕ → (List ℕ → List Data → List FoundFault) → List ℕ → List ℕ → Option Data → List FoundFault
+abbrev pub faults_of_list : ℕ → ℕ → (List ℕ → List Data → List FoundFault) → List ℕ → List ℕ → Option Data
+    → List FoundFault
 faults_of_list least most faults up name None = fault_if (nat_lt 0 least) missing_member up
 faults_of_list least most faults up name (Some d) = list_faults least most faults (below up name) d
 
 -- A member that is a list of `least` to `most` items. If it may be empty, it may be left out, with the same meaning.
 abbrev pub list_row : ℕ → ℕ → List ℕ → (List ℕ → List Data → List FoundFault) → Row
-list_row least most name faults = record { names = name ∷ []; faults = λ up d. faults_of_list least most faults up name (get name d) }
+list_row least most name faults = record {
+  names = name ∷ [];
+  faults =
+      λ up d. faults_of_list least most faults up name (get name d);
+}
 
 -- the faults of the items from index i on
 abbrev pub items_faults : {X : Type 0} → (List ℕ → X → List FoundFault) → List ℕ → ℕ → List X → List FoundFault
@@ -59,9 +66,11 @@ items least most name faults = list_row least most name (λ up ds. items_faults 
 -- ---- lists whose entries have distinct names
 
 -- the faults of the entries from index i on, after entries with these names
-abbrev pub entries_faults : (List (List ℕ) → List ℕ → Data → List FoundFault) → (Data → List ℕ) → List (List ℕ) → List ℕ → ℕ → List Data → List FoundFault
+abbrev pub entries_faults : (List (List ℕ) → List ℕ → Data → List FoundFault) → (Data → List ℕ) → List (List ℕ) → List ℕ
+    → ℕ → List Data → List FoundFault
 entries_faults faults name earlier up i [] = []
-entries_faults faults name earlier up i (d ∷ ds) = faults earlier (nth up i) d ++ entries_faults faults name (earlier ++ name d ∷ []) up (i + 1) ds
+entries_faults faults name earlier up i (d ∷ ds) = faults earlier (nth up i) d
+    ++ entries_faults faults name (earlier ++ name d ∷ []) up (i + 1) ds
 
 abbrev pub entries : ℕ → ℕ → List ℕ → (List (List ℕ) → List ℕ → Data → List FoundFault) → (Data → List ℕ) → Row
 entries least most name faults name_in = list_row least most name (λ up ds. entries_faults faults name_in [] up 0 ds)
@@ -87,8 +96,10 @@ name_once = name_once_by bad_value name_twice
 -- The result of checking the kind and length of a list.
 abbrev pub IsListBy : ℕ → ℕ → ℕ → ℕ → List ℕ → Data → Result (Bor (List Value)) Fault → Type 0
 IsListBy few many least most up d (Ok values) =
-    ((faults : List ℕ → List Data → List FoundFault) → list_faults_by few many least most faults up d ≡ faults up (map view values.now)) × (items_of d ≡ map view values.now)
-IsListBy few many least most up d (Err e) = (faults : List ℕ → List Data → List FoundFault) → Refuses e (list_faults_by few many least most faults up d)
+    ((faults : List ℕ → List Data → List FoundFault) → list_faults_by few many least most faults up d
+    ≡ faults up (map view values.now)) × (items_of d ≡ map view values.now)
+IsListBy few many least most up d (Err e) = (faults : List ℕ → List Data → List FoundFault)
+    → Refuses e (list_faults_by few many least most faults up d)
 
 abbrev pub IsListOf : ℕ → ℕ → List ℕ → Data → Result (Bor (List Value)) Fault → Type 0
 IsListOf = IsListBy missing_member too_many_entries
@@ -96,6 +107,8 @@ IsListOf = IsListBy missing_member too_many_entries
 -- The result of checking the kind and length of an object's member, where a missing member counts as an empty list.
 abbrev pub IsMemberList : ℕ → ℕ → List ℕ → List ℕ → Data → Result (Bor (List Value)) Fault → Type 0
 IsMemberList least most up name d (Ok values) =
-    ((faults : List ℕ → List Data → List FoundFault) → faults (below up name) [] ≡ [] → faults_of_list least most faults up name (get name d) ≡ faults (below up name) (map view values.now))
+    ((faults : List ℕ → List Data → List FoundFault) → faults (below up name) [] ≡ []
+    → faults_of_list least most faults up name (get name d) ≡ faults (below up name) (map view values.now))
     × (items_of (member_of name d) ≡ map view values.now)
-IsMemberList least most up name d (Err e) = (faults : List ℕ → List Data → List FoundFault) → Refuses e (faults_of_list least most faults up name (get name d))
+IsMemberList least most up name d (Err e) = (faults : List ℕ → List Data → List FoundFault)
+    → Refuses e (faults_of_list least most faults up name (get name d))

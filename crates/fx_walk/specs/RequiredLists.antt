@@ -9,4 +9,5 @@ required_items most name faults = required_row name (list_faults 0 most (λ up d
 
 -- the same for entries with distinct names
 abbrev pub required_entries : ℕ → List ℕ → (List (List ℕ) → List ℕ → Data → List FoundFault) → (Data → List ℕ) → Row
-required_entries most name faults name_in = required_row name (list_faults 0 most (λ up ds. entries_faults faults name_in [] up 0 ds))
+required_entries most name faults name_in =
+    required_row name (list_faults 0 most (λ up ds. entries_faults faults name_in [] up 0 ds))

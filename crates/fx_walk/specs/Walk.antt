@@ -107,7 +107,8 @@ others may_stand up ms = map (λ k. (unknown_member, below up k)) (filter (λ k.
 
 -- the faults of an object: the members that no row lists, then the faults of the rows in order
 abbrev pub object_faults : List Row → List ℕ → Data → List FoundFault
-object_faults rows up d = of_kind (as_object d) (λ ms. others (is_listed (listed_in rows)) up ms ++ row_faults rows up d) up
+object_faults rows up d = of_kind (as_object d)
+    (λ ms. others (is_listed (listed_in rows)) up ms ++ row_faults rows up d) up
 
 -- The name of a member that another module defines (RFC 7951, section 4): the text before the first colon is the
 -- name of a module other than this one.
@@ -117,9 +118,12 @@ is_foreign home name = list_any (λ b. b == 58) name && (not (bytes_eq (before_f
 
 -- the faults of an object of this module that may also have members of other modules
 abbrev pub open_object_faults : List ℕ → List Row → List ℕ → Data → List FoundFault
-open_object_faults home rows up d = of_kind (as_object d) (λ ms. others (λ k. is_listed (listed_in rows) k || is_foreign home k) up ms ++ row_faults rows up d) up
+open_object_faults home rows up d = of_kind (as_object d)
+    (λ ms. others (λ k. is_listed (listed_in rows) k || is_foreign home k) up ms ++ row_faults rows up d) up
 
 -- The result of checking an object's kind and its unlisted members.
-abbrev pub IsObject : (List Row → List ℕ → Data → List FoundFault) → List (List ℕ) → List ℕ → Data → Result (Unit {0}) Fault → Type 0
-IsObject faults listed up d (Ok x) = (rows : List Row) → listed_in rows ≡ listed → faults rows up d ≡ row_faults rows up d
+abbrev pub IsObject : (List Row → List ℕ → Data → List FoundFault) → List (List ℕ) → List ℕ → Data
+    → Result (Unit {0}) Fault → Type 0
+IsObject faults listed up d (Ok x) = (rows : List Row) → listed_in rows ≡ listed → faults rows up d
+    ≡ row_faults rows up d
 IsObject faults listed up d (Err e) = (rows : List Row) → listed_in rows ≡ listed → Refuses e (faults rows up d)

@@ -20,7 +20,8 @@ abbrev flow : List ℕ
 flow = 10 ∷ 0 ∷ 0 ∷ 1 ∷ 0 ∷ 0 ∷ 0 ∷ 0 ∷ 0 ∷ 0 ∷ 1 ∷ 44 ∷ 0 ∷ 0 ∷ 0 ∷ 0 ∷ 0 ∷ 0 ∷ 0 ∷ 2 ∷ []
 
 abbrev stream : List ℕ
-stream = 0 ∷ 10 ∷ 0 ∷ 60 ∷ 0 ∷ 0 ∷ 0 ∷ 2 ∷ 0 ∷ 0 ∷ 0 ∷ 0 ∷ 0 ∷ 0 ∷ 0 ∷ 0 ∷ 0 ∷ 2 ∷ 0 ∷ 20 ∷ (template ++ 1 ∷ 0 ∷ 0 ∷ 24 ∷ flow)
+stream = 0 ∷ 10 ∷ 0 ∷ 60 ∷ 0 ∷ 0 ∷ 0 ∷ 2 ∷ 0 ∷ 0 ∷ 0 ∷ 0 ∷ 0 ∷ 0 ∷ 0 ∷ 0 ∷ 0 ∷ 2 ∷ 0 ∷ 20
+    ∷ (template ++ 1 ∷ 0 ∷ 0 ∷ 24 ∷ flow)
 
 reads_a_message : front stream ≡ complete (record {
   octets = 60;
@@ -40,14 +41,16 @@ refuses_a_cut_set : front (0 ∷ 10 ∷ 0 ∷ 20 ∷ drop 4 (take 20 stream)) �
 unfolding sets_of sets_in
 refuses_a_cut_set = refl
 
-reads_a_heading : heading_at kinds.Plain template ≡ Ok (Declaration (record { id = 256; scope = 0; count = 3 }), drop 4 template)
+reads_a_heading : heading_at kinds.Plain template
+    ≡ Ok (Declaration (record { id = 256; scope = 0; count = 3 }), drop 4 template)
 reads_a_heading = refl
 
 reads_a_withdrawal : heading_at kinds.Options (0 ∷ 3 ∷ 0 ∷ 0 ∷ []) ≡ Ok (WithdrawalOfAll, [])
 reads_a_withdrawal = refl
 
 reads_fields : fields_in 3 (drop 4 template) ≡ Ok (
-  record { element = 8; field_length = 4; enterprise = None } ∷ record { element = 1; field_length = 8; enterprise = None }
+  record { element = 8; field_length = 4; enterprise = None }
+      ∷ record { element = 1; field_length = 8; enterprise = None }
       ∷ record { element = 2; field_length = 8; enterprise = None } ∷ [],
   [],
 )
@@ -55,8 +58,16 @@ unfolding fields_in element_of
 reads_fields = refl
 
 -- a value of variable length tells its length first
-reads_a_name : record_at (record { element = 82; field_length = 65535; enterprise = None } ∷ []) (3 ∷ 101 ∷ 116 ∷ 104 ∷ 7 ∷ [])
-    ≡ Some (record { field = record { element = 82; field_length = 65535; enterprise = None }; content = 101 ∷ 116 ∷ 104 ∷ [] } ∷ [], 7 ∷ [])
+reads_a_name : record_at (record { element = 82; field_length = 65535; enterprise = None } ∷ [])
+    (3 ∷ 101 ∷ 116 ∷ 104 ∷ 7 ∷ [])
+    ≡ Some (
+      record {
+        field = record { element = 82; field_length = 65535; enterprise = None };
+        content = 101 ∷ 116 ∷ 104
+            ∷ [];
+      } ∷ [],
+      7 ∷ [],
+    )
 unfolding record_at
 reads_a_name = refl
 

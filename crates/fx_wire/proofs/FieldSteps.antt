@@ -71,25 +71,36 @@ specifier_at-shorter : (bs : List ℕ) (p : FieldSpecifier × List ℕ) → spec
 specifier_at-shorter bs p e =
     elim (chosen (ltb (length bs) 4) None _ (Some p) e) [
       | inl h ↦ absurd cc
-      | inr h ↦ elim (chosen (ltb (number_at w16 0 bs) 32768) (Some (record { element = number_at w16 0 bs; field_length = number_at w16 2 bs; enterprise = None }, drop 4 bs)) _ (Some p) h.1) [
-        | inl i ↦ let d = ap (rest_or []) i.1 in omega (arith, ap length d, length-drop 4 bs)
-        | inr i ↦ elim (chosen (ltb (length bs) 8) None _ (Some p) i.1) [
-          | inl j ↦ absurd cc
-          | inr j ↦ let d = ap (rest_or []) j.1 in omega (arith, ap length d, length-drop 8 bs)
-        ]
-      ]
+      | inr h ↦ elim (chosen (ltb (number_at w16 0 bs) 32768)
+          (Some (
+            record { element = number_at w16 0 bs; field_length = number_at w16 2 bs; enterprise = None },
+            drop 4
+                bs,
+          )) _ (Some p) h.1) [
+            | inl i ↦ let d = ap (rest_or []) i.1 in omega (arith, ap length d, length-drop 4 bs)
+            | inr i ↦ elim (chosen (ltb (length bs) 8) None _ (Some p) i.1) [
+              | inl j ↦ absurd cc
+              | inr j ↦ let d = ap (rest_or []) j.1 in omega (arith, ap length d, length-drop 8 bs)
+            ]
+          ]
     ]
 
-checked : (bs : List ℕ) (o : Option (FieldSpecifier × List ℕ)) (p : FieldSpecifier × List ℕ) → specifier_at bs ≡ o → checked_field o ≡ Ok p → (o ≡ Some p) × (stands p.0 ≡ true)
+checked : (bs : List ℕ) (o : Option (FieldSpecifier × List ℕ)) (p : FieldSpecifier × List ℕ) → specifier_at bs ≡ o
+    → checked_field o ≡ Ok p → (o ≡ Some p) × (stands p.0 ≡ true)
 checked bs None p e f = absurd cc
 checked bs (Some q) p e f =
     elim (chosen (stands q.0) (Ok q) (Err malformed.Template) (Ok p) f) [
-      | inl h ↦ let same : q ≡ p = cc in (ap Some same, sym (ap (λ (x : FieldSpecifier × List ℕ). stands x.0) same) ∙ h.0)
+      | inl h ↦ let same : q ≡ p = cc in (
+        ap Some same,
+        sym (ap (λ (x : FieldSpecifier × List ℕ). stands x.0) same)
+            ∙ h.0,
+      )
       | inr h ↦ absurd cc
     ]
 
 -- a field that stands leaves no more octets, and its values have some
-pub field_at-shorter : (bs : List ℕ) (p : FieldSpecifier × List ℕ) → field_at bs ≡ Ok p → (length p.1 ≤ length bs) × (1 ≤ shortest_value p.0)
+pub field_at-shorter : (bs : List ℕ) (p : FieldSpecifier × List ℕ) → field_at bs ≡ Ok p → (length p.1 ≤ length bs)
+    × (1 ≤ shortest_value p.0)
 field_at-shorter bs p e =
     let c = checked bs (specifier_at bs) p refl e in
     (specifier_at-shorter bs p c.0, shortest_value-some p.0 (can_have-some (element_of p.0) p.0.field_length c.1))
@@ -102,11 +113,13 @@ pub fields_in-none : (bs : List ℕ) → fields_in 0 bs ≡ Ok ([], bs)
 unfolding fields_in
 fields_in-none bs = refl
 
-pub fields_in-first : (m n : ℕ) (bs : List ℕ) (p : FieldSpecifier × List ℕ) → m ≡ n + 1 → field_at bs ≡ Ok p → fields_in m bs ≡ before_fields (p.0 ∷ []) (fields_in n p.1)
+pub fields_in-first : (m n : ℕ) (bs : List ℕ) (p : FieldSpecifier × List ℕ) → m ≡ n + 1 → field_at bs ≡ Ok p
+    → fields_in m bs ≡ before_fields (p.0 ∷ []) (fields_in n p.1)
 unfolding fields_in
 fields_in-first m n bs p k e = ap (λ (x : ℕ). fields_in x bs) (k ∙ add-one n) ∙ ap (turn n) e
 
-pub fields_in-refused : (m n : ℕ) (bs : List ℕ) (e : Malformed) → n + 1 ≤ m → field_at bs ≡ Err e → fields_in m bs ≡ Err e
+pub fields_in-refused : (m n : ℕ) (bs : List ℕ) (e : Malformed) → n + 1 ≤ m → field_at bs ≡ Err e → fields_in m bs
+    ≡ Err e
 unfolding fields_in
 fields_in-refused zero n bs e k h = absurd (omega arith)
 fields_in-refused (suc m) n bs e k h = ap (turn m) h
@@ -115,9 +128,12 @@ pub before_fields-none : (r : Result (List FieldSpecifier × List ℕ) Malformed
 before_fields-none (Ok p) = refl
 before_fields-none (Err n) = refl
 
-pub before_fields-again : (xs : List FieldSpecifier) (f : FieldSpecifier) (r : Result (List FieldSpecifier × List ℕ) Malformed) → before_fields xs (before_fields (f ∷ []) r) ≡ before_fields (xs ++ f ∷ []) r
+pub before_fields-again : (xs : List FieldSpecifier) (f : FieldSpecifier)
+    (r : Result (List FieldSpecifier × List ℕ) Malformed) → before_fields xs (before_fields (f ∷ []) r)
+    ≡ before_fields (xs ++ f ∷ []) r
 before_fields-again xs f (Ok p) = ap (λ (l : List FieldSpecifier). Ok (l, p.1)) (sym (append_assoc xs (f ∷ []) p.0))
 before_fields-again xs f (Err n) = refl
 
-pub shortest_record-push : (fields : List FieldSpecifier) (f : FieldSpecifier) → shortest_record (fields ++ f ∷ []) ≡ shortest_record fields + shortest_value f
+pub shortest_record-push : (fields : List FieldSpecifier) (f : FieldSpecifier) → shortest_record (fields ++ f ∷ [])
+    ≡ shortest_record fields + shortest_value f
 shortest_record-push fields f = sum_by_push shortest_value fields f

@@ -22,29 +22,54 @@ whole_size there version size n e =
           | inl j ↦ absurd cc
           | inr j ↦ elim (chosen (ltb there size) more (whole size) (whole n) j.1) [
             | inl k ↦ absurd cc
-            | inr k ↦ let s : size ≡ n = cc in (ltb-false there 16 h.0, omega (arith, s, ltb-false size 16 j.0), omega (arith, s, ltb-false there size k.0))
+            | inr k ↦ let s : size ≡ n = cc in (
+              ltb-false there 16 h.0,
+              omega (arith, s, ltb-false size 16 j.0),
+              omega (arith, s, ltb-false there size k.0),
+            )
           ]
         ]
       ]
     ]
 
 -- more octets don't change what the header tells, if it needs no more
-frame_more : (there later version size : ℕ) → there ≤ later → frame_of there version size ≢ more → (16 ≤ there) × (frame_of later version size ≡ frame_of there version size)
+frame_more : (there later version size : ℕ) → there ≤ later → frame_of there version size ≢ more → (16 ≤ there)
+    × (frame_of later version size ≡ frame_of there version size)
 frame_more there later version size le ne = go (ltb there 16) refl (ltb there size) refl where
-  later_on : ltb there 16 ≡ false → ltb there size ≡ true → (c : Bool) → not (eqb version 10) ≡ c → (d : Bool) → ltb size 16 ≡ d → (16 ≤ there) × (frame_of later version size ≡ frame_of there version size)
-  later_on e f true g d h = (ltb-false there 16 e, rw (e, g, le-ltb later 16 (omega (arith, ltb-false there 16 e))) refl)
-  later_on e f false g true h = (ltb-false there 16 e, rw (e, g, h, le-ltb later 16 (omega (arith, ltb-false there 16 e))) refl)
+  later_on : ltb there 16 ≡ false → ltb there size ≡ true → (c : Bool) → not (eqb version 10) ≡ c → (d : Bool)
+      → ltb size 16 ≡ d → (16 ≤ there) × (frame_of later version size ≡ frame_of there version size)
+  later_on e f true g d h = (
+    ltb-false there 16 e,
+    rw (e, g, le-ltb later 16 (omega (arith, ltb-false there 16 e)))
+        refl,
+  )
+  later_on e f false g true h = (
+    ltb-false there 16 e,
+    rw (e, g, h, le-ltb later 16 (omega (arith, ltb-false there 16 e))) refl,
+  )
   later_on e f false g false h = absurd (ne (rw (e, g, h, f) refl))
 
-  go : (a : Bool) → ltb there 16 ≡ a → (b : Bool) → ltb there size ≡ b → (16 ≤ there) × (frame_of later version size ≡ frame_of there version size)
+  go : (a : Bool) → ltb there 16 ≡ a → (b : Bool) → ltb there size ≡ b → (16 ≤ there)
+      × (frame_of later version size ≡ frame_of there version size)
   go true e b f = absurd (ne (rw e refl))
   go false e true f = later_on e f (not (eqb version 10)) refl (ltb size 16) refl
-  go false e false f = (ltb-false there 16 e, rw (e, f, le-ltb later 16 (omega (arith, ltb-false there 16 e)), le-ltb later size (omega (arith, ltb-false there size f))) refl)
+  go false e false f = (
+    ltb-false there 16 e,
+    rw (
+      e,
+      f,
+      le-ltb later 16 (omega (arith, ltb-false there 16 e)),
+      le-ltb later size
+          (omega (arith, ltb-false there size f)),
+    ) refl,
+  )
 
-number_front : (w : Width) (i : ℕ) (bs cs : List ℕ) → i + byte_len w ≤ length bs → number_at w i (bs ++ cs) ≡ number_at w i bs
+number_front : (w : Width) (i : ℕ) (bs cs : List ℕ) → i + byte_len w ≤ length bs → number_at w i (bs ++ cs)
+    ≡ number_at w i bs
 number_front w i bs cs le =
     let d : drop i (bs ++ cs) ≡ drop i bs ++ cs = drop-append-le i bs cs (omega arith) in
-    let t : take (byte_len w) (drop i bs ++ cs) ≡ take (byte_len w) (drop i bs) = take-append-le (byte_len w) (drop i bs) cs (omega (arith, length-drop i bs)) in
+    let t : take (byte_len w) (drop i bs ++ cs) ≡ take (byte_len w) (drop i bs) =
+    take-append-le (byte_len w) (drop i bs) cs (omega (arith, length-drop i bs)) in
     ap (from_be_bytes w) (ap (take (byte_len w)) d ∙ t)
 
 header_front : (bs cs : List ℕ) → 16 ≤ length bs → header_of (bs ++ cs) ≡ header_of bs
@@ -56,10 +81,12 @@ header_front bs cs le =
 
 frame_at-more : (bs cs : List ℕ) → frame_at bs ≢ more → frame_at (bs ++ cs) ≡ frame_at bs
 frame_at-more bs cs ne =
-    let f = frame_more (length bs) (length (bs ++ cs)) (number_at w16 0 bs) (number_at w16 2 bs) (omega (arith, length-append bs cs)) ne in
+    let f = frame_more (length bs) (length (bs ++ cs)) (number_at w16 0 bs) (number_at w16 2 bs)
+    (omega (arith, length-append bs cs)) ne in
     rw (number_front w16 0 bs cs (omega (arith, f.0)), number_front w16 2 bs cs (omega (arith, f.0))) f.1
 
-message_size : (n : ℕ) (h : Header) (r : Result (List SetParts) Malformed) (m : Message) → with_sets n h r ≡ complete m → n ≡ m.octets
+message_size : (n : ℕ) (h : Header) (r : Result (List SetParts) Malformed) (m : Message) → with_sets n h r ≡ complete m
+    → n ≡ m.octets
 message_size n h (Ok ss) m e = cc
 message_size n h (Err k) m e = absurd cc
 
@@ -125,9 +152,16 @@ front_alone bs m e = by (frame_at bs) refl e where
       let s = message_size n (header_of bs) (sets_of (drop 16 (take n bs))) m d in
       let parts : take n bs ++ drop n bs ≡ bs = take-append-drop n bs in
       let size : length (take n bs) ≡ n = length-take-le n bs w.2 in
-      let version : number_at w16 0 (take n bs) ≡ number_at w16 0 bs = sym (number_front w16 0 (take n bs) (drop n bs) (omega (arith, size, w.1))) ∙ ap (number_at w16 0) parts in
-      let long : number_at w16 2 (take n bs) ≡ number_at w16 2 bs = sym (number_front w16 2 (take n bs) (drop n bs) (omega (arith, size, w.1))) ∙ ap (number_at w16 2) parts in
-      let alone : frame_at (take n bs) ≡ whole n = ap (λ (x : ℕ). frame_of x (number_at w16 0 (take n bs)) (number_at w16 2 (take n bs))) size ∙ ap (λ (x : ℕ). frame_of n x (number_at w16 2 (take n bs))) version
-      ∙ ap (λ (x : ℕ). frame_of n (number_at w16 0 bs) x) long ∙ frame_exact (length bs) (number_at w16 0 bs) (number_at w16 2 bs) n k in
-      let apart : front (take n bs) ≢ needs_more = λ h. never_more n (header_of (take n bs)) (sets_of (drop 16 (take n (take n bs)))) (sym (ap (front_by (take n bs)) alone) ∙ h) in
+      let version : number_at w16 0 (take n bs) ≡ number_at w16 0 bs =
+      sym (number_front w16 0 (take n bs) (drop n bs) (omega (arith, size, w.1))) ∙ ap (number_at w16 0) parts in
+      let long : number_at w16 2 (take n bs) ≡ number_at w16 2 bs =
+      sym (number_front w16 2 (take n bs) (drop n bs) (omega (arith, size, w.1))) ∙ ap (number_at w16 2) parts in
+      let alone : frame_at (take n bs) ≡ whole n =
+      ap (λ (x : ℕ). frame_of x (number_at w16 0 (take n bs)) (number_at w16 2 (take n bs))) size
+      ∙ ap (λ (x : ℕ). frame_of n x (number_at w16 2 (take n bs))) version
+      ∙ ap (λ (x : ℕ). frame_of n (number_at w16 0 bs) x) long
+      ∙ frame_exact (length bs) (number_at w16 0 bs) (number_at w16 2 bs) n k in
+      let apart : front (take n bs) ≢ needs_more =
+      λ h. never_more n (header_of (take n bs)) (sets_of (drop 16 (take n (take n bs))))
+      (sym (ap (front_by (take n bs)) alone) ∙ h) in
       ap (λ (x : ℕ). front (take x bs)) (sym s) ∙ sym (front_more (take n bs) (drop n bs) apart) ∙ ap front parts ∙ e

@@ -21,7 +21,8 @@ rest_or other (Ok p) = p.1
 rest_or other (Err n) = other
 
 -- a set has four octets at least
-pub shorter : (bs : List ℕ) (p : SetParts × List ℕ) → set_at bs ≡ Ok p → (n : ℕ) × (4 ≤ n) × (n ≤ length bs) × (drop n bs ≡ p.1)
+pub shorter : (bs : List ℕ) (p : SetParts × List ℕ) → set_at bs ≡ Ok p → (n : ℕ) × (4 ≤ n) × (n ≤ length bs)
+    × (drop n bs ≡ p.1)
 shorter bs p e =
     let s : ℕ = number_at w16 2 bs in
     elim (chosen (ltb (length bs) 4) (Err malformed.SetLength) _ (Ok p) e) [
@@ -30,7 +31,8 @@ shorter bs p e =
         | inl i ↦ absurd cc
         | inr i ↦ elim (chosen (is_reserved (number_at w16 0 bs)) (Err malformed.SetId) _ (Ok p) i.1) [
           | inl j ↦ absurd cc
-          | inr j ↦ let o = or_false (ltb s 4) (ltb (length bs) s) i.0 in (s, ltb-false s 4 o.0, ltb-false (length bs) s o.1, ap (rest_or []) j.1)
+          | inr j ↦ let o = or_false (ltb s 4) (ltb (length bs) s) i.0 in
+              (s, ltb-false s 4 o.0, ltb-false (length bs) s o.1, ap (rest_or []) j.1)
         ]
       ]
     ]
@@ -64,13 +66,17 @@ pub sets_of-none : sets_of [] ≡ Ok []
 unfolding sets_of sets_in
 sets_of-none = refl
 
-pub sets_of-first : (bs : List ℕ) (p : SetParts × List ℕ) → set_at bs ≡ Ok p → (sets_of bs ≡ before_sets p.0 (sets_of p.1)) × (length p.1 < length bs)
+pub sets_of-first : (bs : List ℕ) (p : SetParts × List ℕ) → set_at bs ≡ Ok p
+    → (sets_of bs ≡ before_sets p.0 (sets_of p.1)) × (length p.1 < length bs)
 unfolding sets_of sets_in
 sets_of-first [] p e = let s = shorter [] p e in absurd (omega (arith, s.1, s.2))
 sets_of-first (b ∷ bs) p e =
     let s = shorter (b ∷ bs) p e in
-    let less : length p.1 < length (b ∷ bs) = omega (arith, s.1, s.2, ap length s.3, length-drop s.0 (b ∷ bs)) in
-    (ap (turn (length bs)) e ∙ ap (before_sets p.0) (turns_same (length bs) (length p.1) p.1 (omega arith) (omega arith)), less)
+    let less : length p.1 < length (b ∷ bs) = omega (arith, s.1, s.2, ap length s.3, length-drop s.0 (b ∷ bs)) in (
+      ap (turn (length bs)) e ∙ ap (before_sets p.0)
+          (turns_same (length bs) (length p.1) p.1 (omega arith) (omega arith)),
+      less,
+    )
 
 pub sets_of-refused : (bs : List ℕ) (n : Malformed) → 0 < length bs → set_at bs ≡ Err n → sets_of bs ≡ Err n
 unfolding sets_of sets_in
@@ -81,11 +87,13 @@ pub is_ok-before : (first : SetParts) (r : Result (List SetParts) Malformed) →
 is_ok-before first (Ok ss) = refl
 is_ok-before first (Err n) = refl
 
-pub sets_or_none-before : (first : SetParts) (r : Result (List SetParts) Malformed) → is_ok r ≡ true → sets_or_none (before_sets first r) ≡ first ∷ sets_or_none r
+pub sets_or_none-before : (first : SetParts) (r : Result (List SetParts) Malformed) → is_ok r ≡ true
+    → sets_or_none (before_sets first r) ≡ first ∷ sets_or_none r
 sets_or_none-before first (Ok ss) e = refl
 sets_or_none-before first (Err n) e = absurd cc
 
-pub err_before : (first : SetParts) (r : Result (List SetParts) Malformed) (n : Malformed) → r ≡ Err n → before_sets first r ≡ Err n
+pub err_before : (first : SetParts) (r : Result (List SetParts) Malformed) (n : Malformed) → r ≡ Err n
+    → before_sets first r ≡ Err n
 err_before first (Ok ss) n e = absurd cc
 err_before first (Err m) n e = e
 

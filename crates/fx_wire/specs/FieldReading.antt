@@ -9,7 +9,8 @@ abbrev pub with_rest : Option (FieldSpecifier × Bor (List ℕ)) → Option (Fie
 with_rest None = None
 with_rest (Some p) = Some (p.0, p.1.now)
 
-abbrev pub field_with_rest : Result (FieldSpecifier × Bor (List ℕ)) Malformed → Result (FieldSpecifier × List ℕ) Malformed
+abbrev pub field_with_rest : Result (FieldSpecifier × Bor (List ℕ)) Malformed
+    → Result (FieldSpecifier × List ℕ) Malformed
 field_with_rest (Ok p) = Ok (p.0, p.1.now)
 field_with_rest (Err why) = Err why
 

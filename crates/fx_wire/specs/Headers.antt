@@ -1,4 +1,5 @@
--- Message headers (RFC 7011, section 3.1): 16 octets with the version, the length of the whole message, the export time, the
+-- Message headers (RFC 7011, section 3.1): 16 octets with the version, the length of the whole message, the export
+-- time, the
 -- sequence number and the observation domain.
 use Rattle.std.specs.Prelude.{ℕ, not, ◌==◌, nat_lt, if◌then◌else◌, List, length}
 use Rattle.std.specs.Int.{w16, w32}

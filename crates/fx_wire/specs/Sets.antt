@@ -15,7 +15,8 @@ pub record SetParts : Type 0 where
 abbrev pub set_parts : Set → SetParts
 set_parts s = record { id = s.id; content = s.content.now }
 
--- template sets have id 2, options template sets 3, data sets the id of their template (section 3.3.2); the others are reserved
+-- template sets have id 2, options template sets 3, data sets the id of their template (section 3.3.2); the others are
+-- reserved
 abbrev pub is_reserved : ℕ → Bool
 is_reserved id = nat_lt id 256 && (not (id == 2) && not (id == 3))
 
@@ -23,9 +24,14 @@ is_reserved id = nat_lt id 256 && (not (id == 2) && not (id == 3))
 abbrev pub set_at : List ℕ → Result (SetParts × List ℕ) Malformed
 set_at octets =
     if nat_lt (length octets) 4 then Err malformed.SetLength
-    else if nat_lt (number_at w16 2 octets) 4 || nat_lt (length octets) (number_at w16 2 octets) then Err malformed.SetLength
+    else if nat_lt (number_at w16 2 octets) 4 || nat_lt (length octets) (number_at w16 2 octets) then Err
+    malformed.SetLength
     else if is_reserved (number_at w16 0 octets) then Err malformed.SetId
-    else Ok (record { id = number_at w16 0 octets; content = take (number_at w16 2 octets - 4) (drop 4 octets) }, drop (number_at w16 2 octets) octets)
+    else Ok (
+      record { id = number_at w16 0 octets; content = take (number_at w16 2 octets - 4) (drop 4 octets) },
+      drop
+          (number_at w16 2 octets) octets,
+    )
 
 abbrev pub before_sets : SetParts → Result (List SetParts) Malformed → Result (List SetParts) Malformed
 before_sets first (Ok others) = Ok (first ∷ others)
@@ -35,7 +41,8 @@ before_sets first (Err why) = Err why
 unfoldable pub sets_in : ℕ → List ℕ → Result (List SetParts) Malformed
 sets_in turns [] = Ok []
 sets_in zero (b ∷ bs) = Err malformed.SetLength
-sets_in (suc turns) (b ∷ bs) = elim (set_at (b ∷ bs)) [ Ok first ↦ before_sets first.0 (sets_in turns first.1) | Err why ↦ Err why ]
+sets_in (suc turns) (b ∷ bs) = elim (set_at (b ∷ bs))
+    [ Ok first ↦ before_sets first.0 (sets_in turns first.1) | Err why ↦ Err why ]
 
 unfoldable pub sets_of : List ℕ → Result (List SetParts) Malformed
 sets_of octets = sets_in (length octets) octets

@@ -1,4 +1,5 @@
--- The first octets of template records (RFC 7011, section 3.4.1), options template records (3.4.2) and withdrawals (8.1).
+-- The first octets of template records (RFC 7011, section 3.4.1), options template records (3.4.2) and withdrawals
+-- (8.1).
 use Rattle.std.specs.Prelude.{ℕ, ◌||◌, ◌==◌, nat_lt, nat_le, if◌then◌else◌, List, length, drop, Result, Ok, Err}
 use Rattle.std.specs.Int.{w16}
 use Rattle.fx_wire.specs.Numbers.{number_at}
@@ -16,7 +17,8 @@ set_id kinds.Options = 3
 
 -- a field count of 0 withdraws the template of an id, or all templates of the set's kind if the id is that of the set
 abbrev pub withdrawal : TemplateKind → ℕ → Result TemplateHeading Malformed
-withdrawal kind id = if nat_le 256 id then Ok (Withdrawal id) else if id == set_id kind then Ok WithdrawalOfAll else Err malformed.Template
+withdrawal kind id = if nat_le 256 id then Ok (Withdrawal id) else if id == set_id kind then Ok WithdrawalOfAll else Err
+    malformed.Template
 
 -- an options template gives the number of its scope fields: at least one
 abbrev pub declaration : TemplateKind → ℕ → ℕ → List ℕ → Result (TemplateHeading × List ℕ) Malformed

@@ -32,7 +32,8 @@ before_values firsts None = None
 -- the record at the front under a template's fields, and what follows it, unless the octets are too few
 unfoldable pub record_at : List FieldSpecifier → List ℕ → Option (List Value × List ℕ)
 record_at [] octets = Some ([], octets)
-record_at (f ∷ fs) octets = elim (value_at f.field_length octets) [ Some v ↦ before_values (record { field = f; content = v.0 } ∷ []) (record_at fs v.1) | None ↦ None ]
+record_at (f ∷ fs) octets = elim (value_at f.field_length octets)
+    [ Some v ↦ before_values (record { field = f; content = v.0 } ∷ []) (record_at fs v.1) | None ↦ None ]
 
 -- the minimum number of octets of a field's value
 abbrev pub shortest_value : FieldSpecifier → ℕ

@@ -28,9 +28,11 @@ unfoldable pub version_octets : ℕ → List ℕ
 version_octets n = to_be_bytes w16 10 ++ to_be_bytes w16 n
 
 unfoldable pub origin_octets : Header → List ℕ
-origin_octets h = to_be_bytes w32 h.export_time ++ (to_be_bytes w32 h.sequence_number ++ to_be_bytes w32 h.observation_domain)
+origin_octets h = to_be_bytes w32 h.export_time
+    ++ (to_be_bytes w32 h.sequence_number ++ to_be_bytes w32 h.observation_domain)
 
--- the version, the length of the whole message, the export time, the sequence number and the observation domain; then the sets
+-- the version, the length of the whole message, the export time, the sequence number and the observation domain; then
+-- the sets
 abbrev pub message_octets : Header → List SetParts → List ℕ
 message_octets header sets = version_octets (message_length sets) ++ (origin_octets header ++ sets_octets sets)
 

@@ -14,40 +14,49 @@ unfolding devices networks traffic certificates refutations streams captures run
 numbers_are = refl
 
 -- of what is found at the first row or behind it
-here_or_behind : (words : Words) (found : Option Words) (here : Bool) → is_some (cond here (Some words) found) ≡ (here || is_some found)
+here_or_behind : (words : Words) (found : Option Words) (here : Bool) → is_some (cond here (Some words) found)
+    ≡ (here || is_some found)
 here_or_behind words found true = refl
 here_or_behind words found false = refl
 
 -- a row is found just where one has the number
-is_some-row_of : (number : ℕ) (rows : List Words) → is_some (row_of number rows) ≡ list_any (λ n. n == number) (map (λ (words : Words). words.number) rows)
+is_some-row_of : (number : ℕ) (rows : List Words) → is_some (row_of number rows)
+    ≡ list_any (λ n. n == number) (map (λ (words : Words). words.number) rows)
 is_some-row_of number [] = refl
 is_some-row_of number (words ∷ rows) =
-    here_or_behind words (row_of number rows) (words.number == number) ∙ ap (λ (b : Bool). (words.number == number) || b) (is_some-row_of number rows)
+    here_or_behind words (row_of number rows) (words.number == number)
+    ∙ ap (λ (b : Bool). (words.number == number) || b) (is_some-row_of number rows)
 
 -- what is found has the number
 IfSome-row_of : (number : ℕ) (rows : List Words) → IfSome (row_of number rows) (λ words. words.number ≡ number)
 IfSome-row_of number [] = tt
 IfSome-row_of number (words ∷ rows) = by (IfSome-row_of number rows) (words.number == number) refl where
-  by : IfSome (row_of number rows) (λ words. words.number ≡ number) → (here : Bool) → (words.number == number) ≡ here → IfSome (cond here (Some words) (row_of number rows)) (λ words. words.number ≡ number)
+  by : IfSome (row_of number rows) (λ words. words.number ≡ number) → (here : Bool) → (words.number == number) ≡ here
+      → IfSome (cond here (Some words) (row_of number rows)) (λ words. words.number ≡ number)
   by behind true is = eqb-true _ _ is
   by behind false is = behind
 
-pub known : (number : ℕ) (found : Option Refusal) → option_map words_of found ≡ row_of number table → is_some found ≡ is_refusal_number number
+pub known : (number : ℕ) (found : Option Refusal) → option_map words_of found ≡ row_of number table → is_some found
+    ≡ is_refusal_number number
 known number found is =
     same found ∙ (ap is_some is ∙ (is_some-row_of number table ∙ ap (list_any (λ n. n == number)) numbers_are)) where
       same : (found : Option Refusal) → is_some found ≡ is_some (option_map words_of found)
       same None = refl
       same (Some refusal) = refl
 
-pub has_number : (number : ℕ) (found : Option Refusal) → option_map words_of found ≡ row_of number table → IfSome found (λ refusal. refusal.number ≡ number)
+pub has_number : (number : ℕ) (found : Option Refusal) → option_map words_of found ≡ row_of number table
+    → IfSome found (λ refusal. refusal.number ≡ number)
 has_number number found is =
-    of_words found (subst (λ (o : Option Words). IfSome o (λ words. words.number ≡ number)) (sym is) (IfSome-row_of number table)) where
-      of_words : (found : Option Refusal) → IfSome (option_map words_of found) (λ words. words.number ≡ number) → IfSome found (λ refusal. refusal.number ≡ number)
+    of_words found (subst (λ (o : Option Words). IfSome o (λ words. words.number ≡ number)) (sym is)
+    (IfSome-row_of number table)) where
+      of_words : (found : Option Refusal) → IfSome (option_map words_of found) (λ words. words.number ≡ number)
+          → IfSome found (λ refusal. refusal.number ≡ number)
       of_words None has = tt
       of_words (Some refusal) has = has
 
 -- what is found in a table, or behind it in a part, is found in both together
-pub found_behind : (number : ℕ) (before found : Option Words) (table rows part : List Words) → before ≡ row_of number table → found ≡ option_or before (row_of number rows)
+pub found_behind : (number : ℕ) (before found : Option Words) (table rows part : List Words) → before
+    ≡ row_of number table → found ≡ option_or before (row_of number rows)
     → rows ≡ part → found ≡ row_of number (table ++ part)
 found_behind number before found table rows part first later is =
     later ∙ (ap (λ (o : Option Words). option_or o (row_of number rows)) first

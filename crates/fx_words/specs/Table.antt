@@ -50,7 +50,8 @@ machine = map (λ r. words_at r.0 r.1.now r.2.now r.3.now r.4.now) MACHINE.now
 
 -- all of them, in the order of their numbers
 abbrev pub table : List Words
-table = (((((((devices ++ networks) ++ traffic) ++ certificates) ++ refutations) ++ streams) ++ captures) ++ runs) ++ machine
+table = (((((((devices ++ networks) ++ traffic) ++ certificates) ++ refutations) ++ streams) ++ captures) ++ runs)
+    ++ machine
 
 -- the first of some rows that has a number
 abbrev pub row_of : ℕ → List Words → Option Words

@@ -12,7 +12,8 @@ pub record Words : Type 0 where
 
 -- what a row of a table says
 abbrev pub words_at : ℕ → List ℕ → List ℕ → List ℕ → List ℕ → Words
-words_at number wrong cause cure section = record { number = number; wrong = wrong; cause = cause; cure = cure; section = section }
+words_at number wrong cause cure section =
+    record { number = number; wrong = wrong; cause = cause; cure = cure; section = section }
 
 -- what a refusal says
 abbrev pub words_of : Refusal → Words

@@ -10,6 +10,7 @@ returns-in_err-put_items-in-Certificate g c =
 
 pub returns-in_err-put_refutation-in-Refutation : goal.returns-in_err-put_refutation-in-Refutation
 returns-in_err-put_refutation-in-Refutation g c =
-    let p = err_from_is_err_and c.from_residual-in_err-put_refutation-in-Refutation.result c.from_residual-in_err-put_refutation-in-Refutation.ensures.1 in
+    let p = err_from_is_err_and c.from_residual-in_err-put_refutation-in-Refutation.result
+    c.from_residual-in_err-put_refutation-in-Refutation.ensures.1 in
     let failed = c.in_err-put_refutation-in-Refutation.ensures.err in
     rw (p.1, p.2) (record { answers = (tt, (tt, inl failed)); err = failed })

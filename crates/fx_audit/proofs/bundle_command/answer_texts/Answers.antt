@@ -3,7 +3,8 @@ use Rattle.fx_audit.proofs.bundle_command.answer_texts.Goals as goal
 
 pub returns-in-Replay-clause-ok : goal.returns-in-Replay-clause-ok
 returns-in-Replay-clause-ok g c =
-    rw c.in-Replay.is (replay_as_done (g.N.Source.left c.args.network.now) (g.T.Source.left c.args.traffic.now) c.args.third.now _ _ c.replay_explained.result c.replay_explained.ensures.ok)
+    rw c.in-Replay.is (replay_as_done (g.N.Source.left c.args.network.now) (g.T.Source.left c.args.traffic.now)
+    c.args.third.now _ _ c.replay_explained.result c.replay_explained.ensures.ok)
 
 pub returns-in-Replay-clause-err : goal.returns-in-Replay-clause-err
 returns-in-Replay-clause-err g c = rw c.in-Replay.is c.replay_explained.ensures.err
@@ -25,4 +26,5 @@ returns-in-Audit-clause-ok g c = rw c.in-Audit.is c.audit_explained.ensures.ok
 
 pub returns-in-Audit-clause-err : goal.returns-in-Audit-clause-err
 returns-in-Audit-clause-err g c =
-    rw c.in-Audit.is (audit_as_refused (g.N.Source.left c.args.network.now) (g.T.Source.left c.args.traffic.now) _ _ _ _ c.audit_explained.result c.audit_explained.ensures.err)
+    rw c.in-Audit.is (audit_as_refused (g.N.Source.left c.args.network.now) (g.T.Source.left c.args.traffic.now) _ _ _ _
+    c.audit_explained.result c.audit_explained.ensures.err)

@@ -11,7 +11,8 @@ pub returns-clause-ok : goal.returns-clause-ok
 returns-clause-ok g c =
     let sorted = c.sort.new.self in
     let known = c.args.session.now.known in
-    let text : List ℕ = totals_text sorted ++ (number_line (codes "gaps ") known.gaps ++ number_line (codes "skipped ") known.skipped) in
+    let text : List ℕ = totals_text sorted ++ (number_line (codes "gaps ") known.gaps
+    ++ number_line (codes "skipped ") known.skipped) in
     let is : IsTotalsText c.args.totals.now known.gaps known.skipped text = record {
       totals = sorted;
       entries = c.in_ok-sort.ensures.same.0;
@@ -22,7 +23,12 @@ returns-clause-ok g c =
     } in
     OnOk-map _ _ _
     (λ h.
-    let all : (x : List ℕ) × IsTotalsText c.args.totals.now known.gaps known.skipped x × Writes (g.S.Sink.taken c.args.sink.now) (g.S.Sink.taken c.put_number_line-2.new.sink) x =
-    (text, is, all_written _ _ _ _ (totals_text sorted) known.gaps _ known.skipped _ c.gaps.ensures c.skipped.ensures c.in_ok-put_report.ensures.ok c.in_ok-put_number_line.ensures.ok h) in
+    let all : (x : List ℕ) × IsTotalsText c.args.totals.now known.gaps known.skipped x
+    × Writes (g.S.Sink.taken c.args.sink.now) (g.S.Sink.taken c.put_number_line-2.new.sink) x = (
+      text,
+      is,
+      all_written _ _ _ _ (totals_text sorted) known.gaps _ known.skipped _ c.gaps.ensures c.skipped.ensures
+          c.in_ok-put_report.ensures.ok c.in_ok-put_number_line.ensures.ok h,
+    ) in
     all)
     c.put_number_line-2.ensures.ok

@@ -7,7 +7,8 @@ use Rattle.fx_audit.proofs.collecting.tally_stream.Given as goal
 
 abbrev pub invariant-pieces : goal.invariant-pieces
 invariant-pieces g l = record {
-  read : IsReadOn (g.R.Source.left l.initial.stream) (g.R.Source.left l.stream) l.initial.totals l.session l.totals l.pieces.calls;
+  read : IsReadOn (g.R.Source.left l.initial.stream) (g.R.Source.left l.stream) l.initial.totals l.session l.totals
+      l.pieces.calls;
   few : l.pieces.calls ≤ call_limit;
   asked : IsAsked (g.R.Source.calls l.initial.stream) l.pieces.calls (g.R.Source.calls l.stream);
 }

@@ -39,7 +39,8 @@ pub returns-clause-collect : goal.returns-clause-collect
 returns-clause-collect c network stream e refused = collect_refusal_listed network stream e refused
 
 pub returns-clause-metering : goal.returns-clause-metering
-returns-clause-metering c network traffic left asked from last before e going refused = metering_refusal_listed network traffic left asked (Unit {0}) (λ _. Unit {0}) from last before e going refused
+returns-clause-metering c network traffic left asked from last before e going refused =
+    metering_refusal_listed network traffic left asked (Unit {0}) (λ _. Unit {0}) from last before e going refused
 
 pub returns-clause-sum : goal.returns-clause-sum
 returns-clause-sum c network lines e refused = sum_refusal_listed network lines e refused

@@ -11,7 +11,10 @@ use Rattle.fx_checker.specs.Outputs.{Prints}
 use Rattle.fx_audit.specs.Replay.{complete_line, IsTextOf}
 use Rattle.fx_audit.proofs.replaying.put_state.Goals as goal
 
-text_of_state : (layout : Layout) (s : State) (t : Totals) (complete : Bool) (before after : Option (List ℕ)) → t ≡ totals_in layout s → IsTrue complete ↔ Complete s → Prints (λ text. (sorted : Totals) × IsInOrder t sorted × (text ≡ totals_text sorted ++ complete_line complete)) before after → Prints (IsTextOf layout s) before after
+text_of_state : (layout : Layout) (s : State) (t : Totals) (complete : Bool) (before after : Option (List ℕ)) → t
+    ≡ totals_in layout s → IsTrue complete ↔ Complete s
+    → Prints (λ text. (sorted : Totals) × IsInOrder t sorted × (text ≡ totals_text sorted ++ complete_line complete))
+    before after → Prints (IsTextOf layout s) before after
 text_of_state layout s t complete before after own is (text, (sorted, order, text_is), written) = (
   text,
   record {
@@ -31,5 +34,7 @@ pub returns-clause-ok : goal.returns-clause-ok
 returns-clause-ok g c =
     let taken = g.S.Sink.taken in
     on_ok_weaker c.put_totals.result
-    (text_of_state c.args.state.now.net.report_layout c.args.state.now.state c.in_ok-totals.totals c.complete.result (taken c.args.sink.now) (taken c.put_totals.new.sink) (c.in_ok-totals.ensures.ok ∙ c.requires.own) c.complete.ensures)
+    (text_of_state c.args.state.now.net.report_layout c.args.state.now.state c.in_ok-totals.totals c.complete.result
+    (taken c.args.sink.now) (taken c.put_totals.new.sink) (c.in_ok-totals.ensures.ok ∙ c.requires.own)
+    c.complete.ensures)
     c.put_totals.ensures.ok

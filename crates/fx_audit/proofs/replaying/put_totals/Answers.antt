@@ -21,4 +21,8 @@ returns-clause-ok g c =
       layout_is = c.in_ok-sort.ensures.same.1;
       unassigned = c.in_ok-sort.ensures.same.2;
     } in
-    OnOk-map _ _ _ (λ h. let all : Prints (λ text. (sorted : Totals) × IsInOrder before sorted × (text ≡ totals_text sorted ++ line)) (g.S.Sink.taken c.args.sink.now) (g.S.Sink.taken c.put_complete.new.sink) = (text, (sorted, in_order, refl), writes_both _ _ _ _ _ _ c.in_ok-put_report.ensures.ok h refl) in all) c.put_complete.ensures.0
+    OnOk-map _ _ _ (λ h. let all : Prints (λ text. (sorted : Totals) × IsInOrder before sorted
+    × (text ≡ totals_text sorted ++ line)) (g.S.Sink.taken c.args.sink.now)
+    (g.S.Sink.taken c.put_complete.new.sink) =
+    (text, (sorted, in_order, refl), writes_both _ _ _ _ _ _ c.in_ok-put_report.ensures.ok h refl) in all)
+    c.put_complete.ensures.0

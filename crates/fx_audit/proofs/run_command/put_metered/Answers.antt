@@ -22,7 +22,8 @@ returns-clause-ok g c =
     } in
     OnOk-map _ _ _
     (λ h.
-    let all : (x : List ℕ) × IsMeteredText c.args.metered.totals skipped.other skipped.malformed x × Writes (g.S.Sink.taken c.args.sink.now) (g.S.Sink.taken c.put_skipped.new.sink) x =
+    let all : (x : List ℕ) × IsMeteredText c.args.metered.totals skipped.other skipped.malformed x
+    × Writes (g.S.Sink.taken c.args.sink.now) (g.S.Sink.taken c.put_skipped.new.sink) x =
     (text, is, writes_both _ _ _ _ _ _ c.in_ok-put_report.ensures.ok h refl) in
     all)
     c.put_skipped.ensures.0

@@ -8,9 +8,12 @@ use Rattle.fx_base.proofs.fault.write_shown.Goals as goal
 
 pub loop-c-preserved : goal.loop-c-preserved
 loop-c-preserved g c =
-    λ plain. has_written_of_eq _ _ _ _ _ (flat_map_more shown_bytes [] c.loop-c.yielded c.in-Some.c) (has_written_append _ _ _ _ _ _ (c.loop-c.invariant plain) (search rules))
+    λ plain. has_written_of_eq _ _ _ _ _ (flat_map_more shown_bytes [] c.loop-c.yielded c.in-Some.c)
+    (has_written_append _ _ _ _ _ _ (c.loop-c.invariant plain) (search rules))
 
 pub returns : goal.returns
 returns g c =
-    let all = YieldsList-end (YieldsList-from_chars c.args.text.now c.utf8.text cc) c.loop-c.yielded _ c.loop-c.yielded_by _ _ c.in-None.is c.next.ensures.steps in
-    λ plain _. has_written_of_eq _ _ _ _ _ (shown_text c.loop-c.yielded c.args.text.now c.utf8.text (sym (map-id c.loop-c.yielded) ∙ all.0)) (c.loop-c.invariant plain)
+    let all = YieldsList-end (YieldsList-from_chars c.args.text.now c.utf8.text cc) c.loop-c.yielded _
+    c.loop-c.yielded_by _ _ c.in-None.is c.next.ensures.steps in
+    λ plain _. has_written_of_eq _ _ _ _ _ (shown_text c.loop-c.yielded c.args.text.now c.utf8.text
+    (sym (map-id c.loop-c.yielded) ∙ all.0)) (c.loop-c.invariant plain)

@@ -4,4 +4,5 @@ use Rattle.fx_base.proofs.name.has_bare_ends.Goals as goal
 
 pub returns : goal.returns
 returns c =
-    ap (λ (xs : List ℕ). length xs == length c.args.text.now) c.trim.ensures.trim ∙ trim_keeps c.args.text.now c.utf8.text
+    ap (λ (xs : List ℕ). length xs == length c.args.text.now) c.trim.ensures.trim
+    ∙ trim_keeps c.args.text.now c.utf8.text

@@ -11,9 +11,12 @@ loop-octet-preserved g c =
     let taken = g.S.Sink.taken in
     let text = c.args.text.now in
     let n = c.loop-octet.octet-index in
-    let more = ap (λ (octet : ℕ). map shown (take n text) ++ octet ∷ []) c.shown_octet.ensures ∙ sym (map_push shown (take n text) (get_or text n 0)) ∙ ap (λ (octets : List ℕ). map shown octets) (sym (take_more text n 0 c.loop-octet-test.true)) in
+    let more = ap (λ (octet : ℕ). map shown (take n text) ++ octet ∷ []) c.shown_octet.ensures
+    ∙ sym (map_push shown (take n text) (get_or text n 0))
+    ∙ ap (λ (octets : List ℕ). map shown octets) (sym (take_more text n 0 c.loop-octet-test.true)) in
     record {
-      taken = writes_both (taken c.args.sink.now) (taken c.loop-octet.sink) (taken c.put_text.new.sink) _ _ _ c.loop-octet.invariant.taken c.in_ok-put_text.ensures.ok more;
+      taken = writes_both (taken c.args.sink.now) (taken c.loop-octet.sink) (taken c.put_text.new.sink) _ _ _
+          c.loop-octet.invariant.taken c.in_ok-put_text.ensures.ok more;
       going = λ going. c.in_ok-put_text.ensures.going (c.loop-octet.invariant.going going);
     }
 
@@ -26,7 +29,8 @@ pub returns : goal.returns
 returns g c =
     let taken = g.S.Sink.taken in
     record {
-      ok = subst (λ (octets : List ℕ). Writes (taken c.args.sink.now) (taken c.loop-octet.sink) (map shown octets)) (take_all c.loop-octet.octet-index c.args.text.now c.loop-octet-test.false) c.loop-octet.invariant.taken;
+      ok = subst (λ (octets : List ℕ). Writes (taken c.args.sink.now) (taken c.loop-octet.sink) (map shown octets))
+          (take_all c.loop-octet.octet-index c.args.text.now c.loop-octet-test.false) c.loop-octet.invariant.taken;
       going = c.loop-octet.invariant.going;
       err = tt;
     }

@@ -23,7 +23,15 @@ returns g c =
     let taken = g.S.Sink.taken in
     let failed = g.S.Sink.failed in
     record {
-      ok = writes_4 c.put_number-2.result (taken c.args.sink.now) (taken c.put_text.new.sink) (taken c.put_number.new.sink) (taken c.put_text-2.new.sink) (taken c.put_number-2.new.sink) (codes "class ") (decimal c.args.class) (codes " path ") (decimal c.args.path) _ c.in_ok-put_text.ensures.ok c.in_ok-put_number.ensures.ok c.in_ok-put_text-2.ensures.ok c.put_number-2.ensures.ok refl;
-      going = going_then c.put_number-2.result (failed c.args.sink.now) (failed c.put_text.new.sink) (failed c.put_number-2.new.sink) c.in_ok-put_text.ensures.going (going_then c.put_number-2.result (failed c.put_text.new.sink) (failed c.put_number.new.sink) (failed c.put_number-2.new.sink) c.in_ok-put_number.ensures.going (going_then c.put_number-2.result (failed c.put_number.new.sink) (failed c.put_text-2.new.sink) (failed c.put_number-2.new.sink) c.in_ok-put_text-2.ensures.going c.put_number-2.ensures.going));
+      ok = writes_4 c.put_number-2.result (taken c.args.sink.now) (taken c.put_text.new.sink)
+          (taken c.put_number.new.sink) (taken c.put_text-2.new.sink) (taken c.put_number-2.new.sink) (codes "class ")
+          (decimal c.args.class) (codes " path ") (decimal c.args.path) _ c.in_ok-put_text.ensures.ok
+          c.in_ok-put_number.ensures.ok c.in_ok-put_text-2.ensures.ok c.put_number-2.ensures.ok refl;
+      going = going_then c.put_number-2.result (failed c.args.sink.now) (failed c.put_text.new.sink)
+          (failed c.put_number-2.new.sink) c.in_ok-put_text.ensures.going
+          (going_then c.put_number-2.result (failed c.put_text.new.sink) (failed c.put_number.new.sink)
+          (failed c.put_number-2.new.sink) c.in_ok-put_number.ensures.going
+          (going_then c.put_number-2.result (failed c.put_number.new.sink) (failed c.put_text-2.new.sink)
+          (failed c.put_number-2.new.sink) c.in_ok-put_text-2.ensures.going c.put_number-2.ensures.going));
       err = c.put_number-2.ensures.err;
     }

@@ -14,7 +14,9 @@ returns g c =
     let taken = g.S.Sink.taken in
     let failed = g.S.Sink.failed in
     record {
-      ok = writes_2 c.put_text.result (taken c.args.sink.now) (taken c.put_words.new.sink) (taken c.put_text.new.sink) (item_text c.args.item.now) (10 ∷ []) _ c.in_ok-put_words.ensures.ok c.put_text.ensures.ok refl;
-      going = going_then c.put_text.result (failed c.args.sink.now) (failed c.put_words.new.sink) (failed c.put_text.new.sink) c.in_ok-put_words.ensures.going c.put_text.ensures.going;
+      ok = writes_2 c.put_text.result (taken c.args.sink.now) (taken c.put_words.new.sink) (taken c.put_text.new.sink)
+          (item_text c.args.item.now) (10 ∷ []) _ c.in_ok-put_words.ensures.ok c.put_text.ensures.ok refl;
+      going = going_then c.put_text.result (failed c.args.sink.now) (failed c.put_words.new.sink)
+          (failed c.put_text.new.sink) c.in_ok-put_words.ensures.going c.put_text.ensures.going;
       err = c.put_text.ensures.err;
     }

@@ -20,7 +20,8 @@ returns-in_err-put_text-2 g c =
 
 pub returns-in_err-put_number-2 : goal.returns-in_err-put_number-2
 returns-in_err-put_number-2 g c =
-    let p = err_from_is_err_and c.from_residual-in_err-put_number-2.result c.from_residual-in_err-put_number-2.ensures.1 in
+    let p = err_from_is_err_and c.from_residual-in_err-put_number-2.result c.from_residual-in_err-put_number-2.ensures.1
+    in
     rw (p.1, p.2) (record { ok = tt; going = tt; err = c.in_err-put_number-2.ensures.err })
 
 pub returns-in_err-put_text-3 : goal.returns-in_err-put_text-3
@@ -33,7 +34,24 @@ returns g c =
     let taken = g.S.Sink.taken in
     let failed = g.S.Sink.failed in
     record {
-      ok = writes_2 c.put_number-3.result (taken c.args.sink.now) (taken c.put_text.new.sink) (taken c.put_number-3.new.sink) (codes "L ") (decimal c.args.crossing ++ 32 ∷ (decimal c.args.point ++ 32 ∷ decimal c.args.process)) _ c.in_ok-put_text.ensures.ok (writes_5 c.put_number-3.result (taken c.put_text.new.sink) (taken c.put_number.new.sink) (taken c.put_text-2.new.sink) (taken c.put_number-2.new.sink) (taken c.put_text-3.new.sink) (taken c.put_number-3.new.sink) (decimal c.args.crossing) (codes " ") (decimal c.args.point) (codes " ") (decimal c.args.process) _ c.in_ok-put_number.ensures.ok c.in_ok-put_text-2.ensures.ok c.in_ok-put_number-2.ensures.ok c.in_ok-put_text-3.ensures.ok c.put_number-3.ensures.ok refl) refl;
-      going = going_then c.put_number-3.result (failed c.args.sink.now) (failed c.put_text.new.sink) (failed c.put_number-3.new.sink) c.in_ok-put_text.ensures.going (going_then c.put_number-3.result (failed c.put_text.new.sink) (failed c.put_number.new.sink) (failed c.put_number-3.new.sink) c.in_ok-put_number.ensures.going (going_then c.put_number-3.result (failed c.put_number.new.sink) (failed c.put_text-2.new.sink) (failed c.put_number-3.new.sink) c.in_ok-put_text-2.ensures.going (going_then c.put_number-3.result (failed c.put_text-2.new.sink) (failed c.put_number-2.new.sink) (failed c.put_number-3.new.sink) c.in_ok-put_number-2.ensures.going (going_then c.put_number-3.result (failed c.put_number-2.new.sink) (failed c.put_text-3.new.sink) (failed c.put_number-3.new.sink) c.in_ok-put_text-3.ensures.going c.put_number-3.ensures.going))));
+      ok = writes_2 c.put_number-3.result (taken c.args.sink.now) (taken c.put_text.new.sink)
+          (taken c.put_number-3.new.sink) (codes "L ")
+          (decimal c.args.crossing ++ 32 ∷ (decimal c.args.point ++ 32 ∷ decimal c.args.process)) _
+          c.in_ok-put_text.ensures.ok (writes_5 c.put_number-3.result (taken c.put_text.new.sink)
+          (taken c.put_number.new.sink) (taken c.put_text-2.new.sink) (taken c.put_number-2.new.sink)
+          (taken c.put_text-3.new.sink) (taken c.put_number-3.new.sink) (decimal c.args.crossing) (codes " ")
+          (decimal c.args.point) (codes " ") (decimal c.args.process) _ c.in_ok-put_number.ensures.ok
+          c.in_ok-put_text-2.ensures.ok c.in_ok-put_number-2.ensures.ok c.in_ok-put_text-3.ensures.ok
+          c.put_number-3.ensures.ok refl) refl;
+      going = going_then c.put_number-3.result (failed c.args.sink.now) (failed c.put_text.new.sink)
+          (failed c.put_number-3.new.sink) c.in_ok-put_text.ensures.going
+          (going_then c.put_number-3.result (failed c.put_text.new.sink) (failed c.put_number.new.sink)
+          (failed c.put_number-3.new.sink) c.in_ok-put_number.ensures.going
+          (going_then c.put_number-3.result (failed c.put_number.new.sink) (failed c.put_text-2.new.sink)
+          (failed c.put_number-3.new.sink) c.in_ok-put_text-2.ensures.going
+          (going_then c.put_number-3.result (failed c.put_text-2.new.sink) (failed c.put_number-2.new.sink)
+          (failed c.put_number-3.new.sink) c.in_ok-put_number-2.ensures.going
+          (going_then c.put_number-3.result (failed c.put_number-2.new.sink) (failed c.put_text-3.new.sink)
+          (failed c.put_number-3.new.sink) c.in_ok-put_text-3.ensures.going c.put_number-3.ensures.going))));
       err = c.put_number-3.ensures.err;
     }

@@ -23,7 +23,16 @@ returns g c =
     let taken = g.S.Sink.taken in
     let failed = g.S.Sink.failed in
     record {
-      ok = writes_4 c.put_number_wide.result (taken c.args.sink.now) (taken c.put_text.new.sink) (taken c.put_text-2.new.sink) (taken c.put_text-3.new.sink) (taken c.put_number_wide.new.sink) (codes "S ") c.word.result.now (codes " ") (decimal c.args.at) _ c.in_ok-put_text.ensures.ok c.in_ok-put_text-2.ensures.ok c.in_ok-put_text-3.ensures.ok c.put_number_wide.ensures.ok (ap (λ (w : List ℕ). codes "S " ++ (w ++ 32 ∷ decimal c.args.at)) (sym c.word.ensures));
-      going = going_then c.put_number_wide.result (failed c.args.sink.now) (failed c.put_text.new.sink) (failed c.put_number_wide.new.sink) c.in_ok-put_text.ensures.going (going_then c.put_number_wide.result (failed c.put_text.new.sink) (failed c.put_text-2.new.sink) (failed c.put_number_wide.new.sink) c.in_ok-put_text-2.ensures.going (going_then c.put_number_wide.result (failed c.put_text-2.new.sink) (failed c.put_text-3.new.sink) (failed c.put_number_wide.new.sink) c.in_ok-put_text-3.ensures.going c.put_number_wide.ensures.going));
+      ok = writes_4 c.put_number_wide.result (taken c.args.sink.now) (taken c.put_text.new.sink)
+          (taken c.put_text-2.new.sink) (taken c.put_text-3.new.sink) (taken c.put_number_wide.new.sink) (codes "S ")
+          c.word.result.now (codes " ") (decimal c.args.at) _ c.in_ok-put_text.ensures.ok c.in_ok-put_text-2.ensures.ok
+          c.in_ok-put_text-3.ensures.ok c.put_number_wide.ensures.ok
+          (ap (λ (w : List ℕ). codes "S " ++ (w ++ 32 ∷ decimal c.args.at)) (sym c.word.ensures));
+      going = going_then c.put_number_wide.result (failed c.args.sink.now) (failed c.put_text.new.sink)
+          (failed c.put_number_wide.new.sink) c.in_ok-put_text.ensures.going
+          (going_then c.put_number_wide.result (failed c.put_text.new.sink) (failed c.put_text-2.new.sink)
+          (failed c.put_number_wide.new.sink) c.in_ok-put_text-2.ensures.going
+          (going_then c.put_number_wide.result (failed c.put_text-2.new.sink) (failed c.put_text-3.new.sink)
+          (failed c.put_number_wide.new.sink) c.in_ok-put_text-3.ensures.going c.put_number_wide.ensures.going));
       err = c.put_number_wide.ensures.err;
     }

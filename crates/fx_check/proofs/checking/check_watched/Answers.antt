@@ -14,7 +14,16 @@ pub returns-in_err-checker : goal.returns-in_err-checker
 returns-in_err-checker g c =
     let p = err_from_is_err_and c.from_residual.result c.from_residual.ensures.1 in
     let memory = c.in_err-checker.ensures.err in
-    rw (p.1, p.2) (record { once = tt; modulo = tt; certificate = tt; ok = tt; err = inl (memory, refl); accepts = λ text reported is. inl (memory, refl); numbers = from_memory c.args.lines.now _ memory })
+    rw (p.1, p.2) (record {
+      once = tt;
+      modulo = tt;
+      certificate = tt;
+      ok = tt;
+      err = inl (memory, refl);
+      accepts =
+          λ text reported is. inl (memory, refl);
+      numbers = from_memory c.args.lines.now _ memory;
+    })
 
 pub returns : goal.returns
 returns g c =
@@ -27,8 +36,14 @@ returns g c =
     let regions = c.in_ok-checker.ensures.regions in
     let same = c.in_ok-checker.ensures.net in
     let all = c.in_ok-checker.ensures.targets in
-    let ok = subst (λ (n : Net). OnOk result (MayBeAccepted n (targets_of classes) lines)) same (subst (λ (ts : List Target). OnOk result (MayBeAccepted c.in_ok-checker.checker.net ts lines)) all c.take_all-outcome.ensures.ok) in
-    let err = subst (λ (n : Net). IfErr result (λ e. Fails lines new e ⊎ MayBeRefused n (targets_of classes) lines new e)) same (subst (λ (ts : List Target). IfErr result (λ e. Fails lines new e ⊎ MayBeRefused c.in_ok-checker.checker.net ts lines new e)) all c.take_all-outcome.ensures.err) in
+    let ok = subst (λ (n : Net). OnOk result (MayBeAccepted n (targets_of classes) lines)) same
+    (subst (λ (ts : List Target). OnOk result (MayBeAccepted c.in_ok-checker.checker.net ts lines)) all
+    c.take_all-outcome.ensures.ok) in
+    let err = subst (λ (n : Net). IfErr result
+    (λ e. Fails lines new e ⊎ MayBeRefused n (targets_of classes) lines new e)) same
+    (subst (λ (ts : List Target). IfErr result
+    (λ e. Fails lines new e ⊎ MayBeRefused c.in_ok-checker.checker.net ts lines new e)) all
+    c.take_all-outcome.ensures.err) in
     record {
       once = once net classes lines network regions result ok;
       modulo = modulo net classes lines network regions result ok;

@@ -5,4 +5,6 @@ use Rattle.fx_check.proofs.checking.make_room.Given as goal
 
 -- there is room for the paths so far
 abbrev pub invariant-loop-place : goal.invariant-loop-place
-invariant-loop-place l = HasProcessRoom l.tables l.scratch × ((k : ℕ) (target : Target) → k < l.place → slice_get l.targets k ≡ Some target → HasPathRoom l.tables target.crossings l.scratch)
+invariant-loop-place l = HasProcessRoom l.tables l.scratch
+    × ((k : ℕ) (target : Target) → k < l.place → slice_get l.targets k ≡ Some target
+    → HasPathRoom l.tables target.crossings l.scratch)

@@ -13,7 +13,8 @@ invariant-lines g l = record {
   consistent : IsConsistent l.targets l.progress;
   stopped : (e : Fault) → l.lines.stopped ≡ Some e → l.fn.lines.stopped ≡ Some e;
   on : GoesOnToLines l.fn.lines l.lines;
-  reads : Continues (judge_of l.tables.net) l.fn.lines (whole l.targets) l.lines l.progress.made (goals l.targets l.progress);
+  reads : Continues (judge_of l.tables.net) l.fn.lines (whole l.targets) l.lines l.progress.made
+      (goals l.targets l.progress);
 }
 
 abbrev pub decreases-lines : goal.decreases-lines

@@ -18,9 +18,14 @@ pub returns : goal.returns
 returns g c =
     let taken = g.S.Sink.taken in
     let failed = g.S.Sink.failed in (
-      writes_3 c.put_text-2.result (taken c.args.sink.now) (taken c.put_text.new.sink) (taken c.put_fault.new.sink) (taken c.put_text-2.new.sink) (codes "no ") (fault_text c.args.fault.now) (10 ∷ []) _ c.in_ok-put_text.ensures.ok c.in_ok-put_fault.ensures.ok c.put_text-2.ensures.ok refl,
+      writes_3 c.put_text-2.result (taken c.args.sink.now) (taken c.put_text.new.sink) (taken c.put_fault.new.sink)
+          (taken c.put_text-2.new.sink) (codes "no ") (fault_text c.args.fault.now) (10 ∷ []) _
+          c.in_ok-put_text.ensures.ok c.in_ok-put_fault.ensures.ok c.put_text-2.ensures.ok refl,
       (
-        going_then c.put_text-2.result (failed c.args.sink.now) (failed c.put_text.new.sink) (failed c.put_text-2.new.sink) c.in_ok-put_text.ensures.going (going_then c.put_text-2.result (failed c.put_text.new.sink) (failed c.put_fault.new.sink) (failed c.put_text-2.new.sink) c.in_ok-put_fault.ensures.going c.put_text-2.ensures.going),
+        going_then c.put_text-2.result (failed c.args.sink.now) (failed c.put_text.new.sink)
+            (failed c.put_text-2.new.sink) c.in_ok-put_text.ensures.going
+            (going_then c.put_text-2.result (failed c.put_text.new.sink) (failed c.put_fault.new.sink)
+            (failed c.put_text-2.new.sink) c.in_ok-put_fault.ensures.going c.put_text-2.ensures.going),
         c.put_text-2.ensures.err,
       ),
     )

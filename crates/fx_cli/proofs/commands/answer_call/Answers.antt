@@ -6,4 +6,5 @@ use Rattle.fx_cli.proofs.commands.answer_call.Goals as goal
 
 pub returns-in-Run-clause-answers : goal.returns-in-Run-clause-answers
 returns-in-Run-clause-answers g c =
-    subst (λ (call : Call). AnswersWith g.S.Sink.taken g.S.Sink.failed (IsCallText call) c.args.sink.now c.run_capture.new.sink c.run_capture.result) (sym c.in-Run.is) c.run_capture.ensures.answers
+    subst (λ (call : Call). AnswersWith g.S.Sink.taken g.S.Sink.failed (IsCallText call) c.args.sink.now
+    c.run_capture.new.sink c.run_capture.result) (sym c.in-Run.is) c.run_capture.ensures.answers

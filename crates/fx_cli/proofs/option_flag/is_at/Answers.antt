@@ -7,5 +7,7 @@ use Rattle.fx_cli.proofs.option_flag.is_at.Goals as goal
 
 pub returns-clause-at : goal.returns-clause-at
 returns-clause-at c =
-    let is = slice_get_read c.args.words.now (length c.args.words.now) c.args.index c.index-words-index.result refl c.if-index-words.false c.index-words-index.is in
-    compared c.args.text.now string_bytes c.args.words.now c.args.index c.index-words-index.result c.eq.result is (c.eq.ensures ∙ ap (λ (word : Text). bytes_eq word c.args.text.now) c.as_str.ensures.value)
+    let is = slice_get_read c.args.words.now (length c.args.words.now) c.args.index c.index-words-index.result refl
+    c.if-index-words.false c.index-words-index.is in
+    compared c.args.text.now string_bytes c.args.words.now c.args.index c.index-words-index.result c.eq.result is
+    (c.eq.ensures ∙ ap (λ (word : Text). bytes_eq word c.args.text.now) c.as_str.ensures.value)

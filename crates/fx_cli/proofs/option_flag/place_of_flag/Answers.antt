@@ -12,27 +12,34 @@ one_of_some a b o x y = ap (λ (v : Option _). unwrap_or v a) (sym y ∙ x)
 
 pub returns-then-eq-clause-place : goal.returns-then-eq-clause-place
 returns-then-eq-clause-place c =
-    let is = slice_get_read c.args.words.now (length c.args.words.now) c.loop-place.place c.index-words-place.result refl c.loop-place-test.true c.index-words-place.is in
+    let is = slice_get_read c.args.words.now (length c.args.words.now) c.loop-place.place c.index-words-place.result
+    refl c.loop-place-test.true c.index-words-place.is in
     let last : is_last_flag (string_bytes c.index-words-place.result) ≡ true = search rules in
     (c.loop-place.place, c.loop-place.invariant.unmarked, inr (c.index-words-place.result, is, last))
 
 pub returns-then-eq-2-clause-place : goal.returns-then-eq-2-clause-place
 returns-then-eq-2-clause-place c =
-    let is = slice_get_read c.args.words.now (length c.args.words.now) c.loop-place.place c.index-words-place.result refl c.loop-place-test.true c.index-words-place.is in
+    let is = slice_get_read c.args.words.now (length c.args.words.now) c.loop-place.place c.index-words-place.result
+    refl c.loop-place-test.true c.index-words-place.is in
     let flag : is_flag c.args.flag.now (string_bytes c.index-words-place.result) ≡ true = search rules in
     (c.loop-place.invariant.unmarked, c.loop-place.invariant.from, (c.index-words-place.result, is, flag))
 
 pub loop-place-preserved : goal.loop-place-preserved
 loop-place-preserved c =
-    let is = slice_get_read c.args.words.now (length c.args.words.now) c.loop-place.place c.index-words-place.result refl c.loop-place-test.true c.index-words-place.is in
+    let is = slice_get_read c.args.words.now (length c.args.words.now) c.loop-place.place c.index-words-place.result
+    refl c.loop-place-test.true c.index-words-place.is in
     let no_last : is_last_flag (string_bytes c.index-words-place.result) ≡ false = search rules in
     let no_flag : is_flag c.args.flag.now (string_bytes c.index-words-place.result) ≡ false = search rules in
     record {
       unmarked = λ place word one less at. elim (before_or_at place c.loop-place.place less) [
         | inl earlier ↦ c.loop-place.invariant.unmarked place word one earlier at
         | inr same ↦
-            let here = one_of_some c.index-words-place.result word (slice_get c.args.words.now c.loop-place.place) is (subst (λ (n : ℕ). slice_get c.args.words.now n ≡ Some word) same at) in
-            (ap (λ w. is_flag c.args.flag.now (string_bytes w)) here ∙ no_flag, ap (λ w. is_last_flag (string_bytes w)) here ∙ no_last)
+            let here = one_of_some c.index-words-place.result word (slice_get c.args.words.now c.loop-place.place) is
+            (subst (λ (n : ℕ). slice_get c.args.words.now n ≡ Some word) same at) in (
+              ap (λ w. is_flag c.args.flag.now (string_bytes w)) here
+                  ∙ no_flag,
+              ap (λ w. is_last_flag (string_bytes w)) here ∙ no_last,
+            )
       ];
       from = omega (arith, c.loop-place.invariant.from);
     }

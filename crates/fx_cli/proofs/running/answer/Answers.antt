@@ -9,11 +9,15 @@ use Rattle.fx_checker.specs.Arguments.{unread_status, unread_text}
 pub returns-clause-given : goal.returns-clause-given
 returns-clause-given g c =
     if_ok_handed g.S.Sink.taken g.S.Sink.failed g.S.Sink.holds_back
-    (λ given then code. EndsByGivenArguments string_bytes g.S.Sink.taken g.S.Sink.failed c.args.on_terminal given.items c.args.sink.now then code)
-    c.args.arguments c.answer_system_arguments-code.new.sink c.flush.new.sink c.answer_system_arguments-code.result c.flush.result c.answer_system_arguments-code.ensures.given c.flush.ensures
+    (λ given then code. EndsByGivenArguments string_bytes g.S.Sink.taken g.S.Sink.failed c.args.on_terminal given.items
+    c.args.sink.now then code)
+    c.args.arguments c.answer_system_arguments-code.new.sink c.flush.new.sink c.answer_system_arguments-code.result
+    c.flush.result c.answer_system_arguments-code.ensures.given c.flush.ensures
 
 pub returns-clause-unread : goal.returns-clause-unread
 returns-clause-unread g c =
     if_err_handed g.S.Sink.taken g.S.Sink.failed g.S.Sink.holds_back
-    (λ e then code. EndsWith g.S.Sink.taken g.S.Sink.failed (unread_text (error_kind e)) (unread_status (error_kind e)) c.args.sink.now then code)
-    c.args.arguments c.answer_system_arguments-code.new.sink c.flush.new.sink c.answer_system_arguments-code.result c.flush.result c.answer_system_arguments-code.ensures.unread c.flush.ensures
+    (λ e then code. EndsWith g.S.Sink.taken g.S.Sink.failed (unread_text (error_kind e)) (unread_status (error_kind e))
+    c.args.sink.now then code)
+    c.args.arguments c.answer_system_arguments-code.new.sink c.flush.new.sink c.answer_system_arguments-code.result
+    c.flush.result c.answer_system_arguments-code.ensures.unread c.flush.ensures

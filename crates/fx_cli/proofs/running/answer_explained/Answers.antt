@@ -14,11 +14,13 @@ returns-in-Err-clause-call g c = λ call names. elim c.in-Err.ensures.call [
 ]
 
 pub returns-then-arguments-lt2-clause-call : goal.returns-then-arguments-lt2-clause-call
-returns-then-arguments-lt2-clause-call g c = λ call names. absurd (too_short string_bytes c.args.arguments.now call c.if-arguments-lt2.true names)
+returns-then-arguments-lt2-clause-call g c =
+    λ call names. absurd (too_short string_bytes c.args.arguments.now call c.if-arguments-lt2.true names)
 
 pub returns-in-Ok-clause-call : goal.returns-in-Ok-clause-call
 returns-in-Ok-clause-call g c = λ call names.
-    ends_explained_as (map string_bytes c.args.arguments.now) c.in-Ok.call call c.in-Ok.ensures.call names _ _ _ _ _ c.explain_call.ensures.ended
+    ends_explained_as (map string_bytes c.args.arguments.now) c.in-Ok.call call c.in-Ok.ensures.call names _ _ _ _ _
+    c.explain_call.ensures.ended
 
 pub returns-then-arguments-lt2-clause-bundle : goal.returns-then-arguments-lt2-clause-bundle
 returns-then-arguments-lt2-clause-bundle g c = λ few. c.explain_input.ensures.ended

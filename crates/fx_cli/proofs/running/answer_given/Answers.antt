@@ -17,10 +17,17 @@ returns-then-take_format-clause-options g c =
         unexplained = unexplained;
         progress_is = c.take_flag-progress.ensures;
         explain_is = c.take_flag-explained.ensures;
-        format_is = subst (λ (taken : Bool). RemovesFormat string_bytes unexplained rest taken) c.if-take_format.true c.take_format.ensures;
+        format_is = subst (λ (taken : Bool). RemovesFormat string_bytes unexplained rest taken) c.if-take_format.true
+            c.take_format.ensures;
       },
-      subst (λ (words : List _). EndsByArgumentsInJson string_bytes g.S.Sink.taken g.S.Sink.failed words c.args.sink.now c.answer_in_json.new.sink c.answer_in_json.result) c.as_slice.ensures.value
-          (record { bundle = c.answer_in_json.ensures.bundle; call = c.answer_in_json.ensures.call; no_call = c.answer_in_json.ensures.no_call }),
+      subst (λ (words : List _). EndsByArgumentsInJson string_bytes g.S.Sink.taken g.S.Sink.failed words c.args.sink.now
+          c.answer_in_json.new.sink c.answer_in_json.result) c.as_slice.ensures.value
+          (record {
+            bundle = c.answer_in_json.ensures.bundle;
+            call = c.answer_in_json.ensures.call;
+            no_call =
+                c.answer_in_json.ensures.no_call;
+          }),
     )
 
 pub returns-then-explained-clause-options : goal.returns-then-explained-clause-options
@@ -36,11 +43,19 @@ returns-then-explained-clause-options g c =
         unmeasured = unmeasured;
         unexplained = unexplained;
         progress_is = c.take_flag-progress.ensures;
-        explain_is = subst (λ (taken : Bool). RemovesFlag (codes "--explain") string_bytes unmeasured unexplained taken) c.if-explained.true c.take_flag-explained.ensures;
-        format_is = subst (λ (taken : Bool). RemovesFormat string_bytes unexplained rest taken) c.if-take_format.false c.take_format.ensures;
+        explain_is = subst (λ (taken : Bool). RemovesFlag (codes "--explain") string_bytes unmeasured unexplained taken)
+            c.if-explained.true c.take_flag-explained.ensures;
+        format_is = subst (λ (taken : Bool). RemovesFormat string_bytes unexplained rest taken) c.if-take_format.false
+            c.take_format.ensures;
       },
-      subst (λ (words : List _). EndsByArgumentsExplained string_bytes g.S.Sink.taken g.S.Sink.failed words c.args.sink.now c.answer_explained.new.sink c.answer_explained.result) c.as_slice-then-explained.ensures.value
-          (record { bundle = c.answer_explained.ensures.bundle; call = c.answer_explained.ensures.call; no_call = c.answer_explained.ensures.no_call }),
+      subst (λ (words : List _). EndsByArgumentsExplained string_bytes g.S.Sink.taken g.S.Sink.failed words
+          c.args.sink.now c.answer_explained.new.sink c.answer_explained.result) c.as_slice-then-explained.ensures.value
+          (record {
+            bundle = c.answer_explained.ensures.bundle;
+            call = c.answer_explained.ensures.call;
+            no_call =
+                c.answer_explained.ensures.no_call;
+          }),
     )
 
 pub returns-clause-options : goal.returns-clause-options
@@ -56,9 +71,17 @@ returns-clause-options g c =
         unmeasured = unmeasured;
         unexplained = unexplained;
         progress_is = c.take_flag-progress.ensures;
-        explain_is = subst (λ (taken : Bool). RemovesFlag (codes "--explain") string_bytes unmeasured unexplained taken) c.if-explained.false c.take_flag-explained.ensures;
-        format_is = subst (λ (taken : Bool). RemovesFormat string_bytes unexplained rest taken) c.if-take_format.false c.take_format.ensures;
+        explain_is = subst (λ (taken : Bool). RemovesFlag (codes "--explain") string_bytes unmeasured unexplained taken)
+            c.if-explained.false c.take_flag-explained.ensures;
+        format_is = subst (λ (taken : Bool). RemovesFormat string_bytes unexplained rest taken) c.if-take_format.false
+            c.take_format.ensures;
       },
-      subst (λ (words : List _). EndsByArguments string_bytes g.S.Sink.taken g.S.Sink.failed words c.args.sink.now c.answer_arguments.new.sink c.answer_arguments.result) c.as_slice-else-explained.ensures.value
-          (record { bundle = c.answer_arguments.ensures.bundle; call = c.answer_arguments.ensures.call; no_call = c.answer_arguments.ensures.no_call }),
+      subst (λ (words : List _). EndsByArguments string_bytes g.S.Sink.taken g.S.Sink.failed words c.args.sink.now
+          c.answer_arguments.new.sink c.answer_arguments.result) c.as_slice-else-explained.ensures.value
+          (record {
+            bundle = c.answer_arguments.ensures.bundle;
+            call = c.answer_arguments.ensures.call;
+            no_call =
+                c.answer_arguments.ensures.no_call;
+          }),
     )

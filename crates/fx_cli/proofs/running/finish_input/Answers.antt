@@ -5,5 +5,7 @@ use Rattle.fx_checker.proofs.Outputs.{ended}
 
 pub returns-clause-ended : goal.returns-clause-ended
 returns-clause-ended g c =
-    ended g.S.Sink.taken g.S.Sink.failed IsBundleOutput (IsRefusal IsBundleRefusal) c.answer_input-answer.result c.args.sink.now c.answer_input-answer.new.sink c.finish.new.sink c.finish.result
-    c.answer_input-answer.ensures.answers c.answer_input-answer.ensures.refused c.finish.ensures.answered c.finish.ensures.refused
+    ended g.S.Sink.taken g.S.Sink.failed IsBundleOutput (IsRefusal IsBundleRefusal) c.answer_input-answer.result
+    c.args.sink.now c.answer_input-answer.new.sink c.finish.new.sink c.finish.result
+    c.answer_input-answer.ensures.answers c.answer_input-answer.ensures.refused c.finish.ensures.answered
+    c.finish.ensures.refused

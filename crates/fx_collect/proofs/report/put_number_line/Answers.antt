@@ -18,7 +18,12 @@ returns g c =
     let taken = g.S.Sink.taken in
     let failed = g.S.Sink.failed in
     record {
-      ok = writes_3 c.put_text-2.result (taken c.args.sink.now) (taken c.put_text.new.sink) (taken c.put_number.new.sink) (taken c.put_text-2.new.sink) c.args.word.now (decimal c.args.number) (10 ∷ []) _ c.in_ok-put_text.ensures.ok c.in_ok-put_number.ensures.ok c.put_text-2.ensures.ok refl;
-      going = going_then c.put_text-2.result (failed c.args.sink.now) (failed c.put_text.new.sink) (failed c.put_text-2.new.sink) c.in_ok-put_text.ensures.going (going_then c.put_text-2.result (failed c.put_text.new.sink) (failed c.put_number.new.sink) (failed c.put_text-2.new.sink) c.in_ok-put_number.ensures.going c.put_text-2.ensures.going);
+      ok = writes_3 c.put_text-2.result (taken c.args.sink.now) (taken c.put_text.new.sink)
+          (taken c.put_number.new.sink) (taken c.put_text-2.new.sink) c.args.word.now (decimal c.args.number) (10 ∷ [])
+          _ c.in_ok-put_text.ensures.ok c.in_ok-put_number.ensures.ok c.put_text-2.ensures.ok refl;
+      going = going_then c.put_text-2.result (failed c.args.sink.now) (failed c.put_text.new.sink)
+          (failed c.put_text-2.new.sink) c.in_ok-put_text.ensures.going
+          (going_then c.put_text-2.result (failed c.put_text.new.sink) (failed c.put_number.new.sink)
+          (failed c.put_text-2.new.sink) c.in_ok-put_number.ensures.going c.put_text-2.ensures.going);
       err = c.put_text-2.ensures.err;
     }

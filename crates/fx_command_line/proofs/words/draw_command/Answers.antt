@@ -6,5 +6,7 @@ use Rattle.fx_command_line.proofs.words.draw_command.Goals as goal
 
 pub returns-clause-app : goal.returns-clause-app
 returns-clause-app c =
-    let three = c.in_ok-command-2.ensures.app ∙ ap (λ (a : App). with_rule a (new_rule (codes "ANSWER"))) c.in_ok-command.ensures.app in
-    with_arg c.in_ok-command-2.command c.class.result c.arg.result (over_answer (codes "draw")) class_rule c.arg.ensures three c.class.ensures.rule c.class.ensures.local
+    let three = c.in_ok-command-2.ensures.app
+    ∙ ap (λ (a : App). with_rule a (new_rule (codes "ANSWER"))) c.in_ok-command.ensures.app in
+    with_arg c.in_ok-command-2.command c.class.result c.arg.result (over_answer (codes "draw")) class_rule c.arg.ensures
+    three c.class.ensures.rule c.class.ensures.local

@@ -10,24 +10,45 @@ returns-in_err-object_of c =
 
 pub returns-in_err-max_flows : goal.returns-in_err-max_flows
 returns-in_err-max_flows c =
-    exit _ _ _ _ c.from_residual-in_err-max_flows.ensures (from_rows _ _ _ (c.in_ok-object_of.ensures (settings_rows c.args.immediate) refl) (refuses_more _ _ _ c.in_err-max_flows.ensures))
+    exit _ _ _ _ c.from_residual-in_err-max_flows.ensures
+    (from_rows _ _ _ (c.in_ok-object_of.ensures (settings_rows c.args.immediate) refl)
+    (refuses_more _ _ _ c.in_err-max_flows.ensures))
 
 pub returns-in_err-_active : goal.returns-in_err-_active
 returns-in_err-_active c =
-    exit _ _ _ _ c.from_residual-in_err-_active.ensures (from_rows _ _ _ (c.in_ok-object_of.ensures (settings_rows c.args.immediate) refl) (skip _ _ _ c.in_ok-max_flows.ensures.0 (refuses_more _ _ _ c.in_err-_active.ensures)))
+    exit _ _ _ _ c.from_residual-in_err-_active.ensures
+    (from_rows _ _ _ (c.in_ok-object_of.ensures (settings_rows c.args.immediate) refl)
+    (skip _ _ _ c.in_ok-max_flows.ensures.0 (refuses_more _ _ _ c.in_err-_active.ensures)))
 
 pub returns-in_err-_idle : goal.returns-in_err-_idle
 returns-in_err-_idle c =
-    exit _ _ _ _ c.from_residual-in_err-_idle.ensures (from_rows _ _ _ (c.in_ok-object_of.ensures (settings_rows c.args.immediate) refl) (skip _ _ _ c.in_ok-max_flows.ensures.0 (skip _ _ _ c.in_ok-_active.ensures.0 (refuses_more _ _ _ c.in_err-_idle.ensures))))
+    exit _ _ _ _ c.from_residual-in_err-_idle.ensures
+    (from_rows _ _ _ (c.in_ok-object_of.ensures (settings_rows c.args.immediate) refl)
+    (skip _ _ _ c.in_ok-max_flows.ensures.0
+    (skip _ _ _ c.in_ok-_active.ensures.0 (refuses_more _ _ _ c.in_err-_idle.ensures))))
 
 pub returns-in_err-_interval : goal.returns-in_err-_interval
 returns-in_err-_interval c =
-    exit _ _ _ _ c.from_residual-in_err-_interval.ensures (from_rows _ _ _ (c.in_ok-object_of.ensures (settings_rows c.args.immediate) refl) (skip _ _ _ c.in_ok-max_flows.ensures.0 (skip _ _ _ c.in_ok-_active.ensures.0 (skip _ _ _ c.in_ok-_idle.ensures.0 (refuses_more _ _ _ c.in_err-_interval.ensures)))))
+    exit _ _ _ _ c.from_residual-in_err-_interval.ensures
+    (from_rows _ _ _ (c.in_ok-object_of.ensures (settings_rows c.args.immediate) refl)
+    (skip _ _ _ c.in_ok-max_flows.ensures.0
+    (skip _ _ _ c.in_ok-_active.ensures.0 (skip _ _ _ c.in_ok-_idle.ensures.0
+    (refuses_more _ _ _ c.in_err-_interval.ensures)))))
 
 pub returns-in_err-layout : goal.returns-in_err-layout
 returns-in_err-layout c =
-    exit _ _ _ _ c.from_residual-in_err-layout.ensures (from_rows _ _ _ (c.in_ok-object_of.ensures (settings_rows c.args.immediate) refl) (skip _ _ _ c.in_ok-max_flows.ensures.0 (skip _ _ _ c.in_ok-_active.ensures.0 (skip _ _ _ c.in_ok-_idle.ensures.0 (skip _ _ _ c.in_ok-_interval.ensures.0 (refuses_more _ _ _ c.in_err-layout.ensures))))))
+    exit _ _ _ _ c.from_residual-in_err-layout.ensures
+    (from_rows _ _ _ (c.in_ok-object_of.ensures (settings_rows c.args.immediate) refl)
+    (skip _ _ _ c.in_ok-max_flows.ensures.0
+    (skip _ _ _ c.in_ok-_active.ensures.0 (skip _ _ _ c.in_ok-_idle.ensures.0
+    (skip _ _ _ c.in_ok-_interval.ensures.0 (refuses_more _ _ _ c.in_err-layout.ensures))))))
 
 pub returns : goal.returns
-returns c =
-    (no_rows _ _ (c.in_ok-object_of.ensures (settings_rows c.args.immediate) refl) (none_more _ _ c.in_ok-max_flows.ensures.0 (none_more _ _ c.in_ok-_active.ensures.0 (none_more _ _ c.in_ok-_idle.ensures.0 (none_more _ _ c.in_ok-_interval.ensures.0 (none_more _ _ c.in_ok-layout.ensures.0 refl))))), rw (c.max_flows_given.ensures, c.in_ok-max_flows.ensures.1, c.in_ok-layout.ensures.1) refl)
+returns c = (
+  no_rows _ _ (c.in_ok-object_of.ensures (settings_rows c.args.immediate) refl)
+      (none_more _ _ c.in_ok-max_flows.ensures.0
+      (none_more _ _ c.in_ok-_active.ensures.0
+      (none_more _ _ c.in_ok-_idle.ensures.0 (none_more _ _ c.in_ok-_interval.ensures.0
+      (none_more _ _ c.in_ok-layout.ensures.0 refl))))),
+  rw (c.max_flows_given.ensures, c.in_ok-max_flows.ensures.1, c.in_ok-layout.ensures.1) refl,
+)

@@ -4,7 +4,8 @@ use Rattle.fx_config.proofs.cache.settings_member.Goals as goal
 
 pub returns-in_err-settings-in-Some : goal.returns-in_err-settings-in-Some
 returns-in_err-settings-in-Some c =
-    exit _ _ _ _ c.from_residual.ensures (rw (← c.in-Some.ensures) (rw pointer-Member at c.in_err-settings-in-Some.ensures))
+    exit _ _ _ _ c.from_residual.ensures (rw (← c.in-Some.ensures)
+    (rw pointer-Member at c.in_err-settings-in-Some.ensures))
 
 pub returns-in_ok-settings-in-Some : goal.returns-in_ok-settings-in-Some
 returns-in_ok-settings-in-Some c =

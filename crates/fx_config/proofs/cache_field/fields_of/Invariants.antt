@@ -11,6 +11,8 @@ invariant-loop-item l =
     let meaning = cache_field_of l.immediate in
     record {
       place : l.place ≡ l.item-index;
-      faults : entries_faults faults (λ d. (meaning d).name) [] (pointer l.path) 0 (map view l.items) ≡ entries_faults faults (λ d. (meaning d).name) l.names (pointer l.path) l.place (map view (drop l.place l.items));
+      faults : entries_faults faults (λ d. (meaning d).name) [] (pointer l.path) 0 (map view l.items)
+          ≡ entries_faults faults (λ d. (meaning d).name) l.names (pointer l.path) l.place
+          (map view (drop l.place l.items));
       fields : l.fields.items ++ map meaning (map view (drop l.place l.items)) ≡ map meaning (map view l.items);
     }

@@ -10,8 +10,11 @@ returns-in_err-name-clause-reads c =
 
 pub returns-in_err-given-clause-reads : goal.returns-in_err-given-clause-reads
 returns-in_err-given-clause-reads c =
-    exit _ _ _ _ c.from_residual-in_err-given.ensures (from_rows _ _ _ (c.in_ok-name.ensures.reads.0 (use_rows c.args.immediate) refl) c.in_err-given.ensures)
+    exit _ _ _ _ c.from_residual-in_err-given.ensures
+    (from_rows _ _ _ (c.in_ok-name.ensures.reads.0 (use_rows c.args.immediate) refl) c.in_err-given.ensures)
 
 pub returns-clause-reads : goal.returns-clause-reads
-returns-clause-reads c =
-    (no_rows _ _ (c.in_ok-name.ensures.reads.0 (use_rows c.args.immediate) refl) c.in_ok-given.ensures.0, rw (c.in_ok-name.ensures.reads.1, c.in_ok-given.ensures.1) refl)
+returns-clause-reads c = (
+  no_rows _ _ (c.in_ok-name.ensures.reads.0 (use_rows c.args.immediate) refl) c.in_ok-given.ensures.0,
+  rw (c.in_ok-name.ensures.reads.1, c.in_ok-given.ensures.1) refl,
+)

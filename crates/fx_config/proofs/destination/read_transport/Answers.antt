@@ -9,8 +9,12 @@ returns-in_err-none_of c =
 
 pub returns-in_err-one_of : goal.returns-in_err-one_of
 returns-in_err-one_of c =
-    exit _ _ _ _ c.from_residual-in_err-one_of.ensures (skip _ _ _ c.in_ok-none_of.ensures.0 (refuses_more _ _ _ c.in_err-one_of.ensures))
+    exit _ _ _ _ c.from_residual-in_err-one_of.ensures
+    (skip _ _ _ c.in_ok-none_of.ensures.0 (refuses_more _ _ _ c.in_err-one_of.ensures))
 
 pub returns : goal.returns
-returns c =
-    (none_more _ _ c.in_ok-none_of.ensures.0 (none_more _ _ c.in_ok-one_of.ensures.0 refl), rw (c.transport_of.ensures) refl)
+returns c = (
+  none_more _ _ c.in_ok-none_of.ensures.0 (none_more _ _ c.in_ok-one_of.ensures.0 refl),
+  rw (c.transport_of.ensures)
+      refl,
+)

@@ -8,12 +8,18 @@ returns-in_err-selecting c = exit _ _ _ _ c.from_residual.ensures (refuses_more 
 
 pub returns-in_err-caches : goal.returns-in_err-caches
 returns-in_err-caches c =
-    exit _ _ _ _ c.from_residual-in_err-caches.ensures (skip _ _ _ c.in_ok-selecting.ensures.0 (refuses_more _ _ _ c.in_err-caches.ensures))
+    exit _ _ _ _ c.from_residual-in_err-caches.ensures
+    (skip _ _ _ c.in_ok-selecting.ensures.0 (refuses_more _ _ _ c.in_err-caches.ensures))
 
 pub returns-in_err-exporting : goal.returns-in_err-exporting
 returns-in_err-exporting c =
-    exit _ _ _ _ c.from_residual-in_err-exporting.ensures (skip _ _ _ c.in_ok-selecting.ensures.0 (skip _ _ _ c.in_ok-caches.ensures.0 (refuses_more _ _ _ c.in_err-exporting.ensures)))
+    exit _ _ _ _ c.from_residual-in_err-exporting.ensures
+    (skip _ _ _ c.in_ok-selecting.ensures.0
+    (skip _ _ _ c.in_ok-caches.ensures.0 (refuses_more _ _ _ c.in_err-exporting.ensures)))
 
 pub returns : goal.returns
-returns c =
-    (none_more _ _ c.in_ok-selecting.ensures.0 (none_more _ _ c.in_ok-caches.ensures.0 (none_more _ _ c.in_ok-exporting.ensures.0 refl)), rw (c.in_ok-selecting.ensures.1, c.in_ok-caches.ensures.1, c.in_ok-exporting.ensures.1) refl)
+returns c = (
+  none_more _ _ c.in_ok-selecting.ensures.0
+      (none_more _ _ c.in_ok-caches.ensures.0 (none_more _ _ c.in_ok-exporting.ensures.0 refl)),
+  rw (c.in_ok-selecting.ensures.1, c.in_ok-caches.ensures.1, c.in_ok-exporting.ensures.1) refl,
+)

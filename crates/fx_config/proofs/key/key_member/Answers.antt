@@ -5,4 +5,5 @@ use Rattle.fx_config.proofs.key.key_member.Goals as goal
 
 pub returns-in_err-items-in-Some : goal.returns-in_err-items-in-Some
 returns-in_err-items-in-Some c =
-    exit _ _ _ _ c.from_residual.ensures (rw (← c.in-Some.ensures) (rw pointer-Member at (c.in_err-items-in-Some.ensures (λ up ds. fields_faults [] up 0 ds))))
+    exit _ _ _ _ c.from_residual.ensures (rw (← c.in-Some.ensures)
+    (rw pointer-Member at (c.in_err-items-in-Some.ensures (λ up ds. fields_faults [] up 0 ds))))

@@ -9,12 +9,19 @@ returns-in_err-domain c =
 
 pub returns-in_err-interfaces : goal.returns-in_err-interfaces
 returns-in_err-interfaces c =
-    exit _ _ _ _ c.from_residual-in_err-interfaces.ensures (skip _ _ _ c.in_ok-domain.ensures.0 (refuses_more _ _ _ c.in_err-interfaces.ensures))
+    exit _ _ _ _ c.from_residual-in_err-interfaces.ensures
+    (skip _ _ _ c.in_ok-domain.ensures.0 (refuses_more _ _ _ c.in_err-interfaces.ensures))
 
 pub returns-in_err-direction : goal.returns-in_err-direction
 returns-in_err-direction c =
-    exit _ _ _ _ c.from_residual-in_err-direction.ensures (skip _ _ _ c.in_ok-domain.ensures.0 (skip _ _ _ c.in_ok-interfaces.ensures.0 (refuses_more _ _ _ c.in_err-direction.ensures)))
+    exit _ _ _ _ c.from_residual-in_err-direction.ensures
+    (skip _ _ _ c.in_ok-domain.ensures.0 (skip _ _ _ c.in_ok-interfaces.ensures.0
+    (refuses_more _ _ _ c.in_err-direction.ensures)))
 
 pub returns : goal.returns
-returns c =
-    (none_more _ _ c.in_ok-domain.ensures.0 (none_more _ _ c.in_ok-interfaces.ensures.0 (none_more _ _ c.in_ok-direction.ensures.0 refl)), rw (c.number.ensures.value, c.in_ok-domain.ensures.1, c.in_ok-interfaces.ensures.1, c.in_ok-direction.ensures.1) refl)
+returns c = (
+  none_more _ _ c.in_ok-domain.ensures.0
+      (none_more _ _ c.in_ok-interfaces.ensures.0 (none_more _ _ c.in_ok-direction.ensures.0 refl)),
+  rw (c.number.ensures.value, c.in_ok-domain.ensures.1, c.in_ok-interfaces.ensures.1, c.in_ok-direction.ensures.1)
+      refl,
+)

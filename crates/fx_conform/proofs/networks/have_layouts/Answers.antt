@@ -14,14 +14,19 @@ loop-holder-preserved c = λ n lt. by n lt (cases_eq n c.loop-holder.holder-inde
   own = subst (λ (l : Layout). IsLayout l) (c.parts-parts.ensures.value ∙ c.layout.ensures) c.parts-parts.ensures.kept
 
   there : slice_get c.args.holders.now c.loop-holder.holder-index ≡ Some c.holder-item.result
-  there = slice_get-get_or c.args.holders.now c.loop-holder.holder-index c.holder-item.result c.loop-holder-test.true ∙ ap (λ (h : Holder). Some h) (sym c.holder-item.is)
+  there = slice_get-get_or c.args.holders.now c.loop-holder.holder-index c.holder-item.result c.loop-holder-test.true
+      ∙ ap (λ (h : Holder). Some h) (sym c.holder-item.is)
 
-  by : (n : ℕ) → n < c.loop-holder.holder-index + 1 → (n ≡ c.loop-holder.holder-index) ⊎ (n ≡ c.loop-holder.holder-index → ⊥) → IsLayout (layout_of (slice_get c.args.holders.now n))
-  by n lt (inl e) = subst (λ (m : ℕ). IsLayout (layout_of (slice_get c.args.holders.now m))) (sym e) (subst (λ (o : Option Holder). IsLayout (layout_of o)) (sym there) own)
+  by : (n : ℕ) → n < c.loop-holder.holder-index + 1 → (n ≡ c.loop-holder.holder-index)
+      ⊎ (n ≡ c.loop-holder.holder-index → ⊥) → IsLayout (layout_of (slice_get c.args.holders.now n))
+  by n lt (inl e) = subst (λ (m : ℕ). IsLayout (layout_of (slice_get c.args.holders.now m))) (sym e)
+      (subst (λ (o : Option Holder). IsLayout (layout_of o)) (sym there) own)
   by n lt (inr ne) = c.loop-holder.invariant n (omega (arith, lt, ne))
 
 pub returns : goal.returns
 returns c = λ n. by n (slice_get c.args.holders.now n) refl where
-  by : (n : ℕ) (o : Option Holder) → slice_get c.args.holders.now n ≡ o → IsLayout (layout_of (slice_get c.args.holders.now n))
-  by n (Some h) is = c.loop-holder.invariant n (let lt = slice_get_within c.args.holders.now n h is in omega (arith, lt, c.loop-holder-test.false))
+  by : (n : ℕ) (o : Option Holder) → slice_get c.args.holders.now n ≡ o
+      → IsLayout (layout_of (slice_get c.args.holders.now n))
+  by n (Some h) is = c.loop-holder.invariant n
+      (let lt = slice_get_within c.args.holders.now n h is in omega (arith, lt, c.loop-holder-test.false))
   by n None is = subst (λ (o : Option Holder). IsLayout (layout_of o)) (sym is) (record { stands = refl; ascends = tt })

@@ -10,5 +10,6 @@ returns c = record {
   network = subst IsNetwork c.net-net.ensures.value c.net-net.ensures.network;
   runnable = subst IsRunnable c.net-net.ensures.value c.net-net.ensures.runnable;
   leads = c.upwards-ranked.ensures.whole.leads;
-  layouts = subst HaveLayouts (c.holders.ensures ∙ ap (λ (n : Net). n.holders) c.net-net.ensures.value) c.have_layouts.ensures;
+  layouts = subst HaveLayouts (c.holders.ensures ∙ ap (λ (n : Net). n.holders) c.net-net.ensures.value)
+      c.have_layouts.ensures;
 }

@@ -20,63 +20,81 @@ returns-in_default-clause-value c =
 
 pub returns-in_err-before-clause-value : goal.returns-in_err-before-clause-value
 returns-in_err-before-clause-value c =
-    let cut : cut_at_zeros c.args.text.now ≡ Some (c.in-Some.front.now, c.in-Some.back.now) = sym (rw c.in-Some.is at c.cut_zeros.ensures) in
+    let cut : cut_at_zeros c.args.text.now ≡ Some (c.in-Some.front.now, c.in-Some.back.now) =
+    sym (rw c.in-Some.is at c.cut_zeros.ensures) in
     c.from_residual-in_err-before.ensures ∙ sym (before_none c.args.text.now _ cut (sym c.in_err-before.ensures))
 
 pub returns-in_err-after-clause-value : goal.returns-in_err-after-clause-value
 returns-in_err-after-clause-value c =
-    let cut : cut_at_zeros c.args.text.now ≡ Some (c.in-Some.front.now, c.in-Some.back.now) = sym (rw c.in-Some.is at c.cut_zeros.ensures) in
+    let cut : cut_at_zeros c.args.text.now ≡ Some (c.in-Some.front.now, c.in-Some.back.now) =
+    sym (rw c.in-Some.is at c.cut_zeros.ensures) in
     c.from_residual-in_err-after.ensures ∙ sym (after_none c.args.text.now _ cut (sym c.in_err-after.ensures))
 
 pub overflow_add-before : goal.overflow_add-before
 overflow_add-before c =
-    let cut : cut_at_zeros c.args.text.now ≡ Some (c.in-Some.front.now, c.in-Some.back.now) = sym (rw c.in-Some.is at c.cut_zeros.ensures) in
-    let few = both_few c.args.text.now _ c.in_ok-before.before c.in_ok-after.after cut (sym c.in_ok-before.ensures) (sym c.in_ok-after.ensures) in
+    let cut : cut_at_zeros c.args.text.now ≡ Some (c.in-Some.front.now, c.in-Some.back.now) =
+    sym (rw c.in-Some.is at c.cut_zeros.ensures) in
+    let few = both_few c.args.text.now _ c.in_ok-before.before c.in_ok-after.after cut (sym c.in_ok-before.ensures)
+    (sym c.in_ok-after.ensures) in
     omega (arith, few.0, few.1)
 
 pub returns-then-before-after-gt7-clause-value : goal.returns-then-before-after-gt7-clause-value
 returns-then-before-after-gt7-clause-value c =
-    let cut : cut_at_zeros c.args.text.now ≡ Some (c.in-Some.front.now, c.in-Some.back.now) = sym (rw c.in-Some.is at c.cut_zeros.ensures) in
-    sym (round_none c.args.text.now _ c.in_ok-before.before c.in_ok-after.after cut (sym c.in_ok-before.ensures) (sym c.in_ok-after.ensures) c.if-before-after-gt7.true)
+    let cut : cut_at_zeros c.args.text.now ≡ Some (c.in-Some.front.now, c.in-Some.back.now) =
+    sym (rw c.in-Some.is at c.cut_zeros.ensures) in
+    sym (round_none c.args.text.now _ c.in_ok-before.before c.in_ok-after.after cut (sym c.in_ok-before.ensures)
+    (sym c.in_ok-after.ensures) c.if-before-after-gt7.true)
 
 pub overflow_mul-one_zero : goal.overflow_mul-one_zero
 overflow_mul-one_zero c =
-    let cut : cut_at_zeros c.args.text.now ≡ Some (c.in-Some.front.now, c.in-Some.back.now) = sym (rw c.in-Some.is at c.cut_zeros.ensures) in
-    let is = round_some c.args.text.now _ c.in_ok-before.before c.in_ok-after.after cut (sym c.in_ok-before.ensures) (sym c.in_ok-after.ensures) c.if-before-after-gt7.false in
+    let cut : cut_at_zeros c.args.text.now ≡ Some (c.in-Some.front.now, c.in-Some.back.now) =
+    sym (rw c.in-Some.is at c.cut_zeros.ensures) in
+    let is = round_some c.args.text.now _ c.in_ok-before.before c.in_ok-after.after cut (sym c.in_ok-before.ensures)
+    (sym c.in_ok-after.ensures) c.if-before-after-gt7.false in
     let fits = address6_fits c.args.text.now _ is in
     let small = (sums_fit c.in_ok-before.before.value c.in_ok-before.before.count c.in_ok-after.after.value fits).0 in
     omega (arith, small)
 
 pub pow-requires : goal.pow-requires
 pow-requires c =
-    let cut : cut_at_zeros c.args.text.now ≡ Some (c.in-Some.front.now, c.in-Some.back.now) = sym (rw c.in-Some.is at c.cut_zeros.ensures) in
-    let is = round_some c.args.text.now _ c.in_ok-before.before c.in_ok-after.after cut (sym c.in_ok-before.ensures) (sym c.in_ok-after.ensures) c.if-before-after-gt7.false in
+    let cut : cut_at_zeros c.args.text.now ≡ Some (c.in-Some.front.now, c.in-Some.back.now) =
+    sym (rw c.in-Some.is at c.cut_zeros.ensures) in
+    let is = round_some c.args.text.now _ c.in_ok-before.before c.in_ok-after.after cut (sym c.in_ok-before.ensures)
+    (sym c.in_ok-after.ensures) c.if-before-after-gt7.false in
     let fits = address6_fits c.args.text.now _ is in
     (sums_fit c.in_ok-before.before.value c.in_ok-before.before.count c.in_ok-after.after.value fits).1
 
 pub overflow_mul-result : goal.overflow_mul-result
 overflow_mul-result c =
-    let cut : cut_at_zeros c.args.text.now ≡ Some (c.in-Some.front.now, c.in-Some.back.now) = sym (rw c.in-Some.is at c.cut_zeros.ensures) in
-    let is = round_some c.args.text.now _ c.in_ok-before.before c.in_ok-after.after cut (sym c.in_ok-before.ensures) (sym c.in_ok-after.ensures) c.if-before-after-gt7.false in
+    let cut : cut_at_zeros c.args.text.now ≡ Some (c.in-Some.front.now, c.in-Some.back.now) =
+    sym (rw c.in-Some.is at c.cut_zeros.ensures) in
+    let is = round_some c.args.text.now _ c.in_ok-before.before c.in_ok-after.after cut (sym c.in_ok-before.ensures)
+    (sym c.in_ok-after.ensures) c.if-before-after-gt7.false in
     let fits = address6_fits c.args.text.now _ is in
     rw c.pow.ensures (omega (arith, fits))
 
 pub overflow_add-result : goal.overflow_add-result
 overflow_add-result c =
-    let cut : cut_at_zeros c.args.text.now ≡ Some (c.in-Some.front.now, c.in-Some.back.now) = sym (rw c.in-Some.is at c.cut_zeros.ensures) in
-    let is = round_some c.args.text.now _ c.in_ok-before.before c.in_ok-after.after cut (sym c.in_ok-before.ensures) (sym c.in_ok-after.ensures) c.if-before-after-gt7.false in
+    let cut : cut_at_zeros c.args.text.now ≡ Some (c.in-Some.front.now, c.in-Some.back.now) =
+    sym (rw c.in-Some.is at c.cut_zeros.ensures) in
+    let is = round_some c.args.text.now _ c.in_ok-before.before c.in_ok-after.after cut (sym c.in_ok-before.ensures)
+    (sym c.in_ok-after.ensures) c.if-before-after-gt7.false in
     let fits = address6_fits c.args.text.now _ is in
     rw c.pow.ensures (omega (arith, fits))
 
 pub returns-clause-value : goal.returns-clause-value
 returns-clause-value c =
-    let cut : cut_at_zeros c.args.text.now ≡ Some (c.in-Some.front.now, c.in-Some.back.now) = sym (rw c.in-Some.is at c.cut_zeros.ensures) in
-    let is = round_some c.args.text.now _ c.in_ok-before.before c.in_ok-after.after cut (sym c.in_ok-before.ensures) (sym c.in_ok-after.ensures) c.if-before-after-gt7.false in
+    let cut : cut_at_zeros c.args.text.now ≡ Some (c.in-Some.front.now, c.in-Some.back.now) =
+    sym (rw c.in-Some.is at c.cut_zeros.ensures) in
+    let is = round_some c.args.text.now _ c.in_ok-before.before c.in_ok-after.after cut (sym c.in_ok-before.ensures)
+    (sym c.in_ok-after.ensures) c.if-before-after-gt7.false in
     rw c.pow.ensures (sym is)
 
 pub returns-clause-bound : goal.returns-clause-bound
 returns-clause-bound c =
-    let cut : cut_at_zeros c.args.text.now ≡ Some (c.in-Some.front.now, c.in-Some.back.now) = sym (rw c.in-Some.is at c.cut_zeros.ensures) in
-    let is = round_some c.args.text.now _ c.in_ok-before.before c.in_ok-after.after cut (sym c.in_ok-before.ensures) (sym c.in_ok-after.ensures) c.if-before-after-gt7.false in
+    let cut : cut_at_zeros c.args.text.now ≡ Some (c.in-Some.front.now, c.in-Some.back.now) =
+    sym (rw c.in-Some.is at c.cut_zeros.ensures) in
+    let is = round_some c.args.text.now _ c.in_ok-before.before c.in_ok-after.after cut (sym c.in_ok-before.ensures)
+    (sym c.in_ok-after.ensures) c.if-before-after-gt7.false in
     let fits = address6_fits c.args.text.now _ is in
     rw c.pow.ensures (omega (arith, fits))

@@ -11,49 +11,67 @@ returns-in_default c = record {
 
 pub returns-in-len1 : goal.returns-in-len1
 returns-in-len1 c = record {
-  value = c.read_any_hex.ensures.value ∙ sym (any_digits c.args.text.now ∙ one_digit any_hex_of c.args.text.now c.in-len1.len_at_least c.in-len1.len_below);
+  value = c.read_any_hex.ensures.value ∙ sym (any_digits c.args.text.now
+      ∙ one_digit any_hex_of c.args.text.now c.in-len1.len_at_least c.in-len1.len_below);
   bound = wider c.read_any_hex.result 16 65536 c.read_any_hex.ensures.bound (omega arith);
 }
 
 pub returns-in-len2 : goal.returns-in-len2
 returns-in-len2 c = record {
-  value = c.read_any_pair.ensures.value ∙ sym (any_digits c.args.text.now ∙ two_digits any_hex_of c.args.text.now c.in-len2.len_at_least c.in-len2.len_below);
+  value = c.read_any_pair.ensures.value ∙ sym (any_digits c.args.text.now
+      ∙ two_digits any_hex_of c.args.text.now c.in-len2.len_at_least c.in-len2.len_below);
   bound = wider c.read_any_pair.result 256 65536 c.read_any_pair.ensures.bound (omega arith);
 }
 
 pub returns-in_err-read_any_pair-in-len3 : goal.returns-in_err-read_any_pair-in-len3
 returns-in_err-read_any_pair-in-len3 c = record {
-  value = c.from_residual.ensures ∙ sym (any_digits c.args.text.now ∙ three_digits any_hex_of c.args.text.now None _ c.in-len3.len_at_least c.in-len3.len_below c.in_err-read_any_pair-in-len3.ensures.value refl);
+  value = c.from_residual.ensures ∙ sym (any_digits c.args.text.now
+      ∙ three_digits any_hex_of c.args.text.now None _ c.in-len3.len_at_least c.in-len3.len_below
+      c.in_err-read_any_pair-in-len3.ensures.value refl);
   bound = rw c.from_residual.ensures tt;
 }
 
 pub returns-in_err-read_any_hex-in-len3 : goal.returns-in_err-read_any_hex-in-len3
 returns-in_err-read_any_hex-in-len3 c = record {
-  value = c.from_residual-in_err-read_any_hex-in-len3.ensures ∙ sym (any_digits c.args.text.now ∙ three_digits any_hex_of c.args.text.now (Some c.in_ok-read_any_pair-in-len3.field-0) None c.in-len3.len_at_least c.in-len3.len_below c.in_ok-read_any_pair-in-len3.ensures.value c.in_err-read_any_hex-in-len3.ensures.value);
+  value = c.from_residual-in_err-read_any_hex-in-len3.ensures
+      ∙ sym (any_digits c.args.text.now ∙ three_digits any_hex_of c.args.text.now
+      (Some c.in_ok-read_any_pair-in-len3.field-0) None c.in-len3.len_at_least c.in-len3.len_below
+      c.in_ok-read_any_pair-in-len3.ensures.value c.in_err-read_any_hex-in-len3.ensures.value);
   bound = rw c.from_residual-in_err-read_any_hex-in-len3.ensures tt;
 }
 
 pub returns-in_ok-read_any_hex-in-len3 : goal.returns-in_ok-read_any_hex-in-len3
 returns-in_ok-read_any_hex-in-len3 c = record {
-  value = sym (any_digits c.args.text.now ∙ three_digits any_hex_of c.args.text.now (Some c.in_ok-read_any_pair-in-len3.field-0) (Some c.in_ok-read_any_hex-in-len3.field-0) c.in-len3.len_at_least c.in-len3.len_below c.in_ok-read_any_pair-in-len3.ensures.value c.in_ok-read_any_hex-in-len3.ensures.value);
+  value = sym (any_digits c.args.text.now
+      ∙ three_digits any_hex_of c.args.text.now (Some c.in_ok-read_any_pair-in-len3.field-0)
+      (Some c.in_ok-read_any_hex-in-len3.field-0) c.in-len3.len_at_least c.in-len3.len_below
+      c.in_ok-read_any_pair-in-len3.ensures.value c.in_ok-read_any_hex-in-len3.ensures.value);
   bound = omega (arith, c.in_ok-read_any_pair-in-len3.ensures.bound, c.in_ok-read_any_hex-in-len3.ensures.bound);
 }
 
 pub returns-in_err-read_any_pair-in-len4 : goal.returns-in_err-read_any_pair-in-len4
 returns-in_err-read_any_pair-in-len4 c = record {
-  value = c.from_residual-in_err-read_any_pair-in-len4.ensures ∙ sym (any_digits c.args.text.now ∙ four_digits any_hex_of c.args.text.now None _ c.in-len4.len_at_least c.in-len4.len_below c.in_err-read_any_pair-in-len4.ensures.value refl);
+  value = c.from_residual-in_err-read_any_pair-in-len4.ensures
+      ∙ sym (any_digits c.args.text.now ∙ four_digits any_hex_of c.args.text.now None _ c.in-len4.len_at_least
+      c.in-len4.len_below c.in_err-read_any_pair-in-len4.ensures.value refl);
   bound = rw c.from_residual-in_err-read_any_pair-in-len4.ensures tt;
 }
 
 pub returns-in_err-read_any_pair-in-len4-2 : goal.returns-in_err-read_any_pair-in-len4-2
 returns-in_err-read_any_pair-in-len4-2 c = record {
-  value = c.from_residual-in_err-read_any_pair-in-len4-2.ensures ∙ sym (any_digits c.args.text.now ∙ four_digits any_hex_of c.args.text.now (Some c.in_ok-read_any_pair-in-len4.field-0) None c.in-len4.len_at_least c.in-len4.len_below c.in_ok-read_any_pair-in-len4.ensures.value c.in_err-read_any_pair-in-len4-2.ensures.value);
+  value = c.from_residual-in_err-read_any_pair-in-len4-2.ensures
+      ∙ sym (any_digits c.args.text.now ∙ four_digits any_hex_of c.args.text.now
+      (Some c.in_ok-read_any_pair-in-len4.field-0) None c.in-len4.len_at_least c.in-len4.len_below
+      c.in_ok-read_any_pair-in-len4.ensures.value c.in_err-read_any_pair-in-len4-2.ensures.value);
   bound = rw c.from_residual-in_err-read_any_pair-in-len4-2.ensures tt;
 }
 
 pub returns-in_ok-read_any_pair-in-len4-2 : goal.returns-in_ok-read_any_pair-in-len4-2
 returns-in_ok-read_any_pair-in-len4-2 c = record {
-  value = sym (any_digits c.args.text.now ∙ four_digits any_hex_of c.args.text.now (Some c.in_ok-read_any_pair-in-len4.field-0) (Some c.in_ok-read_any_pair-in-len4-2.field-0) c.in-len4.len_at_least c.in-len4.len_below c.in_ok-read_any_pair-in-len4.ensures.value c.in_ok-read_any_pair-in-len4-2.ensures.value);
+  value = sym (any_digits c.args.text.now
+      ∙ four_digits any_hex_of c.args.text.now (Some c.in_ok-read_any_pair-in-len4.field-0)
+      (Some c.in_ok-read_any_pair-in-len4-2.field-0) c.in-len4.len_at_least c.in-len4.len_below
+      c.in_ok-read_any_pair-in-len4.ensures.value c.in_ok-read_any_pair-in-len4-2.ensures.value);
   bound = omega (arith, c.in_ok-read_any_pair-in-len4.ensures.bound, c.in_ok-read_any_pair-in-len4-2.ensures.bound);
 }
 

@@ -11,22 +11,30 @@ returns-in_err-group c =
     let n : ℕ = 7 - (c.loop-place._place + 1) in
     let more : 7 - c.loop-place._place ≡ suc n = omega arith in
     record {
-      value = c.from_residual.ensures ∙ sym (c.loop-place.invariant.same ∙ ap (λ k. groups_left k c.loop-place.rest.now c.loop-place.address) more ∙ group_uncut n c.loop-place.rest.now c.loop-place.address (sym c.in_err-group.ensures));
+      value = c.from_residual.ensures ∙ sym (c.loop-place.invariant.same
+          ∙ ap (λ k. groups_left k c.loop-place.rest.now c.loop-place.address) more
+          ∙ group_uncut n c.loop-place.rest.now c.loop-place.address (sym c.in_err-group.ensures));
       bound = rw c.from_residual.ensures tt;
     }
 
 pub overflow_mul-address : goal.overflow_mul-address
-overflow_mul-address c = let fits = seven_fit c.loop-place.address c.loop-place._place c.loop-place.invariant.fits (omega arith) in omega (arith, fits)
+overflow_mul-address c = let fits = seven_fit c.loop-place.address c.loop-place._place c.loop-place.invariant.fits
+    (omega arith) in omega (arith, fits)
 
 pub overflow_add-address : goal.overflow_add-address
-overflow_add-address c = let fits = seven_fit c.loop-place.address c.loop-place._place c.loop-place.invariant.fits (omega arith) in omega (arith, fits, c.in_ok-address.ensures.bound)
+overflow_add-address c = let fits = seven_fit c.loop-place.address c.loop-place._place c.loop-place.invariant.fits
+    (omega arith) in omega (arith, fits, c.in_ok-address.ensures.bound)
 
 pub returns-in_err-address : goal.returns-in_err-address
 returns-in_err-address c =
     let n : ℕ = 7 - (c.loop-place._place + 1) in
     let more : 7 - c.loop-place._place ≡ suc n = omega arith in
     record {
-      value = c.from_residual-in_err-address.ensures ∙ sym (c.loop-place.invariant.same ∙ ap (λ k. groups_left k c.loop-place.rest.now c.loop-place.address) more ∙ group_unread n c.loop-place.rest.now c.loop-place.address (c.in_ok-group.group.now, c.in_ok-group.behind.now) (sym c.in_ok-group.ensures) (sym c.in_err-address.ensures.value));
+      value = c.from_residual-in_err-address.ensures
+          ∙ sym (c.loop-place.invariant.same ∙ ap (λ k. groups_left k c.loop-place.rest.now c.loop-place.address) more
+          ∙ group_unread n c.loop-place.rest.now c.loop-place.address
+          (c.in_ok-group.group.now, c.in_ok-group.behind.now) (sym c.in_ok-group.ensures)
+          (sym c.in_err-address.ensures.value));
       bound = rw c.from_residual-in_err-address.ensures tt;
     }
 
@@ -35,21 +43,28 @@ loop-place-preserved c =
     let n : ℕ = 7 - (c.loop-place._place + 1) in
     let more : 7 - c.loop-place._place ≡ suc n = omega arith in
     record {
-      fits = more_fits c.loop-place.address c.in_ok-address.field-0 c.loop-place._place c.loop-place.invariant.fits c.in_ok-address.ensures.bound;
-      same = c.loop-place.invariant.same ∙ ap (λ k. groups_left k c.loop-place.rest.now c.loop-place.address) more ∙ group_more n c.loop-place.rest.now c.loop-place.address (c.in_ok-group.group.now, c.in_ok-group.behind.now) c.in_ok-address.field-0 (sym c.in_ok-group.ensures) (sym c.in_ok-address.ensures.value);
+      fits = more_fits c.loop-place.address c.in_ok-address.field-0 c.loop-place._place c.loop-place.invariant.fits
+          c.in_ok-address.ensures.bound;
+      same = c.loop-place.invariant.same ∙ ap (λ k. groups_left k c.loop-place.rest.now c.loop-place.address) more
+          ∙ group_more n c.loop-place.rest.now c.loop-place.address (c.in_ok-group.group.now, c.in_ok-group.behind.now)
+          c.in_ok-address.field-0 (sym c.in_ok-group.ensures) (sym c.in_ok-address.ensures.value);
     }
 
 pub overflow_mul-result : goal.overflow_mul-result
-overflow_mul-result c = let fits = seven_fit c.loop-place.address c.loop-place._place c.loop-place.invariant.fits (omega arith) in omega (arith, fits)
+overflow_mul-result c = let fits = seven_fit c.loop-place.address c.loop-place._place c.loop-place.invariant.fits
+    (omega arith) in omega (arith, fits)
 
 pub overflow_add-result : goal.overflow_add-result
-overflow_add-result c = let fits = seven_fit c.loop-place.address c.loop-place._place c.loop-place.invariant.fits (omega arith) in omega (arith, fits, c.in_ok-read_group.ensures.bound)
+overflow_add-result c = let fits = seven_fit c.loop-place.address c.loop-place._place c.loop-place.invariant.fits
+    (omega arith) in omega (arith, fits, c.in_ok-read_group.ensures.bound)
 
 pub returns-in_err-read_group : goal.returns-in_err-read_group
 returns-in_err-read_group c =
     let last : 7 - c.loop-place._place ≡ 0 = omega arith in
     record {
-      value = c.from_residual-in_err-read_group.ensures ∙ sym (c.loop-place.invariant.same ∙ ap (λ k. groups_left k c.loop-place.rest.now c.loop-place.address) last ∙ group_last c.loop-place.rest.now c.loop-place.address None (sym c.in_err-read_group.ensures.value));
+      value = c.from_residual-in_err-read_group.ensures
+          ∙ sym (c.loop-place.invariant.same ∙ ap (λ k. groups_left k c.loop-place.rest.now c.loop-place.address) last
+          ∙ group_last c.loop-place.rest.now c.loop-place.address None (sym c.in_err-read_group.ensures.value));
       bound = rw c.from_residual-in_err-read_group.ensures tt;
     }
 
@@ -58,6 +73,8 @@ returns c =
     let last : 7 - c.loop-place._place ≡ 0 = omega arith in
     let fits = seven_fit c.loop-place.address c.loop-place._place c.loop-place.invariant.fits (omega arith) in
     record {
-      value = sym (c.loop-place.invariant.same ∙ ap (λ k. groups_left k c.loop-place.rest.now c.loop-place.address) last ∙ group_last c.loop-place.rest.now c.loop-place.address (Some c.in_ok-read_group.field-0) (sym c.in_ok-read_group.ensures.value));
+      value = sym (c.loop-place.invariant.same ∙ ap (λ k. groups_left k c.loop-place.rest.now c.loop-place.address) last
+          ∙ group_last c.loop-place.rest.now c.loop-place.address (Some c.in_ok-read_group.field-0)
+          (sym c.in_ok-read_group.ensures.value));
       bound = omega (arith, fits, c.in_ok-read_group.ensures.bound);
     }

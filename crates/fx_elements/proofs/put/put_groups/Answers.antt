@@ -19,7 +19,13 @@ returns g c =
     let taken = g.S.Sink.taken in
     let failed = g.S.Sink.failed in
     record {
-      ok = writes_then c.put_half-2.result (taken c.args.sink.now) (taken c.put_half.new.sink) (taken c.put_half-2.new.sink) _ _ c.in_ok-put_half.ensures.ok (writes_then c.put_half-2.result (taken c.put_half.new.sink) (taken c.put_text.new.sink) (taken c.put_half-2.new.sink) _ _ c.in_ok-put_text.ensures.ok c.put_half-2.ensures.ok);
-      going = going_then c.put_half-2.result (failed c.args.sink.now) (failed c.put_half.new.sink) (failed c.put_half-2.new.sink) c.in_ok-put_half.ensures.going (going_then c.put_half-2.result (failed c.put_half.new.sink) (failed c.put_text.new.sink) (failed c.put_half-2.new.sink) c.in_ok-put_text.ensures.going c.put_half-2.ensures.going);
+      ok = writes_then c.put_half-2.result (taken c.args.sink.now) (taken c.put_half.new.sink)
+          (taken c.put_half-2.new.sink) _ _ c.in_ok-put_half.ensures.ok
+          (writes_then c.put_half-2.result (taken c.put_half.new.sink) (taken c.put_text.new.sink)
+          (taken c.put_half-2.new.sink) _ _ c.in_ok-put_text.ensures.ok c.put_half-2.ensures.ok);
+      going = going_then c.put_half-2.result (failed c.args.sink.now) (failed c.put_half.new.sink)
+          (failed c.put_half-2.new.sink) c.in_ok-put_half.ensures.going
+          (going_then c.put_half-2.result (failed c.put_half.new.sink) (failed c.put_text.new.sink)
+          (failed c.put_half-2.new.sink) c.in_ok-put_text.ensures.going c.put_half-2.ensures.going);
       err = c.put_half-2.ensures.err;
     }

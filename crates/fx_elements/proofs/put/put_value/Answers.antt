@@ -12,7 +12,10 @@ returns g c =
     let taken = g.S.Sink.taken in
     let failed = g.S.Sink.failed in
     record {
-      ok = rw (← c.first_with.ensures) (writes_then c.put_bits.result (taken c.args.sink.now) (taken c.put_whole.new.sink) (taken c.put_bits.new.sink) _ _ c.in_ok-put_whole.ensures.ok c.put_bits.ensures.ok);
-      going = going_then c.put_bits.result (failed c.args.sink.now) (failed c.put_whole.new.sink) (failed c.put_bits.new.sink) c.in_ok-put_whole.ensures.going c.put_bits.ensures.going;
+      ok = rw (← c.first_with.ensures) (writes_then c.put_bits.result (taken c.args.sink.now)
+          (taken c.put_whole.new.sink) (taken c.put_bits.new.sink) _ _ c.in_ok-put_whole.ensures.ok
+          c.put_bits.ensures.ok);
+      going = going_then c.put_bits.result (failed c.args.sink.now) (failed c.put_whole.new.sink)
+          (failed c.put_bits.new.sink) c.in_ok-put_whole.ensures.going c.put_bits.ensures.going;
       err = c.put_bits.ensures.err;
     }

@@ -8,7 +8,8 @@ loop-value-init c = c.clear.ensures
 pub loop-value-preserved : goal.loop-value-preserved
 loop-value-preserved c =
     let k = c.loop-value.value-index in
-    c.push.ensures.items ∙ ap (λ (xs : List ℕ). xs ++ get_or c.args.values.now k 0 ∷ []) c.loop-value.invariant ∙ sym (take_more c.args.values.now k 0 c.loop-value-test.true)
+    c.push.ensures.items ∙ ap (λ (xs : List ℕ). xs ++ get_or c.args.values.now k 0 ∷ []) c.loop-value.invariant
+    ∙ sym (take_more c.args.values.now k 0 c.loop-value-test.true)
 
 pub returns : goal.returns
 returns c = c.loop-value.invariant ∙ take_all c.loop-value.value-index c.args.values.now c.loop-value-test.false

@@ -5,4 +5,5 @@ use Rattle.fx_layout.proofs.key.read_values.Given as goal
 
 abbrev pub invariant-loop-part : goal.invariant-loop-part
 invariant-loop-part l =
-    l.into.items ≡ map (λ part. leading_bits (axis_width part.axis) part.bits (field l.fields part.axis)) (take l.part-index l.part-items)
+    l.into.items ≡ map (λ part. leading_bits (axis_width part.axis) part.bits (field l.fields part.axis))
+    (take l.part-index l.part-items)

@@ -8,7 +8,9 @@ returns c =
     on_ok_more _ _ c.push_bound-2.result (λ h at there. elim (h at there) [
       | inl before ↦ elim (c.in_ok-push_bound.ensures at before) [
         | inl old ↦ inl old
-        | inr low ↦ inr (subst (λ (o : Option ℕ). IfSome o (IsSplitBy c.args.region.now c.args.other.now c.args.axis)) low c.low_bound.ensures)
+        | inr low ↦ inr (subst (λ (o : Option ℕ). IfSome o (IsSplitBy c.args.region.now c.args.other.now c.args.axis))
+            low c.low_bound.ensures)
       ]
-      | inr high ↦ inr (subst (λ (o : Option ℕ). IfSome o (IsSplitBy c.args.region.now c.args.other.now c.args.axis)) high c.high_bound.ensures)
+      | inr high ↦ inr (subst (λ (o : Option ℕ). IfSome o (IsSplitBy c.args.region.now c.args.other.now c.args.axis))
+          high c.high_bound.ensures)
     ]) c.push_bound-2.ensures

@@ -10,5 +10,10 @@ returns-in-Part c =
     let entries = c.args.entries.now in
     let part = c.in_ok-part.part in
     let low = subst (Holds part) c.corner.ensures.least c.corner.ensures.held in
-    let high = subst (Holds part) c.far_corner.ensures.greatest c.far_corner.ensures.held in
-    (sym (match_some region part entries c.bounds_hold.ensures c.in_ok-part.ensures.some) ∙ sym c.region_overlap.ensures ∙ c.in-Part.is, λ axis at by. same_split region part entries c.bounds_hold.ensures c.in_ok-part.ensures.some low high axis at by)
+    let high = subst (Holds part) c.far_corner.ensures.greatest c.far_corner.ensures.held in (
+      sym (match_some region part entries c.bounds_hold.ensures c.in_ok-part.ensures.some)
+          ∙ sym c.region_overlap.ensures
+          ∙ c.in-Part.is,
+      λ axis at by. same_split region part entries c.bounds_hold.ensures c.in_ok-part.ensures.some low
+          high axis at by,
+    )

@@ -9,7 +9,8 @@ loop-crossing-preserved c =
     let here = c.in_ok-count_on_crossing.ensures 1 1 in
     let points = ap (count_watching crossing) c.points_of.ensures in
     let same = length_crossing 1 1 c.points_of.result.now crossing in
-    let more = along_more c.args.net.now c.args.path.now c.loop-crossing.crossing-index crossing c.loop-crossing-test.true c.crossing-item.is in
+    let more = along_more c.args.net.now c.args.path.now c.loop-crossing.crossing-index crossing
+    c.loop-crossing-test.true c.crossing-item.is in
     let all = c.loop-crossing.invariant in
     let sum = c.in_ok-count.ensures in
     omega (arith, here, points, same, more, all, sum)

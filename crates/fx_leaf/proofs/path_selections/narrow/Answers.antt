@@ -15,14 +15,23 @@ loop-place-preserved c =
     let x = c.index-selections-place.result in
     let same = ap (λ (s : PathSelection). s.selection) (c.index-selections-place.is ∙ sym c.met.view_is) in
     let within = c.requires.within in
-    let lt : at.place < length at.selections = let less = c.loop-place-test.true in omega (arith, less, within, at.auto.selections) in
+    let lt : at.place < length at.selections = let less = c.loop-place-test.true in
+    omega (arith, less, within, at.auto.selections) in
     elim c.if-not-is_apart.branch [
       | then-not-is_apart w ↦
-          let counts = λ (apart : IsApart region x.selection). let reported : c.is_apart.result ≡ true = c.is_apart.ensures.1 (subst (IsApart region) same apart) in let reported_not = w.if-not-is_apart.true in absurd cc in
-          subst (λ (n : ℕ). IsParted region old c.if-not-is_apart.selections n (at.place + 1)) (sym w.kept-is) (subst (λ (xs : List PathSelection). IsParted region old xs (at.kept + 1) (at.place + 1)) (sym w.selections-is) (kept_more region old at.selections at.kept at.place x lt c.index-selections-place.is at.invariant w.swap.new.self w.swap.ensures.after counts))
+          let counts = λ (apart : IsApart region x.selection). let reported : c.is_apart.result ≡ true =
+          c.is_apart.ensures.1 (subst (IsApart region) same apart) in let reported_not = w.if-not-is_apart.true in
+          absurd cc in
+          subst (λ (n : ℕ). IsParted region old c.if-not-is_apart.selections n (at.place + 1)) (sym w.kept-is)
+          (subst (λ (xs : List PathSelection). IsParted region old xs (at.kept + 1) (at.place + 1))
+          (sym w.selections-is) (kept_more region old at.selections at.kept at.place x lt
+          c.index-selections-place.is at.invariant w.swap.new.self w.swap.ensures.after counts))
       | else-not-is_apart w ↦
           let apart = subst (IsApart region) (sym same) (c.is_apart.ensures.0 w.if-not-is_apart.false) in
-          subst (λ (n : ℕ). IsParted region old c.if-not-is_apart.selections n (at.place + 1)) (sym w.kept-is) (subst (λ (xs : List PathSelection). IsParted region old xs at.kept (at.place + 1)) (sym w.selections-is) (apart_more region old at.selections at.kept at.place x lt c.index-selections-place.is at.invariant apart))
+          subst (λ (n : ℕ). IsParted region old c.if-not-is_apart.selections n (at.place + 1)) (sym w.kept-is)
+          (subst (λ (xs : List PathSelection). IsParted region old xs at.kept (at.place + 1)) (sym w.selections-is)
+          (apart_more region old at.selections at.kept at.place x lt c.index-selections-place.is at.invariant
+          apart))
     ]
 
 pub returns : goal.returns
@@ -32,7 +41,8 @@ returns c =
     let end : at.place ≡ c.args.active = omega arith in
     let h = subst (IsParted c.args.region.now c.args.selections.now at.selections at.kept) end at.invariant in
     record {
-      narrowed = all_narrowed c.args.region.now c.args.selections.now at.selections at.kept c.args.active (omega (arith, at.auto.selections)) h c.requires.narrowed;
+      narrowed = all_narrowed c.args.region.now c.args.selections.now at.selections at.kept c.args.active
+          (omega (arith, at.auto.selections)) h c.requires.narrowed;
       overlapping = h.overlapping;
       fewer = h.within;
       moved = h.moved;

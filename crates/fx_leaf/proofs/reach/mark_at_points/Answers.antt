@@ -12,10 +12,17 @@ loop-point-preserved c =
     let crossing = c.args.crossing.now in
     let p = c.point-item.result in
     let marks = c.loop-point.marks in
-    let now : c.if-watches.marks ≡ marks_by_holders t.net t.numbering marks (cond (watches p crossing) (holders_by p.selections) []) =
+    let now : c.if-watches.marks ≡ marks_by_holders t.net t.numbering marks
+    (cond (watches p crossing) (holders_by p.selections) []) =
     elim c.if-watches.branch [
-      | then-watches w ↦ let watched : watches p crossing ≡ true = sym c.watches.ensures ∙ w.if-watches.true in w.marks-is ∙ w.mark_by_selections.ensures ∙ ap (λ (ss : List Selection). marks_by_holders t.net t.numbering marks (holders_by ss)) w.selections.ensures ∙ ap (λ b. marks_by_holders t.net t.numbering marks (cond b (holders_by p.selections) [])) (sym watched)
-      | else-watches w ↦ let unwatched : watches p crossing ≡ false = sym c.watches.ensures ∙ w.if-watches.false in w.marks-is ∙ ap (λ b. marks_by_holders t.net t.numbering marks (cond b (holders_by p.selections) [])) (sym unwatched)
+      | then-watches w ↦ let watched : watches p crossing ≡ true = sym c.watches.ensures ∙ w.if-watches.true in
+          w.marks-is ∙ w.mark_by_selections.ensures
+          ∙ ap (λ (ss : List Selection). marks_by_holders t.net t.numbering marks (holders_by ss)) w.selections.ensures
+          ∙ ap (λ b. marks_by_holders t.net t.numbering marks (cond b (holders_by p.selections) [])) (sym watched)
+      | else-watches w ↦ let unwatched : watches p crossing ≡ false = sym c.watches.ensures ∙ w.if-watches.false in
+          w.marks-is ∙ ap (λ b. marks_by_holders t.net t.numbering marks (cond b (holders_by p.selections) []))
+          (sym unwatched)
     ]
     in
-    points_more t.net t.numbering crossing marks c.if-watches.marks c.loop-point.point-index c.args.points.now p c.loop-point-test.true c.point-item.is now ∙ c.loop-point.invariant
+    points_more t.net t.numbering crossing marks c.if-watches.marks c.loop-point.point-index c.args.points.now p
+    c.loop-point-test.true c.point-item.is now ∙ c.loop-point.invariant

@@ -7,7 +7,8 @@ pub returns-in_default-get : goal.returns-in_default-get
 returns-in_default-get c =
     let net = c.args.net.now in
     sym (ap (marks_behind net c.args.layouts c.args.marks.now) c.in-Some.is
-    ∙ ap (marks_at c.args.layouts c.args.marks.now) (past_too c.links.result.now net.links c.in-Some.link c.links.ensures c.in_default-get.ensures.lookup.3))
+    ∙ ap (marks_at c.args.layouts c.args.marks.now)
+    (past_too c.links.result.now net.links c.in-Some.link c.links.ensures c.in_default-get.ensures.lookup.3))
 
 pub returns-in-Some-get : goal.returns-in-Some-get
 returns-in-Some-get c =
@@ -16,4 +17,5 @@ returns-in-Some-get c =
     let at = c.in-Some-get.ensures.lookup.3 in
     c.mark_at.ensures
     ∙ sym (ap (marks_behind net c.args.layouts c.args.marks.now) c.in-Some.is
-    ∙ ap (marks_at c.args.layouts c.args.marks.now) (there_too c.links.result.now net.links c.in-Some.link process c.links.ensures at.0 (at.1 process)))
+    ∙ ap (marks_at c.args.layouts c.args.marks.now)
+    (there_too c.links.result.now net.links c.in-Some.link process c.links.ensures at.0 (at.1 process)))

@@ -7,7 +7,8 @@ use Rattle.fx_leaf.proofs.reach.mark_by_place.Goals as goal
 pub returns-in_default : goal.returns-in_default
 returns-in_default c =
     let net = c.args.net.now in
-    sym (ap (λ (e : Option Exporter). marks_by net c.args.layouts c.args.marks.now (before e [])) (past_too c.exporters.result.now net.exporters c.args.place c.exporters.ensures c.in_default.ensures.lookup.3))
+    sym (ap (λ (e : Option Exporter). marks_by net c.args.layouts c.args.marks.now (before e []))
+    (past_too c.exporters.result.now net.exporters c.args.place c.exporters.ensures c.in_default.ensures.lookup.3))
 
 pub returns-in-Some : goal.returns-in-Some
 returns-in-Some c =
@@ -15,4 +16,5 @@ returns-in-Some c =
     let exporter = c.in-Some.exporter.now in
     let at = c.in-Some.ensures.lookup.3 in
     c.mark_to.ensures ∙ ap (marks_to net c.args.layouts c.args.marks.now) c.destinations.ensures
-    ∙ sym (ap (λ (e : Option Exporter). marks_by net c.args.layouts c.args.marks.now (before e [])) (there_too c.exporters.result.now net.exporters c.args.place exporter c.exporters.ensures at.0 (at.1 exporter)))
+    ∙ sym (ap (λ (e : Option Exporter). marks_by net c.args.layouts c.args.marks.now (before e []))
+    (there_too c.exporters.result.now net.exporters c.args.place exporter c.exporters.ensures at.0 (at.1 exporter)))

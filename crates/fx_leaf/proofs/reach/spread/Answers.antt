@@ -10,6 +10,8 @@ mark_from-requires-clause-there c =
     let k = c.loop-place.place - 1 in
     let P : List ℕ → Type 0 = λ ps. k < length ps → get_or ps k 0 < length t.net.processes in
     let within : k < length order = omega (arith, c.loop-place-test.true, c.loop-place.auto.place) in
-    let there : get_or order k 0 < length t.net.processes = subst P (sym c.order-order.ensures) (is_there t.net _ [] t.order k 0 c.requires.tables.falls) within in
-    let size : length c.loop-place.marks ≡ length c.args.marks.now = ap length c.loop-place.invariant ∙ length_spread t.net t.numbering (drop c.loop-place.place order) c.args.marks.now in
+    let there : get_or order k 0 < length t.net.processes =
+    subst P (sym c.order-order.ensures) (is_there t.net _ [] t.order k 0 c.requires.tables.falls) within in
+    let size : length c.loop-place.marks ≡ length c.args.marks.now = ap length c.loop-place.invariant
+    ∙ length_spread t.net t.numbering (drop c.loop-place.place order) c.args.marks.now in
     omega (arith, there, size, c.requires.size)

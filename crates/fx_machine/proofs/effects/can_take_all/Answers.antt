@@ -13,7 +13,8 @@ Lists = List (List Record)
 
 pub returns-then-holdings-choices-clause-exact : goal.returns-then-holdings-choices-clause-exact
 returns-then-holdings-choices-clause-exact c counts =
-    ap (λ (o : Option Lists). is_some o) (sym (hold_unequal counts c.args.holdings.now c.args.held.now c.args.choices.now c.if-holdings-choices.true))
+    ap (λ (o : Option Lists). is_some o) (sym
+    (hold_unequal counts c.args.holdings.now c.args.held.now c.args.choices.now c.if-holdings-choices.true))
 
 pub loop-place-init : goal.loop-place-init
 loop-place-init c counts = (c.args.held.now, refl, refl)
@@ -26,9 +27,13 @@ returns-then-not-can_take-clause-exact c counts =
     let lt = c.loop-place-test.true in
     let h = c.index-holdings-place.result in
     let inv = c.loop-place.invariant counts in
-    let no : is_some (held_with inv.0 counts h (get_or cs n None)) ≡ false = sym (c.can_take.ensures counts inv.0 inv.1) ∙ c.if-not-can_take.true in
+    let no : is_some (held_with inv.0 counts h (get_or cs n None)) ≡ false = sym (c.can_take.ensures counts inv.0 inv.1)
+    ∙ c.if-not-can_take.true in
     let refused : hold_all counts (drop n hs) inv.0 (drop n cs) ≡ None =
-    one_refuses counts (drop n hs) (drop (n + 1) hs) (drop n cs) (drop (n + 1) cs) h (get_or cs n None) inv.0 (rest_at hs n h lt c.index-holdings-place.is) (at_drop_more (λ (rest : Choices). rest) cs n None (omega (arith, lt, c.if-holdings-choices.false))) (none_where_false (held_with inv.0 counts h (get_or cs n None)) no) in
+    one_refuses counts (drop n hs) (drop (n + 1) hs) (drop n cs) (drop (n + 1) cs) h (get_or cs n None) inv.0
+    (rest_at hs n h lt c.index-holdings-place.is)
+    (at_drop_more (λ (rest : Choices). rest) cs n None (omega (arith, lt, c.if-holdings-choices.false)))
+    (none_where_false (held_with inv.0 counts h (get_or cs n None)) no) in
     ap (λ (o : Option Lists). is_some o) (sym (inv.2 ∙ refused))
 
 pub loop-place-preserved : goal.loop-place-preserved
@@ -41,12 +46,17 @@ loop-place-preserved c counts =
     let lt' : n < length cs = omega (arith, lt, c.if-holdings-choices.false) in
     let h = c.index-holdings-place.result in
     let inv = c.loop-place.invariant counts in
-    let yes : is_some (held_with inv.0 counts h (get_or cs n None)) ≡ true = sym (c.can_take.ensures counts inv.0 inv.1) ∙ c.if-not-can_take.false in
+    let yes : is_some (held_with inv.0 counts h (get_or cs n None)) ≡ true = sym (c.can_take.ensures counts inv.0 inv.1)
+    ∙ c.if-not-can_take.false in
     let next = some_where_true (held_with inv.0 counts h (get_or cs n None)) yes in
-    let more_hs : take (n + 1) hs ≡ take n hs ++ h ∷ [] = take_more hs n h lt ∙ ap (λ (x : Holding). take n hs ++ x ∷ []) (sym c.index-holdings-place.is) in (
+    let more_hs : take (n + 1) hs ≡ take n hs ++ h ∷ [] = take_more hs n h lt
+    ∙ ap (λ (x : Holding). take n hs ++ x ∷ []) (sym c.index-holdings-place.is) in (
       next.0,
-      ap₂ (λ (xs : List Holding) (ys : Choices). hold_all counts xs held ys) more_hs (take_more cs n None lt') ∙ one_more counts (take n hs) held (take n cs) inv.0 next.0 h (get_or cs n None) inv.1 next.1,
-      inv.2 ∙ one_holds counts (drop n hs) (drop (n + 1) hs) (drop n cs) (drop (n + 1) cs) h (get_or cs n None) inv.0 next.0 (rest_at hs n h lt c.index-holdings-place.is) (at_drop_more (λ (rest : Choices). rest) cs n None lt') next.1,
+      ap₂ (λ (xs : List Holding) (ys : Choices). hold_all counts xs held ys) more_hs (take_more cs n None lt')
+          ∙ one_more counts (take n hs) held (take n cs) inv.0 next.0 h (get_or cs n None) inv.1 next.1,
+      inv.2 ∙ one_holds counts (drop n hs) (drop (n + 1) hs) (drop n cs) (drop (n + 1) cs) h (get_or cs n None) inv.0
+          next.0 (rest_at hs n h lt c.index-holdings-place.is) (at_drop_more (λ (rest : Choices). rest) cs n None lt')
+          next.1,
     )
 
 pub returns-clause-exact : goal.returns-clause-exact
@@ -55,4 +65,6 @@ returns-clause-exact c counts =
     let cs = c.args.choices.now in
     let n = c.loop-place.place in
     let inv = c.loop-place.invariant counts in
-    ap (λ (o : Option Lists). is_some o) (sym (inv.2 ∙ none_holds counts (drop n hs) (drop n cs) inv.0 (drop_all n hs c.loop-place-test.false) (drop_all n cs (omega (arith, c.loop-place-test.false, c.if-holdings-choices.false)))))
+    ap (λ (o : Option Lists). is_some o) (sym
+    (inv.2 ∙ none_holds counts (drop n hs) (drop n cs) inv.0 (drop_all n hs c.loop-place-test.false)
+    (drop_all n cs (omega (arith, c.loop-place-test.false, c.if-holdings-choices.false)))))

@@ -8,4 +8,5 @@ abbrev pub invariant-loop-place : goal.invariant-loop-place
 invariant-loop-place l = (counts : Counts)
     → (now : List (List Record))
     × (hold_all counts (take l.place l.holdings) l.held (take l.place l.choices) ≡ Some now)
-    × (hold_all counts l.holdings l.held l.choices ≡ hold_all counts (drop l.place l.holdings) now (drop l.place l.choices))
+    × (hold_all counts l.holdings l.held l.choices
+    ≡ hold_all counts (drop l.place l.holdings) now (drop l.place l.choices))

@@ -15,5 +15,9 @@ returns-in_ok-holdings-in-Some c =
     let net = c.args.net.now in
     let f = c.args.packet.now.fields in
     let x = c.in-Some.found.now in
-    let there : Some x ≡ entry_numbered (path c.args.classes.now c.args.packet.now) c.args.crossing = c.in-Some.ensures ∙ ap (λ (xs : List Crossing). entry_numbered xs c.args.crossing) c.path_of.ensures in
-    ap (map hold_act) (c.in_ok-holdings-in-Some.ensures ∙ ap (λ (os : List Occurrence). met_holdings net.holders f os) (c.as_slice.ensures.value ∙ c.in_ok-met-in-Some.ensures)) ∙ met_acts net f (occurrences net x f) ∙ ap (crossing_acts net f) there
+    let there : Some x ≡ entry_numbered (path c.args.classes.now c.args.packet.now) c.args.crossing = c.in-Some.ensures
+    ∙ ap (λ (xs : List Crossing). entry_numbered xs c.args.crossing) c.path_of.ensures in
+    ap (map hold_act) (c.in_ok-holdings-in-Some.ensures
+    ∙ ap (λ (os : List Occurrence). met_holdings net.holders f os)
+    (c.as_slice.ensures.value ∙ c.in_ok-met-in-Some.ensures)) ∙ met_acts net f (occurrences net x f)
+    ∙ ap (crossing_acts net f) there

@@ -20,14 +20,22 @@ loop-place-preserved c =
     elim c.if-is_none.branch [
       | then-is_none+then-holdings-place+else-left-eq1 w ↦ (let h = w.index-holdings-place.result in record {
         some = omega (arith, inv.some, w.left-is, w.if-left-eq1.false);
-        rest = inv.rest ∙ past_new c.args.holder (drop n hs) (drop (n + 1) hs) (drop n cs) (drop (n + 1) cs) h choice c.loop-place.left c.if-is_none.left (rest_at hs n h lt w.index-holdings-place.is) chosen (c.is_none.ensures ∙ ap (λ b. not b) w.if-is_none.true) (ap (λ (x : Holding). x.holder) w.index-holdings-place.is ∙ w.if-holdings-place.true) inv.some w.if-left-eq1.false w.left-is;
+        rest = inv.rest ∙ past_new c.args.holder (drop n hs) (drop (n + 1) hs) (drop n cs) (drop (n + 1) cs) h choice
+            c.loop-place.left c.if-is_none.left (rest_at hs n h lt w.index-holdings-place.is) chosen
+            (c.is_none.ensures ∙ ap (λ b. not b) w.if-is_none.true)
+            (ap (λ (x : Holding). x.holder) w.index-holdings-place.is ∙ w.if-holdings-place.true) inv.some
+            w.if-left-eq1.false w.left-is;
       })
       | else-is_none w ↦ record {
         some = omega (arith, inv.some, w.left-is);
         rest = inv.rest ∙ elim w.else-is_none.branch [
           | else-is_none-via-then-is_none+else-holdings-place w' ↦ (let h = w'.index-holdings-place.result in
-              past_other c.args.holder (drop n hs) (drop (n + 1) hs) (drop n cs) (drop (n + 1) cs) h choice c.loop-place.left (rest_at hs n h lt w'.index-holdings-place.is) chosen (λ e. w'.if-holdings-place.false (sym (ap (λ (x : Holding). x.holder) w'.index-holdings-place.is) ∙ e)))
-          | else-is_none-via-else-is_none w' ↦ past_joined_at c.args.holder hs n (drop n cs) (drop (n + 1) cs) choice c.loop-place.left lt chosen (c.is_none.ensures ∙ ap (λ b. not b) w'.if-is_none.false)
+              past_other c.args.holder (drop n hs) (drop (n + 1) hs) (drop n cs) (drop (n + 1) cs) h choice
+              c.loop-place.left (rest_at hs n h lt w'.index-holdings-place.is) chosen
+              (λ e. w'.if-holdings-place.false (sym (ap (λ (x : Holding). x.holder) w'.index-holdings-place.is)
+              ∙ e)))
+          | else-is_none-via-else-is_none w' ↦ past_joined_at c.args.holder hs n (drop n cs) (drop (n + 1) cs) choice
+              c.loop-place.left lt chosen (c.is_none.ensures ∙ ap (λ b. not b) w'.if-is_none.false)
         ] ∙ ap (entry_numbered (new_keys c.args.holder (drop (n + 1) hs) (drop (n + 1) cs))) (sym w.left-is);
       }
     ]

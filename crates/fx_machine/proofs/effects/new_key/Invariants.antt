@@ -6,5 +6,6 @@ use Rattle.fx_machine.proofs.effects.new_key.Given as goal
 abbrev pub invariant-loop-place : goal.invariant-loop-place
 invariant-loop-place l = record {
   some : 1 ≤ l.left;
-  rest : entry_numbered (new_keys l.holder l.holdings l.choices) l.number ≡ entry_numbered (new_keys l.holder (drop l.place l.holdings) (drop l.place l.choices)) l.left;
+  rest : entry_numbered (new_keys l.holder l.holdings l.choices) l.number
+      ≡ entry_numbered (new_keys l.holder (drop l.place l.holdings) (drop l.place l.choices)) l.left;
 }

@@ -4,4 +4,5 @@ use Rattle.fx_machine.proofs.effects.taken_by.Given as goal
 
 abbrev pub invariant-loop-place : goal.invariant-loop-place
 invariant-loop-place l =
-    l.taken.items ++ taken_by (map (λ h. h.holder) (drop l.place l.holdings)) (drop l.place l.choices) ≡ taken_by (map (λ h. h.holder) l.holdings) l.choices
+    l.taken.items ++ taken_by (map (λ h. h.holder) (drop l.place l.holdings)) (drop l.place l.choices)
+    ≡ taken_by (map (λ h. h.holder) l.holdings) l.choices

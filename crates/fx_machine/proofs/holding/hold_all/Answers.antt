@@ -7,10 +7,18 @@ use Rattle.fx_machine.proofs.holding.hold_all.Goals as goal
 
 pub returns-then-holdings-choices-clause-err : goal.returns-then-holdings-choices-clause-err
 returns-then-holdings-choices-clause-err c =
-    inr (c.bare.ensures, hold_unequal c.args.counts.now c.args.holdings.now c.args.held.now.items c.args.choices.now c.if-holdings-choices.true)
+    inr (
+      c.bare.ensures,
+      hold_unequal c.args.counts.now c.args.holdings.now c.args.held.now.items c.args.choices.now
+          c.if-holdings-choices.true,
+    )
 
 pub loop-place-init : goal.loop-place-init
-loop-place-init c = record { so_far = refl; back = ap (λ (log : List Taking). undone log c.args.held.now.items) c.clear.ensures.items }
+loop-place-init c = record {
+  so_far = refl;
+  back =
+      ap (λ (log : List Taking). undone log c.args.held.now.items) c.clear.ensures.items;
+}
 
 pub loop-place-preserved : goal.loop-place-preserved
 loop-place-preserved c =
@@ -19,7 +27,11 @@ loop-place-preserved c =
     let n = c.loop-place.place in
     let h = c.index-holdings-place.result in
     record {
-      so_far = c.loop-place.invariant.so_far ∙ one_holds c.args.counts.now (drop n hs) (drop (n + 1) hs) (drop n cs) (drop (n + 1) cs) h _ c.loop-place.held.items c.hold_next.new.held.items (rest_at hs n h c.loop-place-test.true c.index-holdings-place.is) (at_drop_more (λ (rest : List (Option ℕ)). rest) cs n _ (omega (arith, c.loop-place-test.true, c.if-holdings-choices.false))) c.in_default.ensures.ok.0;
+      so_far = c.loop-place.invariant.so_far ∙ one_holds c.args.counts.now (drop n hs) (drop (n + 1) hs) (drop n cs)
+          (drop (n + 1) cs) h _ c.loop-place.held.items c.hold_next.new.held.items
+          (rest_at hs n h c.loop-place-test.true c.index-holdings-place.is)
+          (at_drop_more (λ (rest : List (Option ℕ)). rest) cs n _
+          (omega (arith, c.loop-place-test.true, c.if-holdings-choices.false))) c.in_default.ensures.ok.0;
       back = c.in_default.ensures.ok.1 ∙ c.loop-place.invariant.back;
     }
 
@@ -31,10 +43,19 @@ returns-in-Err c =
     let h = c.index-holdings-place.result in
     record {
       ok = tt;
-      same = all_undone c.loop-place.log.items c.hold_next.new.log.items c.as_slice.result.now c.loop-place.held.items c.hold_next.new.held.items c.args.held.now.items c.give_all_back.new.held.items c.give_all_back.ensures c.as_slice.ensures.value c.in-Err.ensures.same.0 c.in-Err.ensures.same.1 c.loop-place.invariant.back;
+      same = all_undone c.loop-place.log.items c.hold_next.new.log.items c.as_slice.result.now c.loop-place.held.items
+          c.hold_next.new.held.items c.args.held.now.items c.give_all_back.new.held.items c.give_all_back.ensures
+          c.as_slice.ensures.value c.in-Err.ensures.same.0 c.in-Err.ensures.same.1 c.loop-place.invariant.back;
       err = elim c.in-Err.ensures.err [
         | inl memory ↦ inl memory
-        | inr wrong ↦ inr (wrong.0, c.loop-place.invariant.so_far ∙ one_refuses c.args.counts.now (drop n hs) (drop (n + 1) hs) (drop n cs) (drop (n + 1) cs) h _ c.loop-place.held.items (rest_at hs n h c.loop-place-test.true c.index-holdings-place.is) (at_drop_more (λ (rest : List (Option ℕ)). rest) cs n _ (omega (arith, c.loop-place-test.true, c.if-holdings-choices.false))) wrong.1)
+        | inr wrong ↦ inr (
+          wrong.0,
+          c.loop-place.invariant.so_far
+              ∙ one_refuses c.args.counts.now (drop n hs) (drop (n + 1) hs) (drop n cs) (drop (n + 1) cs) h _
+              c.loop-place.held.items (rest_at hs n h c.loop-place-test.true c.index-holdings-place.is)
+              (at_drop_more (λ (rest : List (Option ℕ)). rest) cs n _
+              (omega (arith, c.loop-place-test.true, c.if-holdings-choices.false))) wrong.1,
+        )
       ];
     }
 
@@ -44,7 +65,12 @@ returns c =
     let cs = c.args.choices.now in
     let n = c.loop-place.place in
     record {
-      ok = (c.loop-place.invariant.so_far ∙ none_holds c.args.counts.now (drop n hs) (drop n cs) c.loop-place.held.items (drop_all n hs c.loop-place-test.false) (drop_all n cs (omega (arith, c.loop-place-test.false, c.if-holdings-choices.false))), c.loop-place.invariant.back);
+      ok = (
+        c.loop-place.invariant.so_far ∙ none_holds c.args.counts.now (drop n hs) (drop n cs) c.loop-place.held.items
+            (drop_all n hs c.loop-place-test.false)
+            (drop_all n cs (omega (arith, c.loop-place-test.false, c.if-holdings-choices.false))),
+        c.loop-place.invariant.back,
+      );
       same = tt;
       err = tt;
     }

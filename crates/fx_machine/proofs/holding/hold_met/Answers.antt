@@ -14,11 +14,16 @@ returns-then-met-choices-clause-err c =
     let holders = c.args.net.now.holders in
     let met = c.args.met.now in
     let hs = met_holdings holders packet.fields met in
-    let differ : length hs ≢ length c.args.choices.now = λ e. c.if-met-choices.true (sym (length-map met (holding_of holders packet.fields)) ∙ e) in
+    let differ : length hs ≢ length c.args.choices.now =
+    λ e. c.if-met-choices.true (sym (length-map met (holding_of holders packet.fields)) ∙ e) in
     inr (c.bare.ensures, hold_unequal (one_packet packet) hs c.args.held.now.items c.args.choices.now differ)
 
 pub loop-place-init : goal.loop-place-init
-loop-place-init c = record { so_far = refl; back = ap (λ (log : List Taking). undone log c.args.held.now.items) c.clear.ensures.items }
+loop-place-init c = record {
+  so_far = refl;
+  back =
+      ap (λ (log : List Taking). undone log c.args.held.now.items) c.clear.ensures.items;
+}
 
 pub loop-place-preserved : goal.loop-place-preserved
 loop-place-preserved c =
@@ -26,9 +31,15 @@ loop-place-preserved c =
     let cs = c.args.choices.now in
     let n = c.loop-place.place in
     let of = met_holdings c.args.net.now.holders c.args.packet.now.fields in
-    let first = ap of (at_drop_more (λ (rest : List Occurrence). rest) met n (record { point = 0; process = 0; holder = 0 }) c.loop-place-test.true) in
+    let first = ap of (at_drop_more (λ (rest : List Occurrence). rest) met n
+    (record { point = 0; process = 0; holder = 0 }) c.loop-place-test.true) in
     record {
-      so_far = c.loop-place.invariant.so_far ∙ one_holds (one_packet c.args.packet.now) (of (drop n met)) (of (drop (n + 1) met)) (drop n cs) (drop (n + 1) cs) (holding_of c.args.net.now.holders c.args.packet.now.fields (get_or met n (record { point = 0; process = 0; holder = 0 }))) _ c.loop-place.held.items c.hold_next.new.held.items first (at_drop_more (λ (rest : List (Option ℕ)). rest) cs n _ (omega (arith, c.loop-place-test.true, c.if-met-choices.false))) c.in_default.ensures.ok.0;
+      so_far = c.loop-place.invariant.so_far ∙ one_holds (one_packet c.args.packet.now) (of (drop n met))
+          (of (drop (n + 1) met)) (drop n cs) (drop (n + 1) cs)
+          (holding_of c.args.net.now.holders c.args.packet.now.fields
+          (get_or met n (record { point = 0; process = 0; holder = 0 }))) _ c.loop-place.held.items
+          c.hold_next.new.held.items first (at_drop_more (λ (rest : List (Option ℕ)). rest) cs n _
+          (omega (arith, c.loop-place-test.true, c.if-met-choices.false))) c.in_default.ensures.ok.0;
       back = c.in_default.ensures.ok.1 ∙ c.loop-place.invariant.back;
     }
 
@@ -38,13 +49,24 @@ returns-in-Err c =
     let cs = c.args.choices.now in
     let n = c.loop-place.place in
     let of = met_holdings c.args.net.now.holders c.args.packet.now.fields in
-    let first = ap of (at_drop_more (λ (rest : List Occurrence). rest) met n (record { point = 0; process = 0; holder = 0 }) c.loop-place-test.true) in
+    let first = ap of (at_drop_more (λ (rest : List Occurrence). rest) met n
+    (record { point = 0; process = 0; holder = 0 }) c.loop-place-test.true) in
     record {
       ok = tt;
-      same = all_undone c.loop-place.log.items c.hold_next.new.log.items c.as_slice.result.now c.loop-place.held.items c.hold_next.new.held.items c.args.held.now.items c.give_all_back.new.held.items c.give_all_back.ensures c.as_slice.ensures.value c.in-Err.ensures.same.0 c.in-Err.ensures.same.1 c.loop-place.invariant.back;
+      same = all_undone c.loop-place.log.items c.hold_next.new.log.items c.as_slice.result.now c.loop-place.held.items
+          c.hold_next.new.held.items c.args.held.now.items c.give_all_back.new.held.items c.give_all_back.ensures
+          c.as_slice.ensures.value c.in-Err.ensures.same.0 c.in-Err.ensures.same.1 c.loop-place.invariant.back;
       err = elim c.in-Err.ensures.err [
         | inl memory ↦ inl memory
-        | inr wrong ↦ inr (wrong.0, c.loop-place.invariant.so_far ∙ one_refuses (one_packet c.args.packet.now) (of (drop n met)) (of (drop (n + 1) met)) (drop n cs) (drop (n + 1) cs) (holding_of c.args.net.now.holders c.args.packet.now.fields (get_or met n (record { point = 0; process = 0; holder = 0 }))) _ c.loop-place.held.items first (at_drop_more (λ (rest : List (Option ℕ)). rest) cs n _ (omega (arith, c.loop-place-test.true, c.if-met-choices.false))) wrong.1)
+        | inr wrong ↦ inr (
+          wrong.0,
+          c.loop-place.invariant.so_far
+              ∙ one_refuses (one_packet c.args.packet.now) (of (drop n met)) (of (drop (n + 1) met)) (drop n cs)
+              (drop (n + 1) cs) (holding_of c.args.net.now.holders c.args.packet.now.fields
+              (get_or met n (record { point = 0; process = 0; holder = 0 }))) _ c.loop-place.held.items first
+              (at_drop_more (λ (rest : List (Option ℕ)). rest) cs n _
+              (omega (arith, c.loop-place-test.true, c.if-met-choices.false))) wrong.1,
+        )
       ];
     }
 
@@ -55,7 +77,9 @@ returns c =
     let n = c.loop-place.place in
     let of = met_holdings c.args.net.now.holders c.args.packet.now.fields in
     record {
-      ok = c.loop-place.invariant.so_far ∙ none_holds (one_packet c.args.packet.now) (of (drop n met)) (drop n cs) c.loop-place.held.items (ap of (drop_all n met c.loop-place-test.false)) (drop_all n cs (omega (arith, c.loop-place-test.false, c.if-met-choices.false)));
+      ok = c.loop-place.invariant.so_far ∙ none_holds (one_packet c.args.packet.now) (of (drop n met)) (drop n cs)
+          c.loop-place.held.items (ap of (drop_all n met c.loop-place-test.false))
+          (drop_all n cs (omega (arith, c.loop-place-test.false, c.if-met-choices.false)));
       same = tt;
       err = tt;
     }

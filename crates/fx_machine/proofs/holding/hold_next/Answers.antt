@@ -8,5 +8,9 @@ pub returns-clause-ok : goal.returns-clause-ok
 returns-clause-ok c =
     let k = c.in_ok-taking.ensures.ok in
     let log = c.args.log.now.items in
-    let pushed : c.push.new.self.items ≡ log ++ c.in_ok-taking.taking ∷ [] = search (c.push.ensures.items, c.is_err.ensures.negation, c.if-is_err.false) in
-    (k.0, ap (λ (ts : List Taking). undone ts c.hold.new.held.items) pushed ∙ undone_more log c.in_ok-taking.taking c.hold.new.held.items ∙ ap (undone log) k.1)
+    let pushed : c.push.new.self.items ≡ log ++ c.in_ok-taking.taking ∷ [] =
+    search (c.push.ensures.items, c.is_err.ensures.negation, c.if-is_err.false) in (
+      k.0,
+      ap (λ (ts : List Taking). undone ts c.hold.new.held.items) pushed
+          ∙ undone_more log c.in_ok-taking.taking c.hold.new.held.items ∙ ap (undone log) k.1,
+    )

@@ -10,7 +10,9 @@ returns-then-not-has-clause-none c =
     let le : c.args.number ≤ length c.args.records.now.items = omega arith in
     let ne : c.args.number ≢ 0 = c.if-number-eq0.false in
     let no : same_key old.key (key_in c.args.intake.now) ≡ false = sym c.has.ensures ∙ c.if-not-has.true in
-    join_refused c.args.records.now.items c.args.number (record { key = key_in c.args.intake.now; counts = c.args.counts.now }) old ne le c.index_mut-held.ensures.value no
+    join_refused c.args.records.now.items c.args.number
+    (record { key = key_in c.args.intake.now; counts = c.args.counts.now }) old ne le c.index_mut-held.ensures.value
+    no
 
 pub returns-clause-some : goal.returns-clause-some
 returns-clause-some c =
@@ -18,4 +20,6 @@ returns-clause-some c =
     let le : c.args.number ≤ length c.args.records.now.items = omega arith in
     let ne : c.args.number ≢ 0 = c.if-number-eq0.false in
     let yes : same_key old.key (key_in c.args.intake.now) ≡ true = sym c.if-not-has.ensures in
-    join_made c.args.records.now.items c.args.number (record { key = key_in c.args.intake.now; counts = c.args.counts.now }) old c.add-held.result ne le c.index_mut-held.ensures.value yes c.add-held.ensures
+    join_made c.args.records.now.items c.args.number
+    (record { key = key_in c.args.intake.now; counts = c.args.counts.now }) old c.add-held.result ne le
+    c.index_mut-held.ensures.value yes c.add-held.ensures

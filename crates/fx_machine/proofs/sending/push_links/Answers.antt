@@ -9,4 +9,6 @@ loop-destination-preserved c =
     let n = c.loop-destination.destination-index in
     let front = c.args.links.now.items in
     let d : Option ℕ = None in
-    c.in_ok-push_link.ensures ∙ ap (λ (xs : List ℕ). xs ++ link_list (get_or ds n d)) c.loop-destination.invariant ∙ append_assoc front (links_of (take n ds)) (link_list (get_or ds n d)) ∙ ap (λ (xs : List ℕ). front ++ xs) (sym (links_more ds n d c.loop-destination-test.true))
+    c.in_ok-push_link.ensures ∙ ap (λ (xs : List ℕ). xs ++ link_list (get_or ds n d)) c.loop-destination.invariant
+    ∙ append_assoc front (links_of (take n ds)) (link_list (get_or ds n d))
+    ∙ ap (λ (xs : List ℕ). front ++ xs) (sym (links_more ds n d c.loop-destination-test.true))

@@ -10,7 +10,9 @@ pub loop-done-preserved : goal.loop-done-preserved
 loop-done-preserved c =
     let links = c.args.links.now in
     let n = c.loop-done.done in
-    c.in_default.ensures.ok ∙ ap (λ (x : Record). put_last c.loop-done.carried.items (get_or links n 0) x) c.copy.ensures ∙ ap (λ (rss : List (List Record)). put_last rss (get_or links n 0) c.args.entry.now) c.loop-done.invariant ∙ put_all_more links n c.args.entry.now c.args.carried.now.items 0 c.loop-done-test.true
+    c.in_default.ensures.ok ∙ ap (λ (x : Record). put_last c.loop-done.carried.items (get_or links n 0) x)
+    c.copy.ensures ∙ ap (λ (rss : List (List Record)). put_last rss (get_or links n 0) c.args.entry.now)
+    c.loop-done.invariant ∙ put_all_more links n c.args.entry.now c.args.carried.now.items 0 c.loop-done-test.true
 
 pub returns-in-Err : goal.returns-in-Err
 returns-in-Err c = record {
@@ -20,6 +22,7 @@ returns-in-Err c = record {
 
 pub returns : goal.returns
 returns c = record {
-  ok = c.loop-done.invariant ∙ ap (λ (ls : List ℕ). put_all ls c.args.entry.now c.args.carried.now.items) (take_all c.loop-done.done c.args.links.now c.loop-done-test.false);
+  ok = c.loop-done.invariant ∙ ap (λ (ls : List ℕ). put_all ls c.args.entry.now c.args.carried.now.items)
+      (take_all c.loop-done.done c.args.links.now c.loop-done-test.false);
   err = tt;
 }

@@ -13,4 +13,6 @@ loop-back-preserved c rss e =
     let step : at + 1 ≡ length links - c.loop-back.back = omega arith in
     let place : at ≡ length links - 1 - c.loop-back.back = omega arith in
     let before = c.loop-back.invariant rss e in
-    c.take_back.ensures (put_all (take at links) r rss) r (before ∙ ap (λ n. put_all (take n links) r rss) (sym step) ∙ sym (put_all_more links at r rss 0 within) ∙ ap (λ n. put_last (put_all (take at links) r rss) (get_or links n 0) r) place)
+    c.take_back.ensures (put_all (take at links) r rss) r
+    (before ∙ ap (λ n. put_all (take n links) r rss) (sym step) ∙ sym (put_all_more links at r rss 0 within)
+    ∙ ap (λ n. put_last (put_all (take at links) r rss) (get_or links n 0) r) place)

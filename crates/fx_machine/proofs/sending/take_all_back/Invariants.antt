@@ -5,4 +5,5 @@ use Rattle.fx_machine.proofs.sending.take_all_back.Given as goal
 
 abbrev pub invariant-loop-back : goal.invariant-loop-back
 invariant-loop-back l =
-    (rss : List (List Record)) → l.initial.carried.items ≡ put_all l.links l.entry rss → l.carried.items ≡ put_all (take (length l.links - l.back) l.links) l.entry rss
+    (rss : List (List Record)) → l.initial.carried.items ≡ put_all l.links l.entry rss → l.carried.items
+    ≡ put_all (take (length l.links - l.back) l.links) l.entry rss

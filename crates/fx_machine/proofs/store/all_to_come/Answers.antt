@@ -11,7 +11,9 @@ pub returns : goal.returns
 returns c =
     let ps = c.args.packets.now in
     let past : length ps ≤ c.loop-packet.packet-index = c.loop-packet-test.false in
-    ap (coming_of 1) (c.loop-packet.invariant ∙ ap (marks_of c.args.classes.now) (take_all c.loop-packet.packet-index ps past)) ∙ all_coming c.args.classes.now 1 ps
+    ap (coming_of 1) (c.loop-packet.invariant
+    ∙ ap (marks_of c.args.classes.now) (take_all c.loop-packet.packet-index ps past))
+    ∙ all_coming c.args.classes.now 1 ps
 
 pub loop-packet-preserved : goal.loop-packet-preserved
 loop-packet-preserved c =
@@ -24,4 +26,5 @@ loop-packet-preserved c =
     ∙ ap (λ (m : List Bool). c.loop-packet.to_come.items ++ m ∷ []) made
     ∙ ap (λ (ms : List (List Bool)). ms ++ crossings p ∷ []) c.loop-packet.invariant
     ∙ sym (map_push crossings (take n ps) p)
-    ∙ ap (λ (qs : List Packet). map crossings qs) (ap (λ (q : Packet). take n ps ++ q ∷ []) c.packet-item.is ∙ sym (take_more ps n p c.loop-packet-test.true))
+    ∙ ap (λ (qs : List Packet). map crossings qs)
+    (ap (λ (q : Packet). take n ps ++ q ∷ []) c.packet-item.is ∙ sym (take_more ps n p c.loop-packet-test.true))

@@ -16,6 +16,10 @@ returns-in-Some c =
     let net = c.args.net.now in
     let f = c.args.packet.now.fields in
     let x = c.in-Some.found.now in
-    let there : Some x ≡ entry_numbered (path c.args.classes.now c.args.packet.now) c.args.crossing = c.in-Some.ensures ∙ ap (λ (xs : List Crossing). entry_numbered xs c.args.crossing) c.path_of.ensures in
+    let there : Some x ≡ entry_numbered (path c.args.classes.now c.args.packet.now) c.args.crossing = c.in-Some.ensures
+    ∙ ap (λ (xs : List Crossing). entry_numbered xs c.args.crossing) c.path_of.ensures in
     let empty : c.clear.new.self.items ≡ [] = search (rules, c.clear.ensures) in
-    on_ok_weaker c.push_occurrences.result (λ h. ap (λ (os : List Occurrence). map hold_act (met_holdings net.holders f os)) (h ∙ ap (λ (os : List Occurrence). os ++ occurrences net x f) empty) ∙ met_acts net f (occurrences net x f) ∙ ap (crossing_acts net f) there) c.push_occurrences.ensures
+    on_ok_weaker c.push_occurrences.result (λ h.
+    ap (λ (os : List Occurrence). map hold_act (met_holdings net.holders f os))
+    (h ∙ ap (λ (os : List Occurrence). os ++ occurrences net x f) empty) ∙ met_acts net f (occurrences net x f)
+    ∙ ap (crossing_acts net f) there) c.push_occurrences.ensures

@@ -9,4 +9,5 @@ returns c =
     let link = c.in_ok-link.link.now in
     let at = c.in_ok-link.ensures.lookup.3 in
     ap (λ (n : ℕ). Some n) c.queue_length.ensures
-    ∙ sym (ap (λ (l : Option Ongoing). option_map (λ (o : Ongoing). length o.queue) l) (found_in c.args.links.now c.args.links.now c.args.link link refl at.0 (at.1 link)))
+    ∙ sym (ap (λ (l : Option Ongoing). option_map (λ (o : Ongoing). length o.queue) l)
+    (found_in c.args.links.now c.args.links.now c.args.link link refl at.0 (at.1 link)))

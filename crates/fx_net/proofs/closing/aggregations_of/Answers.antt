@@ -5,11 +5,13 @@ use Rattle.fx_net.proofs.closing.aggregations_of.Goals as goal
 
 pub returns-in-None : goal.returns-in-None
 returns-in-None c =
-    sym (ap aggregations_of (none_in c.processes.result.now c.args.net.now.processes c.args.process c.processes.ensures c.in-None.ensures.lookup.3))
+    sym (ap aggregations_of (none_in c.processes.result.now c.args.net.now.processes c.args.process c.processes.ensures
+    c.in-None.ensures.lookup.3))
 
 pub returns-in-Some : goal.returns-in-Some
 returns-in-Some c =
     let process = c.in-Some.process.now in
     let at = c.in-Some.ensures.lookup.3 in
     c.aggregations.ensures
-    ∙ sym (ap aggregations_of (found_in c.processes.result.now c.args.net.now.processes c.args.process process c.processes.ensures at.0 (at.1 process)))
+    ∙ sym (ap aggregations_of (found_in c.processes.result.now c.args.net.now.processes c.args.process process
+    c.processes.ensures at.0 (at.1 process)))

@@ -17,10 +17,12 @@ loop-exporter-preserved c =
     let links = c.loop-exporter.links.items in
     ap (λ (os : List Ongoing). put_each t r (links_used net chosen (drop (n + 1) ps)) os) c.in_ok-export_at.ensures.ok
     ∙ put_each_more t r (used_at net chosen (get_or ps n 0)) (links_used net chosen (drop (n + 1) ps)) links
-    ∙ ap (λ (xs : List ℕ). put_each t r (links_used net chosen xs) links) (sym (drop_more ps n 0 c.loop-exporter-test.true)) ∙ c.loop-exporter.invariant
+    ∙ ap (λ (xs : List ℕ). put_each t r (links_used net chosen xs) links)
+    (sym (drop_more ps n 0 c.loop-exporter-test.true)) ∙ c.loop-exporter.invariant
 
 pub returns-clause-ok : goal.returns-clause-ok
 returns-clause-ok c =
     let links = c.loop-exporter.links.items in
-    sym (ap (λ (xs : List ℕ). put_each c.args.time c.args.flow.now (links_used c.args.net.now c.args.chosen.now xs) links) (drop_all c.loop-exporter.exporter-index c.args.exporters.now c.loop-exporter-test.false))
+    sym (ap (λ (xs : List ℕ). put_each c.args.time c.args.flow.now (links_used c.args.net.now c.args.chosen.now xs)
+    links) (drop_all c.loop-exporter.exporter-index c.args.exporters.now c.loop-exporter-test.false))
     ∙ c.loop-exporter.invariant

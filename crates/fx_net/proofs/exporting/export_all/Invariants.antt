@@ -6,4 +6,5 @@ use Rattle.fx_net.proofs.exporting.export_all.Given as goal
 
 abbrev pub invariant-loop-exporter : goal.invariant-loop-exporter
 invariant-loop-exporter l =
-    put_each l.time l.flow (links_used l.net l.chosen (drop l.exporter-index l.exporters)) l.links.items ≡ put_each l.time l.flow (links_used l.net l.chosen l.exporters) l.initial.links.items
+    put_each l.time l.flow (links_used l.net l.chosen (drop l.exporter-index l.exporters)) l.links.items
+    ≡ put_each l.time l.flow (links_used l.net l.chosen l.exporters) l.initial.links.items

@@ -16,10 +16,12 @@ loop-destination-preserved c =
     let d : Option ℕ = None in
     ap (λ (os : List Ongoing). put_each t r (links_of (drop (n + 1) ds)) os) c.in_ok-put_to.ensures.ok
     ∙ put_each_more t r (link_list (get_or ds n d)) (links_of (drop (n + 1) ds)) links
-    ∙ ap (λ (xs : List (Option ℕ)). put_each t r (links_of xs) links) (sym (drop_more ds n d c.loop-destination-test.true)) ∙ c.loop-destination.invariant
+    ∙ ap (λ (xs : List (Option ℕ)). put_each t r (links_of xs) links)
+    (sym (drop_more ds n d c.loop-destination-test.true)) ∙ c.loop-destination.invariant
 
 pub returns-clause-ok : goal.returns-clause-ok
 returns-clause-ok c =
     let links = c.loop-destination.links.items in
-    sym (ap (λ (xs : List (Option ℕ)). put_each c.args.time c.args.flow.now (links_of xs) links) (drop_all c.loop-destination.destination-index c.args.destinations.now c.loop-destination-test.false))
+    sym (ap (λ (xs : List (Option ℕ)). put_each c.args.time c.args.flow.now (links_of xs) links)
+    (drop_all c.loop-destination.destination-index c.args.destinations.now c.loop-destination-test.false))
     ∙ c.loop-destination.invariant

@@ -6,4 +6,5 @@ use Rattle.fx_net.proofs.exporting.put_to_all.Given as goal
 
 abbrev pub invariant-loop-destination : goal.invariant-loop-destination
 invariant-loop-destination l =
-    put_each l.time l.flow (links_of (drop l.destination-index l.destinations)) l.links.items ≡ put_each l.time l.flow (links_of l.destinations) l.initial.links.items
+    put_each l.time l.flow (links_of (drop l.destination-index l.destinations)) l.links.items
+    ≡ put_each l.time l.flow (links_of l.destinations) l.initial.links.items

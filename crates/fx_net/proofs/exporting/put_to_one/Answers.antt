@@ -7,7 +7,8 @@ use Rattle.fx_net.proofs.exporting.put_to_one.Goals as goal
 
 pub returns-then-number-eq0-clause-ok : goal.returns-then-number-eq0-clause-ok
 returns-then-number-eq0-clause-ok c =
-    sym (ap (λ (n : ℕ). put_each c.args.time c.args.flow.now (link_numbered c.args.destinations.now n) c.args.links.now.items) c.if-number-eq0.true)
+    sym (ap (λ (n : ℕ). put_each c.args.time c.args.flow.now (link_numbered c.args.destinations.now n)
+    c.args.links.now.items) c.if-number-eq0.true)
 
 pub returns-in-None-clause-ok : goal.returns-in-None-clause-ok
 returns-in-None-clause-ok c =
@@ -19,6 +20,7 @@ returns-in-Some-clause-ok c =
     let destination = c.in-Some.destination.now in
     let at = c.in-Some.ensures.lookup.3 in
     on_ok_weaker c.put_to.result
-    (λ put. put ∙ sym (ap (λ (d : Option (Option ℕ)). put_each c.args.time c.args.flow.now (link_of d) c.args.links.now.items)
+    (λ put. put ∙ sym (ap (λ (d : Option (Option ℕ)). put_each c.args.time c.args.flow.now (link_of d)
+    c.args.links.now.items)
     (found_numbered c.args.destinations.now c.args.number _ destination at.0 (at.1 destination) (omega arith))))
     c.put_to.ensures.ok

@@ -14,14 +14,18 @@ loop-place-preserved g c =
     let line = c.index_mut-line.result.now in
     let done = mapped f n old in
     let lines_is : c.loop-place.lines.items ≡ done = c.loop-place.invariant.lines in
-    let line_is : line ≡ get_or old n line = c.index_mut-line.ensures.value ∙ ap (λ (xs : List Ongoing). get_or xs n line) {y = done} lines_is ∙ mapped_at f n old line in
+    let line_is : line ≡ get_or old n line = c.index_mut-line.ensures.value
+    ∙ ap (λ (xs : List Ongoing). get_or xs n line) {y = done} lines_is ∙ mapped_at f n old line in
     let there : n < length old = omega (arith, c.loop-place-test.true, c.len-place-end.ensures) in
     let before = g.L.Links.put_on c.args.links.now in
     let mid = g.L.Links.put_on c.loop-place.links in
     let after = g.L.Links.put_on c.finish.new.links in
     record {
-      lines = ap (λ (xs : List Ongoing). set xs n c.finish.new.self) {y = done} lines_is ∙ mapped_more f n old line c.finish.new.self there (c.in_ok-finish.ensures.ok ∙ ap f line_is);
-      put = puts_more before mid after c.args.time n old line there c.loop-place.invariant.put (subst (λ (o : Ongoing). Puts mid after (n + 1) (to_put c.args.time o)) line_is c.in_ok-finish.ensures.put) (subst (λ (o : Ongoing). HasRoom (Some o)) line_is c.finish.ensures.room);
+      lines = ap (λ (xs : List Ongoing). set xs n c.finish.new.self) {y = done} lines_is
+          ∙ mapped_more f n old line c.finish.new.self there (c.in_ok-finish.ensures.ok ∙ ap f line_is);
+      put = puts_more before mid after c.args.time n old line there c.loop-place.invariant.put
+          (subst (λ (o : Ongoing). Puts mid after (n + 1) (to_put c.args.time o)) line_is c.in_ok-finish.ensures.put)
+          (subst (λ (o : Ongoing). HasRoom (Some o)) line_is c.finish.ensures.room);
       going = λ h. c.in_ok-finish.ensures.going (c.loop-place.invariant.going h);
     }
 

@@ -8,6 +8,7 @@ use Rattle.fx_net.proofs.finishing.finish_all.Given as goal
 abbrev pub invariant-loop-place : goal.invariant-loop-place
 invariant-loop-place g l = record {
   lines : l.lines.items ≡ mapped (after_finish l.time) l.place l.initial.lines.items;
-  put : PutsAll (g.L.Links.put_on l.initial.links) (g.L.Links.put_on l.links) l.time (take l.place l.initial.lines.items);
+  put : PutsAll (g.L.Links.put_on l.initial.links) (g.L.Links.put_on l.links) l.time
+      (take l.place l.initial.lines.items);
   going : g.L.Links.failed l.initial.links ≡ false → g.L.Links.failed l.links ≡ false;
 }

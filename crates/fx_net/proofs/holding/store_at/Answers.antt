@@ -10,4 +10,5 @@ pub returns-in-Some : goal.returns-in-Some
 returns-in-Some c =
     let store = c.in-Some.store.now in
     let at = c.in-Some.ensures.lookup.3 in
-    now_copied c.as_ref.result ∙ c.as_ref.ensures.value ∙ sym (stored_is c.args.stores.now c.args.place store at.0 (at.1 store))
+    now_copied c.as_ref.result ∙ c.as_ref.ensures.value
+    ∙ sym (stored_is c.args.stores.now c.args.place store at.0 (at.1 store))

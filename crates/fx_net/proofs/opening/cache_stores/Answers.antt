@@ -7,10 +7,12 @@ use Rattle.fx_net.specs.Opening.{store_of}
 use Rattle.fx_net.proofs.opening.cache_stores.Goals as goal
 
 -- the lists of one element more
-one_more : {A B : Type 0} (f : A → List B) (xs : List A) (n : ℕ) (x : A) → n < length xs → x ≡ get_or xs n x → flat_map f (take n xs) ++ f x ≡ flat_map f (take (suc n) xs)
+one_more : {A B : Type 0} (f : A → List B) (xs : List A) (n : ℕ) (x : A) → n < length xs → x ≡ get_or xs n x
+    → flat_map f (take n xs) ++ f x ≡ flat_map f (take (suc n) xs)
 one_more f [] n x lt is = absurd (omega arith)
 one_more f (y ∷ ys) zero x lt is = ap f is ∙ sym (append-nil (f y))
-one_more {B = B} f (y ∷ ys) (suc n) x lt is = append_assoc (f y) (flat_map f (take n ys)) (f x) ∙ ap (λ (zs : List B). f y ++ zs) (one_more f ys n x (le_of_suc-le-suc lt) is)
+one_more {B = B} f (y ∷ ys) (suc n) x lt is = append_assoc (f y) (flat_map f (take n ys)) (f x)
+    ∙ ap (λ (zs : List B). f y ++ zs) (one_more f ys n x (le_of_suc-le-suc lt) is)
 
 caches : NetworkDevice → List Cache
 caches d = d.config.caches
@@ -27,9 +29,11 @@ loop-device-preserved c =
     ∙ ap (λ (xs : List Cache). c.loop-device.stores.items ++ map store_of xs) here
     ∙ ap (λ stores. stores ++ map store_of (caches d)) c.loop-device.invariant
     ∙ sym (map-append store_of before (caches d))
-    ∙ ap (map store_of) (one_more caches devices n d c.loop-device-test.true c.device-item.is ∙ ap (λ k. flat_map caches (take k devices)) (sym (add-one n)))
+    ∙ ap (map store_of) (one_more caches devices n d c.loop-device-test.true c.device-item.is
+    ∙ ap (λ k. flat_map caches (take k devices)) (sym (add-one n)))
 
 pub returns-clause-ok : goal.returns-clause-ok
 unfolding caches
 returns-clause-ok c =
-    c.loop-device.invariant ∙ ap (λ (ds : List NetworkDevice). map store_of (flat_map caches ds)) (take_all c.loop-device.device-index c.args.devices.now c.loop-device-test.false)
+    c.loop-device.invariant ∙ ap (λ (ds : List NetworkDevice). map store_of (flat_map caches ds))
+    (take_all c.loop-device.device-index c.args.devices.now c.loop-device-test.false)

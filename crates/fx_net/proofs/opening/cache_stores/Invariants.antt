@@ -5,4 +5,5 @@ use Rattle.fx_net.specs.Opening.{store_of}
 use Rattle.fx_net.proofs.opening.cache_stores.Given as goal
 
 abbrev pub invariant-loop-device : goal.invariant-loop-device
-invariant-loop-device l = l.stores.items ≡ map store_of (flat_map (λ (d : NetworkDevice). d.config.caches) (take l.device-index l.devices))
+invariant-loop-device l = l.stores.items
+    ≡ map store_of (flat_map (λ (d : NetworkDevice). d.config.caches) (take l.device-index l.devices))

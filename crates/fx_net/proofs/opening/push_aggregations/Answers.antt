@@ -13,4 +13,5 @@ loop-aggregation-preserved c =
     ∙ ap (λ (s : Stored). c.loop-aggregation.stores.items ++ Some s ∷ []) c.in_ok-new.ensures.ok
     ∙ ap (λ (xs : List (Option Stored)). xs ++ Some (new_store 0) ∷ []) c.loop-aggregation.invariant
     ∙ append_assoc before (aggregation_stores (take n all)) (Some (new_store 0) ∷ [])
-    ∙ ap (λ (xs : List (Option Stored)). before ++ xs) (same_more (Some (new_store 0)) all n c.loop-aggregation-test.true)
+    ∙ ap (λ (xs : List (Option Stored)). before ++ xs)
+    (same_more (Some (new_store 0)) all n c.loop-aggregation-test.true)

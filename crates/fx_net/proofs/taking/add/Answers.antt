@@ -5,11 +5,13 @@ use Rattle.fx_net.proofs.StoresTakeIn.{holding_past, holding_none, holding_some,
 use Rattle.fx_net.proofs.taking.add.Goals as goal
 
 pub returns-in_default-clause-ok : goal.returns-in_default-clause-ok
-returns-in_default-clause-ok c = holding_past c.args.counts c.args.holding c.args.stores.now.items c.args.left.now.items c.in_default.ensures.item.3
+returns-in_default-clause-ok c = holding_past c.args.counts c.args.holding c.args.stores.now.items c.args.left.now.items
+    c.in_default.ensures.item.3
 
 pub returns-in_default-store-clause-ok : goal.returns-in_default-store-clause-ok
 returns-in_default-store-clause-ok c =
-    holding_none c.args.counts c.args.holding c.args.stores.now.items c.args.left.now.items c.in-Some.store.now c.in-Some.ensures.item.3.0 c.in-Some.ensures.value c.in_default-store.is
+    holding_none c.args.counts c.args.holding c.args.stores.now.items c.args.left.now.items c.in-Some.store.now
+    c.in-Some.ensures.item.3.0 c.in-Some.ensures.value c.in_default-store.is
 
 pub returns-in-Ok-None-clause-ok : goal.returns-in-Ok-None-clause-ok
 returns-in-Ok-None-clause-ok c =
@@ -31,7 +33,8 @@ returns-in-Ok-Some-clause-ok c =
     let left = c.args.left.now.items in
     let old = c.in-Some-store.store in
     on_ok_weaker c.push_leaver.result
-    (λ more. one_more stores h.holder c.add.new.self left c.push_leaver.new.leavers.items c.in-Ok-Some.field-0 c.in-Ok-Some.key c.in-Ok-Some.counts c.in-Ok-Some.field-0-is more
+    (λ more. one_more stores h.holder c.add.new.self left c.push_leaver.new.leavers.items c.in-Ok-Some.field-0
+    c.in-Ok-Some.key c.in-Ok-Some.counts c.in-Ok-Some.field-0-is more
     ∙ holding_some counts h stores left old c.add.new.self c.in-Ok-Some.field-0 c.in-Some.ensures.item.3.0
     (subst (λ (x : Option Stored). x ≡ get_or stores h.holder x) c.in-Some-store.is c.in-Some.ensures.value)
     c.in-Ok-Some.ensures.stored c.in-Ok-Some.ensures.leaves)

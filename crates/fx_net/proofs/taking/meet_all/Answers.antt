@@ -27,16 +27,20 @@ loop-occurrence-preserved c =
       adding = ap (with_holdings counts rest) c.in_ok-take_packet.ensures.ok
           ∙ ap (λ (hs : List Holding). with_holdings counts hs (record { stores = stores; left = left })) (sym here)
           ∙ c.loop-occurrence.invariant.adding;
-      passing = passing_next counts h rest before stores passing c.take_packet.new.leavers.passing.items _ c.in_ok-take_packet.ensures.passing (c.loop-occurrence.invariant.still h.holder)
-          (ap (λ (hs : List Holding). passing ++ all_leave_at_once before counts hs) (sym here) ∙ c.loop-occurrence.invariant.passing);
-      still = still_next counts h before stores c.take_packet.new.stores.items left c.take_packet.new.leavers.left.items c.in_ok-take_packet.ensures.ok c.loop-occurrence.invariant.still;
+      passing = passing_next counts h rest before stores passing c.take_packet.new.leavers.passing.items _
+          c.in_ok-take_packet.ensures.passing (c.loop-occurrence.invariant.still h.holder)
+          (ap (λ (hs : List Holding). passing ++ all_leave_at_once before counts hs) (sym here)
+          ∙ c.loop-occurrence.invariant.passing);
+      still = still_next counts h before stores c.take_packet.new.stores.items left c.take_packet.new.leavers.left.items
+          c.in_ok-take_packet.ensures.ok c.loop-occurrence.invariant.still;
     }
 
 pub returns-clause-ok : goal.returns-clause-ok
 returns-clause-ok c =
     let holders = c.args.net.now.holders in
     let met = c.args.met.now in
-    sym (ap (λ (os : List Occurrence). with_holdings c.args.counts (met_holdings holders c.args.fields.now os) (record { stores = c.loop-occurrence.stores.items; left = c.loop-occurrence.leavers.left.items }))
+    sym (ap (λ (os : List Occurrence). with_holdings c.args.counts (met_holdings holders c.args.fields.now os)
+    (record { stores = c.loop-occurrence.stores.items; left = c.loop-occurrence.leavers.left.items }))
     (drop_all c.loop-occurrence.occurrence-index met c.loop-occurrence-test.false))
     ∙ c.loop-occurrence.invariant.adding
 
@@ -45,6 +49,7 @@ returns-clause-passing c =
     let holders = c.args.net.now.holders in
     let met = c.args.met.now in
     let passing = c.loop-occurrence.leavers.passing.items in
-    sym (ap (λ (os : List Occurrence). passing ++ all_leave_at_once c.args.stores.now.items c.args.counts (met_holdings holders c.args.fields.now os))
+    sym (ap (λ (os : List Occurrence). passing
+    ++ all_leave_at_once c.args.stores.now.items c.args.counts (met_holdings holders c.args.fields.now os))
     (drop_all c.loop-occurrence.occurrence-index met c.loop-occurrence-test.false) ∙ append-nil passing)
     ∙ c.loop-occurrence.invariant.passing

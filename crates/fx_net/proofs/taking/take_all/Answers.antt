@@ -18,7 +18,10 @@ loop-holding-preserved c =
       adding = ap (with_holdings counts rest) c.in_ok-take.ensures.ok
           ∙ ap (λ (hs : List Holding). with_holdings counts hs (record { stores = stores; left = left })) (sym here)
           ∙ c.loop-holding.invariant.adding;
-      passing = passing_next counts h rest before stores passing c.take.new.leavers.passing.items _ c.in_ok-take.ensures.passing (c.loop-holding.invariant.still h.holder)
-          (ap (λ (hs : List Holding). passing ++ all_leave_at_once before counts hs) (sym here) ∙ c.loop-holding.invariant.passing);
-      still = still_next counts h before stores c.take.new.stores.items left c.take.new.leavers.left.items c.in_ok-take.ensures.ok c.loop-holding.invariant.still;
+      passing = passing_next counts h rest before stores passing c.take.new.leavers.passing.items _
+          c.in_ok-take.ensures.passing (c.loop-holding.invariant.still h.holder)
+          (ap (λ (hs : List Holding). passing ++ all_leave_at_once before counts hs) (sym here)
+          ∙ c.loop-holding.invariant.passing);
+      still = still_next counts h before stores c.take.new.stores.items left c.take.new.leavers.left.items
+          c.in_ok-take.ensures.ok c.loop-holding.invariant.still;
     }

@@ -11,4 +11,6 @@ returns c =
     let places = c.args.places.now in
     let inner = c.args.inner.now in
     let outer = c.args.outer.now in
-    if_ok c.meters_alike.result c.meters_alike.ensures (λ b. λ e. on_true b (MetersTheSame part whole places inner outer) (λ h. sees_found part whole places inner outer (sym e ∙ h)))
+    if_ok c.meters_alike.result c.meters_alike.ensures
+    (λ b. λ e. on_true b (MetersTheSame part whole places inner outer)
+    (λ h. sees_found part whole places inner outer (sym e ∙ h)))

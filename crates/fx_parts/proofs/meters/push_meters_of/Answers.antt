@@ -14,7 +14,10 @@ loop-place-preserved c =
     let front = c.args.found.now.items in
     let xs = c.args.points.now in
     let new = (meters_at c.args.crossing.now) x in
-    c.in_ok-push_meters_at.ensures ∙ ap (λ (ys : List Selection). ys ++ new) c.loop-place.invariant ∙ append_assoc front (flat_map (meters_at c.args.crossing.now) (take k xs)) new ∙ ap (λ (ys : List Selection). front ++ ys) (sym (flat_step (meters_at c.args.crossing.now) xs k x c.loop-place-test.true c.index-points-place.is))
+    c.in_ok-push_meters_at.ensures ∙ ap (λ (ys : List Selection). ys ++ new) c.loop-place.invariant
+    ∙ append_assoc front (flat_map (meters_at c.args.crossing.now) (take k xs)) new
+    ∙ ap (λ (ys : List Selection). front ++ ys)
+    (sym (flat_step (meters_at c.args.crossing.now) xs k x c.loop-place-test.true c.index-points-place.is))
 
 pub loop-place-init : goal.loop-place-init
 loop-place-init c = sym (append-nil c.args.found.now.items)
@@ -27,4 +30,5 @@ returns-in_err-push_meters_at c =
 pub returns : goal.returns
 returns c =
     let front = c.args.found.now.items in
-    c.loop-place.invariant ∙ ap (λ ys. front ++ flat_map (meters_at c.args.crossing.now) ys) (take_all c.loop-place.place c.args.points.now c.loop-place-test.false)
+    c.loop-place.invariant ∙ ap (λ ys. front ++ flat_map (meters_at c.args.crossing.now) ys)
+    (take_all c.loop-place.place c.args.points.now c.loop-place-test.false)

@@ -10,6 +10,9 @@ loop-place-preserved c =
     let left : ℕ → Bool = λ (place : ℕ). not (get_or c.args.come.now place false) in
     let k = c.loop-place.place in
     elim c.if-not-there.branch [
-      | then-not-there+in_ok-push w ↦ ap (λ (v : Vec ℕ Global). v.items) w.places-is ∙ (w.in_ok-push.ensures.items ∙ (ap (λ (l : List ℕ). l ++ k ∷ []) c.loop-place.invariant ∙ sym (filter_yes left k (not_from_false (get_or come k false) w.if-not-there.true))))
-      | else-not-there w ↦ ap (λ (v : Vec ℕ Global). v.items) w.places-is ∙ (c.loop-place.invariant ∙ sym (filter_no left k (not_from_true (get_or come k false) w.if-not-there.false)))
+      | then-not-there+in_ok-push w ↦ ap (λ (v : Vec ℕ Global). v.items) w.places-is
+          ∙ (w.in_ok-push.ensures.items ∙ (ap (λ (l : List ℕ). l ++ k ∷ []) c.loop-place.invariant
+          ∙ sym (filter_yes left k (not_from_false (get_or come k false) w.if-not-there.true))))
+      | else-not-there w ↦ ap (λ (v : Vec ℕ Global). v.items) w.places-is
+          ∙ (c.loop-place.invariant ∙ sym (filter_no left k (not_from_true (get_or come k false) w.if-not-there.false)))
     ]

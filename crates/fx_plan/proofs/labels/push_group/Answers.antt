@@ -9,5 +9,8 @@ returns-clause-groups g c = λ grouped.
     let new = device_labels g.T.Named.name c.args.device.now c.args.things.now in
     let group : Group = record { device = c.args.device.now; start = c.len-start.result; end = c.len-end.result } in
     let start : group.start ≡ length old = c.len-start.ensures ∙ c.args.labels.now.ok.0 in
-    let end : group.end ≡ length (old ++ new) = c.len-end.ensures ∙ (c.push_labels.new.labels.ok.0 ∙ ap length c.in_ok-push_labels.ensures) in
-    rw (c.in_ok-push_labels.ensures, c.in_ok-push.ensures.items) (one_group_more 0 old new c.args.groups.now.items group grouped start end (λ k d low. own_device g.T.Named.name c.args.device.now c.args.things.now k d low)))
+    let end : group.end ≡ length (old ++ new) = c.len-end.ensures
+    ∙ (c.push_labels.new.labels.ok.0 ∙ ap length c.in_ok-push_labels.ensures) in
+    rw (c.in_ok-push_labels.ensures, c.in_ok-push.ensures.items)
+    (one_group_more 0 old new c.args.groups.now.items group grouped start end
+    (λ k d low. own_device g.T.Named.name c.args.device.now c.args.things.now k d low)))

@@ -21,7 +21,9 @@ use Rattle.fx_plan.proofs.StuckProcesses.{none_are_stuck}
 use Rattle.fx_plan.proofs.plan.read_plan.Goals as goal
 
 -- the exit where the network is refused
-refused : (d : Data) (network : NetworkDocument) (r : Result NetworkDocument Fault) (e : Fault) → IsErr r × IsErrAnd r (λ x. x ≡ e) → network_faults [] d ≡ [] → network ≡ network_of d → IsMemory e ⊎ RefusesNetwork network e → ReadsPlan d r
+refused : (d : Data) (network : NetworkDocument) (r : Result NetworkDocument Fault) (e : Fault) → IsErr r
+    × IsErrAnd r (λ x. x ≡ e) → network_faults [] d ≡ [] → network ≡ network_of d → IsMemory e
+    ⊎ RefusesNetwork network e → ReadsPlan d r
 refused d network (Ok x) e h none is why = absurd h.1
 refused d network (Err x) e h none is why =
     rw h.1
@@ -31,14 +33,20 @@ refused d network (Err x) e h none is why =
     ])
 
 -- the exit with a plan
-planned : (d : Data) (network plan : NetworkDocument) (net : Net) (ranked order : List ℕ) (layouts : List Layout) (numbers : List ℕ) → network_faults [] d ≡ [] → network ≡ network_of d → IsPlan network net ranked order layouts numbers → plan ≡ network → ReadsPlan d (Ok plan)
+planned : (d : Data) (network plan : NetworkDocument) (net : Net) (ranked order : List ℕ) (layouts : List Layout)
+    (numbers : List ℕ) → network_faults [] d ≡ [] → network ≡ network_of d
+    → IsPlan network net ranked order layouts numbers → plan ≡ network → ReadsPlan d (Ok plan)
 planned d network plan net ranked order layouts numbers none is parts same =
-    let few : length (layouts_of net) ≤ layout_limit = subst (λ (l : List Layout). length l ≤ layout_limit) parts.layouts_are parts.few in (
+    let few : length (layouts_of net) ≤ layout_limit =
+    subst (λ (l : List Layout). length l ≤ layout_limit) parts.layouts_are parts.few in (
       none,
       same ∙ is,
-      subst (λ (n : NetworkDocument). length (layouts_of (net_of n)) ≤ layout_limit) (sym same) (subst (λ (n : Net). length (layouts_of n) ≤ layout_limit) parts.net_is few),
+      subst (λ (n : NetworkDocument). length (layouts_of (net_of n)) ≤ layout_limit) (sym same)
+          (subst (λ (n : Net). length (layouts_of n) ≤ layout_limit) parts.net_is few),
       λ process stuck.
-          none_are_stuck net ranked parts.whole process (subst (λ (n : Net). IsStuck n process) (sym parts.net_is) (subst (λ (n : NetworkDocument). IsStuck (net_of n) process) same stuck)),
+          none_are_stuck net ranked parts.whole process
+          (subst (λ (n : Net). IsStuck n process) (sym parts.net_is)
+          (subst (λ (n : NetworkDocument). IsStuck (net_of n) process) same stuck)),
     )
 
 pub meaning_of-requires : goal.meaning_of-requires
@@ -57,8 +65,10 @@ plan_of_parts-requires c = c.in_ok-meaning.ensures.plan
 
 pub returns-in_err-meaning : goal.returns-in_err-meaning
 returns-in_err-meaning c =
-    refused (view c.args.value.now) c.in_ok-network.network _ _ c.from_residual-in_err-meaning.ensures c.in_ok-network.ensures.0 c.in_ok-network.ensures.1 c.in_err-meaning.ensures.err
+    refused (view c.args.value.now) c.in_ok-network.network _ _ c.from_residual-in_err-meaning.ensures
+    c.in_ok-network.ensures.0 c.in_ok-network.ensures.1 c.in_err-meaning.ensures.err
 
 pub returns : goal.returns
 returns c =
-    planned (view c.args.value.now) c.in_ok-network.network c.in_ok-plan.plan _ _ _ _ _ c.in_ok-network.ensures.0 c.in_ok-network.ensures.1 c.in_ok-meaning.ensures.plan c.in_ok-plan.ensures
+    planned (view c.args.value.now) c.in_ok-network.network c.in_ok-plan.plan _ _ _ _ _ c.in_ok-network.ensures.0
+    c.in_ok-network.ensures.1 c.in_ok-meaning.ensures.plan c.in_ok-plan.ensures

@@ -13,8 +13,12 @@ same_selection r s h k region holder = rw (region, holder) refl
 
 pub loop-name-preserved : goal.loop-name-preserved
 loop-name-preserved c =
-    one_made (selection_of c.args.caches.now c.args.device.now) [] c.args.names.now c.loop-name.name-index c.name-item.result _ c.loop-name.selections.items _ c.loop-name-test.true c.name-item.is (same_selection _ _ _ _ c.region_named-region.ensures c.cache_place-holder.ensures) c.loop-name.invariant c.in_ok-push.ensures.items
+    one_made (selection_of c.args.caches.now c.args.device.now) [] c.args.names.now c.loop-name.name-index
+    c.name-item.result _ c.loop-name.selections.items _ c.loop-name-test.true c.name-item.is
+    (same_selection _ _ _ _ c.region_named-region.ensures c.cache_place-holder.ensures) c.loop-name.invariant
+    c.in_ok-push.ensures.items
 
 pub returns : goal.returns
 returns c =
-    all_made (selection_of c.args.caches.now c.args.device.now) [] c.args.names.now c.loop-name.name-index c.loop-name.selections.items c.loop-name-test.false c.loop-name.invariant
+    all_made (selection_of c.args.caches.now c.args.device.now) [] c.args.names.now c.loop-name.name-index
+    c.loop-name.selections.items c.loop-name-test.false c.loop-name.invariant

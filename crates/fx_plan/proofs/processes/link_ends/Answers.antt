@@ -7,9 +7,11 @@ use Rattle.fx_plan.proofs.processes.link_ends.Goals as goal
 pub loop-link-preserved : goal.loop-link-preserved
 loop-link-preserved c =
     let end : NamedLink → ℕ = λ (link : NamedLink). place c.args.collecting.now link.to_device link.to_process in
-    one_made end [] c.args.links.now c.loop-link.link-index c.link-item.result c.place.result c.loop-link.ends.items _ c.loop-link-test.true c.link-item.is c.place.ensures c.loop-link.invariant c.in_ok-push.ensures.items
+    one_made end [] c.args.links.now c.loop-link.link-index c.link-item.result c.place.result c.loop-link.ends.items _
+    c.loop-link-test.true c.link-item.is c.place.ensures c.loop-link.invariant c.in_ok-push.ensures.items
 
 pub returns : goal.returns
 returns c =
     let end : NamedLink → ℕ = λ (link : NamedLink). place c.args.collecting.now link.to_device link.to_process in
-    all_made end [] c.args.links.now c.loop-link.link-index c.loop-link.ends.items c.loop-link-test.false c.loop-link.invariant
+    all_made end [] c.args.links.now c.loop-link.link-index c.loop-link.ends.items c.loop-link-test.false
+    c.loop-link.invariant

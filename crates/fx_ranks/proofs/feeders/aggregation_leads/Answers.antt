@@ -12,7 +12,9 @@ returns-in-Some c =
     let there = c.in-Some.ensures.lookup.3 in
     let same : xs ≡ net.holders = c.holders.ensures ∙ ap (λ (n : Net). n.holders) c.net.ensures in
     let found : slice_get net.holders c.args.aggregation.now.holder ≡ Some holder =
-    ap (λ (ys : List Holder). slice_get ys c.args.aggregation.now.holder) (sym same) ∙ ap (slice_get xs) (sym c.holder.ensures) ∙ slice_get-get_or xs c.holder.result holder there.0 ∙ ap Some (sym (there.1 holder)) in
+    ap (λ (ys : List Holder). slice_get ys c.args.aggregation.now.holder) (sym same)
+    ∙ ap (slice_get xs) (sym c.holder.ensures) ∙ slice_get-get_or xs c.holder.result holder there.0
+    ∙ ap Some (sym (there.1 holder)) in
     c.lead_to.ensures
     ∙ ap (λ (places : List ℕ). lead_to net c.args.process (at_places net.exporters places)) c.exporters.ensures
     ∙ ap (λ (o : Option Holder). lead_to net c.args.process (exporters_of net o)) (sym found)
@@ -23,5 +25,6 @@ returns-in-None c =
     let xs = c.holders.result.now in
     let same : xs ≡ net.holders = c.holders.ensures ∙ ap (λ (n : Net). n.holders) c.net.ensures in
     let none : slice_get net.holders c.args.aggregation.now.holder ≡ None =
-    ap (λ (ys : List Holder). slice_get ys c.args.aggregation.now.holder) (sym same) ∙ ap (slice_get xs) (sym c.holder.ensures) ∙ slice_get_past xs c.holder.result c.in-None.ensures.lookup.3 in
+    ap (λ (ys : List Holder). slice_get ys c.args.aggregation.now.holder) (sym same)
+    ∙ ap (slice_get xs) (sym c.holder.ensures) ∙ slice_get_past xs c.holder.result c.in-None.ensures.lookup.3 in
     ap (λ (o : Option Holder). lead_to net c.args.process (exporters_of net o)) (sym none)

@@ -5,4 +5,5 @@ use Rattle.fx_ranks.proofs.feeders.any_leads.Given as goal
 
 -- none at the places so far leads to the process
 abbrev pub invariant-loop-place : goal.invariant-loop-place
-invariant-loop-place l = list_any (λ place. leads_at l.linked l.process (slice_get l.linked.exporters place)) (take l.place-index l.places) ≡ false
+invariant-loop-place l = list_any (λ place. leads_at l.linked l.process (slice_get l.linked.exporters place))
+    (take l.place-index l.places) ≡ false

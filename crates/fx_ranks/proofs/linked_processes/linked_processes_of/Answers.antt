@@ -17,7 +17,11 @@ loop-destination-preserved c =
     let n = c.loop-destination.destination-index in
     let xs = c.destinations-destination-items.result.now in
     let flags = c.set_flag.new.flags in
-    let long : c.loop-destination.flags.len ≡ length flags = omega (arith, c.as_mut_slice.ensures.len, c.set_flag.auto.flags) in
-    let set : flags ≡ with_flag c.loop-destination.flags.items (end_of c.args.net.now (get_or xs n None)) = c.set_flag.ensures ∙ rw (c.as_mut_slice.ensures.value, c.end_of.ensures) refl in
+    let long : c.loop-destination.flags.len ≡ length flags =
+    omega (arith, c.as_mut_slice.ensures.len, c.set_flag.auto.flags) in
+    let set : flags ≡ with_flag c.loop-destination.flags.items (end_of c.args.net.now (get_or xs n None)) =
+    c.set_flag.ensures ∙ rw (c.as_mut_slice.ensures.value, c.end_of.ensures) refl in
     rw (long, take-append_seam flags (drop (length flags) c.loop-destination.flags.items))
-    (set ∙ one_destination_more c.args.net.now (take n xs) (take (n + 1) xs) (get_or xs n None) (length c.args.net.now.processes) c.loop-destination.flags.items (take_more xs n None c.loop-destination-test.true) i)
+    (set ∙ one_destination_more c.args.net.now (take n xs) (take (n + 1) xs) (get_or xs n None)
+    (length c.args.net.now.processes) c.loop-destination.flags.items
+    (take_more xs n None c.loop-destination-test.true) i)

@@ -10,8 +10,12 @@ use Rattle.fx_ranks.proofs.Ranges.{ready_position, flags_set, flags_none, count_
 use Rattle.fx_ranks.proofs.order.rank_order.Goals as goal
 
 -- what is looked for is what comes next
-next_here : (net : Net) (order : List ℕ) (rows : List (Vec Bool Global)) (come : List Bool) → map (λ (row : Vec Bool Global). row.items) rows ≡ map (feeders net) (places_of net) → come ≡ map (is_in order) (places_of net) → position (λ x. not x.1 && have_come x.0.items come) (zip rows come) ≡ next net order
-next_here net order rows come e c = ready_position (λ (row : Vec Bool Global). row.items) (feeders net) (is_in order) (λ q p. feeds net p q) (length net.processes) rows come (λ q. refl) e c
+next_here : (net : Net) (order : List ℕ) (rows : List (Vec Bool Global)) (come : List Bool)
+    → map (λ (row : Vec Bool Global). row.items) rows ≡ map (feeders net) (places_of net) → come
+    ≡ map (is_in order) (places_of net) → position (λ x. not x.1 && have_come x.0.items come) (zip rows come)
+    ≡ next net order
+next_here net order rows come e c = ready_position (λ (row : Vec Bool Global). row.items) (feeders net) (is_in order)
+    (λ q p. feeds net p q) (length net.processes) rows come (λ q. refl) e c
 
 -- the flags after a process came
 record Flags (net : Net) (order : List ℕ) (come : List Bool) (place : ℕ) : Type 0 where
@@ -25,21 +29,27 @@ others_kept order place k other =
       | inl e ↦ come_kept order place k e ∙ sym e
       | inr e ↦
           elim (cases_Bool (is_in (order ++ place ∷ []) k)) [
-            | inl f ↦ elim (come_more order place k f) [ inl g ↦ absurd (both_ways (is_in order k) e g) | inr g ↦ absurd (other (sym g)) ]
+            | inl f ↦ elim (come_more order place k f)
+                [ inl g ↦ absurd (both_ways (is_in order k) e g) | inr g ↦ absurd (other (sym g)) ]
             | inr f ↦ f ∙ sym e
           ]
     ]
 
-flags_here : (net : Net) (order : List ℕ) (come : List Bool) (place : ℕ) → come ≡ map (is_in order) (places_of net) → next net order ≡ Some place → Flags net order come place
+flags_here : (net : Net) (order : List ℕ) (come : List Bool) (place : ℕ) → come ≡ map (is_in order) (places_of net)
+    → next net order ≡ Some place → Flags net order come place
 flags_here net order come place e n =
     let ready = next_is_ready net order place n in
     let low : place < length net.processes = ready.within in
-    let long : length come ≡ length net.processes = ap length e ∙ length-map-range_with_len (is_in order) 0 (length net.processes) in
+    let long : length come ≡ length net.processes = ap length e
+    ∙ length-map-range_with_len (is_in order) 0 (length net.processes) in
     let within : place < length come = omega arith in
-    let clear : get_or come place true ≡ false = ap (λ (l : List Bool). get_or l place true) e ∙ (get_or-map-range_with_len (is_in order) 0 (length net.processes) place place true low (omega arith) ∙ ready.new) in
+    let clear : get_or come place true ≡ false = ap (λ (l : List Bool). get_or l place true) e
+    ∙ (get_or-map-range_with_len (is_in order) 0 (length net.processes) place place true low (omega arith)
+    ∙ ready.new) in
     record {
       within = within;
-      set = flags_set (is_in order) (is_in (order ++ place ∷ [])) place (length net.processes) come e low (come_last order place) (others_kept order place);
+      set = flags_set (is_in order) (is_in (order ++ place ∷ [])) place (length net.processes) come e low
+          (come_last order place) (others_kept order place);
       counted = count_set come place within clear;
     }
 
@@ -50,21 +60,32 @@ loop-place-init c =
     record {
       flags = rw (c.new-order.ensures.items, made, count) (flags_none 0 (length c.args.net.now.processes));
       so_far = λ rest h. rw (c.new-order.ensures.items) (rw (c.new-order.ensures.items) at h);
-      counted = rw (c.new-order.ensures.items, made, count) (ap (λ (n : ℕ). 0 + n) (count_none 0 (length c.args.net.now.processes)) ∙ omega arith);
+      counted = rw (c.new-order.ensures.items, made, count)
+          (ap (λ (n : ℕ). 0 + n) (count_none 0 (length c.args.net.now.processes)) ∙ omega arith);
     }
 
 pub index_mut-requires : goal.index_mut-requires
 index_mut-requires c =
     let i = c.loop-place.invariant in
-    let n = c.in-Some.ensures ∙ next_here c.args.net.now c.loop-place.order.items c.as_slice.result.now c.as_slice-in-loop-place.result.now (ap (map (λ (row : Vec Bool Global). row.items)) c.as_slice.ensures.value ∙ c.in_ok-feeders.ensures) (c.as_slice-in-loop-place.ensures.value ∙ i.flags) in
-    let low : c.in-Some.place < length c.loop-place.come.items = (flags_here c.args.net.now c.loop-place.order.items c.loop-place.come.items c.in-Some.place i.flags (sym n)).within in
-    subst (λ (x : ℕ). c.in-Some.place < x) (ap length (sym c.as_slice-in-loop-place.ensures.value) ∙ c.as_slice-in-loop-place.ensures.len) low
+    let n = c.in-Some.ensures ∙ next_here c.args.net.now c.loop-place.order.items c.as_slice.result.now
+    c.as_slice-in-loop-place.result.now (ap (map (λ (row : Vec Bool Global). row.items)) c.as_slice.ensures.value
+    ∙ c.in_ok-feeders.ensures) (c.as_slice-in-loop-place.ensures.value ∙ i.flags) in
+    let low : c.in-Some.place < length c.loop-place.come.items =
+    (flags_here c.args.net.now c.loop-place.order.items c.loop-place.come.items c.in-Some.place i.flags
+    (sym n)).within in
+    subst (λ (x : ℕ). c.in-Some.place < x) (ap length (sym c.as_slice-in-loop-place.ensures.value)
+    ∙ c.as_slice-in-loop-place.ensures.len) low
 
 pub loop-place-smaller : goal.loop-place-smaller
 loop-place-smaller c =
     let i = c.loop-place.invariant in
-    let n = c.in-Some.ensures ∙ next_here c.args.net.now c.loop-place.order.items c.as_slice.result.now c.as_slice-in-loop-place.result.now (ap (map (λ (row : Vec Bool Global). row.items)) c.as_slice.ensures.value ∙ c.in_ok-feeders.ensures) (c.as_slice-in-loop-place.ensures.value ∙ i.flags) in
-    let less : count_by (λ c. not c) (slice_set c.loop-place.come.items c.in-Some.place true) + 1 ≡ count_by (λ c. not c) c.loop-place.come.items = (flags_here c.args.net.now c.loop-place.order.items c.loop-place.come.items c.in-Some.place i.flags (sym n)).counted in
+    let n = c.in-Some.ensures ∙ next_here c.args.net.now c.loop-place.order.items c.as_slice.result.now
+    c.as_slice-in-loop-place.result.now (ap (map (λ (row : Vec Bool Global). row.items)) c.as_slice.ensures.value
+    ∙ c.in_ok-feeders.ensures) (c.as_slice-in-loop-place.ensures.value ∙ i.flags) in
+    let less : count_by (λ c. not c) (slice_set c.loop-place.come.items c.in-Some.place true) + 1
+    ≡ count_by (λ c. not c) c.loop-place.come.items =
+    (flags_here c.args.net.now c.loop-place.order.items c.loop-place.come.items c.in-Some.place i.flags
+    (sym n)).counted in
     omega (arith, less)
 
 pub loop-place-preserved : goal.loop-place-preserved
@@ -73,19 +94,25 @@ loop-place-preserved c =
     let net = c.args.net.now in
     let order = c.loop-place.order.items in
     let place = c.in-Some.place in
-    let n = sym (c.in-Some.ensures ∙ next_here c.args.net.now c.loop-place.order.items c.as_slice.result.now c.as_slice-in-loop-place.result.now (ap (map (λ (row : Vec Bool Global). row.items)) c.as_slice.ensures.value ∙ c.in_ok-feeders.ensures) (c.as_slice-in-loop-place.ensures.value ∙ i.flags)) in
+    let n = sym (c.in-Some.ensures ∙ next_here c.args.net.now c.loop-place.order.items c.as_slice.result.now
+    c.as_slice-in-loop-place.result.now (ap (map (λ (row : Vec Bool Global). row.items)) c.as_slice.ensures.value
+    ∙ c.in_ok-feeders.ensures) (c.as_slice-in-loop-place.ensures.value ∙ i.flags)) in
     let here = flags_here net order c.loop-place.come.items place i.flags n in
     let longer = c.in_ok-push.ensures.items in
-    let less : count_by (λ c. not c) (slice_set c.loop-place.come.items c.in-Some.place true) + 1 ≡ count_by (λ c. not c) c.loop-place.come.items = here.counted in
+    let less : count_by (λ c. not c) (slice_set c.loop-place.come.items c.in-Some.place true) + 1
+    ≡ count_by (λ c. not c) c.loop-place.come.items = here.counted in
     let before : length order + count_by (λ c. not c) c.loop-place.come.items ≡ length net.processes = i.counted in
     record {
       flags = rw longer here.set;
-      so_far = λ rest h. rw longer (rw (append_assoc order (place ∷ []) rest) (i.so_far (place ∷ rest) (n, rw longer at h)));
+      so_far = λ rest h. rw longer (rw (append_assoc order (place ∷ []) rest)
+          (i.so_far (place ∷ rest) (n, rw longer at h)));
       counted = rw longer (rw (length-append order (place ∷ [])) (omega (arith, less, before)));
     }
 
 pub returns-clause-order : goal.returns-clause-order
 returns-clause-order c =
     let i = c.loop-place.invariant in
-    let n = c.in_default.ensures ∙ next_here c.args.net.now c.loop-place.order.items c.as_slice.result.now c.as_slice-in-loop-place.result.now (ap (map (λ (row : Vec Bool Global). row.items)) c.as_slice.ensures.value ∙ c.in_ok-feeders.ensures) (c.as_slice-in-loop-place.ensures.value ∙ i.flags) in
+    let n = c.in_default.ensures ∙ next_here c.args.net.now c.loop-place.order.items c.as_slice.result.now
+    c.as_slice-in-loop-place.result.now (ap (map (λ (row : Vec Bool Global). row.items)) c.as_slice.ensures.value
+    ∙ c.in_ok-feeders.ensures) (c.as_slice-in-loop-place.ensures.value ∙ i.flags) in
     rw append-nil at (i.so_far [] (sym n))

@@ -26,5 +26,7 @@ fit net p ps (inr none) small = rw none (λ key. tt)
 pub returns : goal.returns
 returns c net classes r small h once =
     let P : Packet → Type 0 = λ p. IsOf p (entry_numbered classes p.class) in
-    let moves = c.choices_are_free.ensures.steps_are_moves net classes (r.packet ∷ []) r.steps (opening net classes (r.packet ∷ [])) h.last h.runs_to.runs in
-    h.wrong (once (r.packet ∷ []) (All-cons P r.packet [] h.runs_to.of_class (All-nil P)) (fit net r.packet (packets_to_count classes r) (one_or_none classes r.packet) small) h.last moves h.complete)
+    let moves = c.choices_are_free.ensures.steps_are_moves net classes (r.packet ∷ []) r.steps
+    (opening net classes (r.packet ∷ [])) h.last h.runs_to.runs in
+    h.wrong (once (r.packet ∷ []) (All-cons P r.packet [] h.runs_to.of_class (All-nil P))
+    (fit net r.packet (packets_to_count classes r) (one_or_none classes r.packet) small) h.last moves h.complete)

@@ -13,7 +13,11 @@ pub loop-step-preserved : goal.loop-step-preserved
 loop-step-preserved g c =
     let taken = g.S.Sink.taken in
     record {
-      taken = writes_both (taken c.args.sink.now) (taken c.loop-step.sink) (taken c.put_step_line.new.sink) _ _ _ c.loop-step.invariant.taken c.in_ok-put_step_line.ensures.ok (steps_next c.args.steps.now c.loop-step.step-index c.step-item.result (slice_get_read c.args.steps.now (length c.args.steps.now) c.loop-step.step-index c.step-item.result refl c.loop-step-test.true c.step-item.is));
+      taken = writes_both (taken c.args.sink.now) (taken c.loop-step.sink) (taken c.put_step_line.new.sink) _ _ _
+          c.loop-step.invariant.taken c.in_ok-put_step_line.ensures.ok
+          (steps_next c.args.steps.now c.loop-step.step-index c.step-item.result
+          (slice_get_read c.args.steps.now (length c.args.steps.now) c.loop-step.step-index c.step-item.result refl
+          c.loop-step-test.true c.step-item.is));
       going = λ going. c.in_ok-put_step_line.ensures.going (c.loop-step.invariant.going going);
     }
 
@@ -26,7 +30,8 @@ pub returns : goal.returns
 returns g c =
     let taken = g.S.Sink.taken in
     record {
-      ok = subst (λ (steps : List Step). Writes (taken c.args.sink.now) (taken c.loop-step.sink) (steps_text steps)) (take_all c.loop-step.step-index c.args.steps.now c.loop-step-test.false) c.loop-step.invariant.taken;
+      ok = subst (λ (steps : List Step). Writes (taken c.args.sink.now) (taken c.loop-step.sink) (steps_text steps))
+          (take_all c.loop-step.step-index c.args.steps.now c.loop-step-test.false) c.loop-step.invariant.taken;
       going = c.loop-step.invariant.going;
       err = tt;
     }

@@ -11,5 +11,6 @@ returns-in_err-advance-clause-err g c =
 
 pub returns-then-branch-clause-err : goal.returns-then-branch-clause-err
 returns-then-branch-clause-err g c =
-    let at = at_line_of c.args.lines.now c.advance.new.self c.in_ok-advance.field-0 c.in_ok-advance.ensures c.if-branch.true in
+    let at = at_line_of c.args.lines.now c.advance.new.self c.in_ok-advance.field-0 c.in_ok-advance.ensures
+    c.if-branch.true in
     inr (λ r. rw (c.at_line.ensures, c.number.ensures) (ends_late c.args.lines.now c.advance.new.self r at))

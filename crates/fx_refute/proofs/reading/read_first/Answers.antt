@@ -24,7 +24,8 @@ returns-else-line-2-clause-err g c =
       | else-line-2-via-then-line-2+else-is_line-2 w ↦ search rules
       | else-line-2-via-else-line-2 w ↦ search rules
     ] in
-    inr (rw (c.at_line-else-line-2.ensures, c.line-line.ensures.number) (first_wrong c.args.lines.now new at not_one not_two))
+    inr (rw (c.at_line-else-line-2.ensures, c.line-line.ensures.number)
+    (first_wrong c.args.lines.now new at not_one not_two))
 
 pub returns-then-is_line-2-clause-ok : goal.returns-then-is_line-2-clause-ok
 returns-then-is_line-2-clause-ok g c = first_of (grind arith, search rules)

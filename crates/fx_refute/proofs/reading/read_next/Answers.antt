@@ -16,14 +16,16 @@ returns-then-not-line-clause-err g c =
     let new = c.advance.new.self in
     let at = at_line_of c.args.lines.now new c.in_ok-advance.field-0 c.in_ok-advance.ensures c.if-not-branch.false in
     let wrong : line_said c.args.version (new.line, new.ended) ≡ Err 501 = search rules in
-    inr (inr (rw (c.at_line-then-not-line.ensures, c.line-line.ensures.number) (says_nothing c.args.version c.args.lines.now new 501 at wrong)))
+    inr (inr (rw (c.at_line-then-not-line.ensures, c.line-line.ensures.number)
+    (says_nothing c.args.version c.args.lines.now new 501 at wrong)))
 
 pub returns-in-None-clause-err : goal.returns-in-None-clause-err
 returns-in-None-clause-err g c =
     let new = c.advance.new.self in
     let at = at_line_of c.args.lines.now new c.in_ok-advance.field-0 c.in_ok-advance.ensures c.if-not-branch.false in
     let wrong : line_said c.args.version (new.line, new.ended) ≡ Err 501 = search rules in
-    inr (inr (rw (c.at_line-in-None.ensures, c.line-line.ensures.number) (says_nothing c.args.version c.args.lines.now new 501 at wrong)))
+    inr (inr (rw (c.at_line-in-None.ensures, c.line-line.ensures.number)
+    (says_nothing c.args.version c.args.lines.now new 501 at wrong)))
 
 pub returns-then-not-branch-clause-err : goal.returns-then-not-branch-clause-err
 returns-then-not-branch-clause-err g c = first_of (grind arith, search rules)

@@ -10,7 +10,8 @@ abbrev pub invariant-lines : goal.invariant-lines
 invariant-lines g l = record {
   going : l.lines.stopped ≡ None;
   on : GoesOnToLines l.fn.lines l.lines;
-  leads : Leads l.fn.lines l.lines (steps_behind l.version l.fn.lines.number (only l.packet)) (steps_behind l.version l.lines.number (record { packet = l.packet; steps = l.steps.items }));
+  leads : Leads l.fn.lines l.lines (steps_behind l.version l.fn.lines.number (only l.packet))
+      (steps_behind l.version l.lines.number (record { packet = l.packet; steps = l.steps.items }));
   few : length l.steps.items ≤ step_limit;
 }
 

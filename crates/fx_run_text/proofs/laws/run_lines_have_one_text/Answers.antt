@@ -8,7 +8,8 @@ use Rattle.fx_elements.specs.Words.{Words, words}
 use Rattle.fx_run_text.proofs.RunTexts.{LineIs, line_found, line_join, line_said, plain_words, text_is, text_of_lines, text_of_words}
 use Rattle.fx_run_text.proofs.laws.run_lines_have_one_text.Goals as goal
 
-found : (version : TextVersion) (x : RunLine) (ws : Words) → LineIs version x ws → (ws ≡ line_words version x) × IsRunLine version x
+found : (version : TextVersion) (x : RunLine) (ws : Words) → LineIs version x ws → (ws ≡ line_words version x)
+    × IsRunLine version x
 found version (line.Packet p) ws h = (h.0, (h.1, h.2))
 found version (line.Step s) ws h = h
 found version line.End ws h = (h, tt)

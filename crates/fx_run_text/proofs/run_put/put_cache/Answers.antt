@@ -20,7 +20,14 @@ returns g c =
     let taken = g.S.Sink.taken in
     let failed = g.S.Sink.failed in
     record {
-      ok = writes_3 c.put_spaced-2.result (taken c.args.sink.now) (taken c.put_text.new.sink) (taken c.put_spaced.new.sink) (taken c.put_spaced-2.new.sink) (codes " cache") (spaced_words (decimal c.args.device ∷ [])) (spaced_words (decimal c.args.cache ∷ [])) _ c.in_ok-put_text.ensures.ok c.in_ok-put_spaced.ensures.ok c.put_spaced-2.ensures.ok (cache_put c.args.device c.args.cache);
-      going = going_then c.put_spaced-2.result (failed c.args.sink.now) (failed c.put_text.new.sink) (failed c.put_spaced-2.new.sink) c.in_ok-put_text.ensures.going (going_then c.put_spaced-2.result (failed c.put_text.new.sink) (failed c.put_spaced.new.sink) (failed c.put_spaced-2.new.sink) c.in_ok-put_spaced.ensures.going c.put_spaced-2.ensures.going);
+      ok = writes_3 c.put_spaced-2.result (taken c.args.sink.now) (taken c.put_text.new.sink)
+          (taken c.put_spaced.new.sink) (taken c.put_spaced-2.new.sink) (codes " cache")
+          (spaced_words (decimal c.args.device ∷ [])) (spaced_words (decimal c.args.cache ∷ [])) _
+          c.in_ok-put_text.ensures.ok c.in_ok-put_spaced.ensures.ok c.put_spaced-2.ensures.ok
+          (cache_put c.args.device c.args.cache);
+      going = going_then c.put_spaced-2.result (failed c.args.sink.now) (failed c.put_text.new.sink)
+          (failed c.put_spaced-2.new.sink) c.in_ok-put_text.ensures.going
+          (going_then c.put_spaced-2.result (failed c.put_text.new.sink) (failed c.put_spaced.new.sink)
+          (failed c.put_spaced-2.new.sink) c.in_ok-put_spaced.ensures.going c.put_spaced-2.ensures.going);
       err = c.put_spaced-2.ensures.err;
     }

@@ -13,7 +13,10 @@ pub loop-choice-preserved : goal.loop-choice-preserved
 loop-choice-preserved g c =
     let taken = g.S.Sink.taken in
     record {
-      taken = writes_both (taken c.args.sink.now) (taken c.loop-choice.sink) (taken c.put_choice.new.sink) _ _ _ c.loop-choice.invariant.taken c.in_ok-put_choice.ensures.ok (spaced_next choice_word c.args.choices.now c.loop-choice.choice-index _ (slice_get-get_or c.args.choices.now c.loop-choice.choice-index _ c.loop-choice-test.true));
+      taken = writes_both (taken c.args.sink.now) (taken c.loop-choice.sink) (taken c.put_choice.new.sink) _ _ _
+          c.loop-choice.invariant.taken c.in_ok-put_choice.ensures.ok
+          (spaced_next choice_word c.args.choices.now c.loop-choice.choice-index _
+          (slice_get-get_or c.args.choices.now c.loop-choice.choice-index _ c.loop-choice-test.true));
       going = λ going. c.in_ok-put_choice.ensures.going (c.loop-choice.invariant.going going);
     }
 
@@ -26,7 +29,10 @@ pub returns : goal.returns
 returns g c =
     let taken = g.S.Sink.taken in
     record {
-      ok = subst (λ (items : List (Option ℕ)). Writes (taken c.args.sink.now) (taken c.loop-choice.sink) (spaced_words (map choice_word items))) (take_all c.loop-choice.choice-index c.args.choices.now c.loop-choice-test.false) c.loop-choice.invariant.taken;
+      ok = subst (λ (items : List (Option ℕ)). Writes (taken c.args.sink.now) (taken c.loop-choice.sink)
+          (spaced_words (map choice_word items)))
+          (take_all c.loop-choice.choice-index c.args.choices.now c.loop-choice-test.false)
+          c.loop-choice.invariant.taken;
       going = c.loop-choice.invariant.going;
       err = tt;
     }

@@ -18,7 +18,8 @@ returns-in_err-put_spaced g c =
 
 pub returns-in_err-put_spaced-2 : goal.returns-in_err-put_spaced-2
 returns-in_err-put_spaced-2 g c =
-    let p = err_from_is_err_and c.from_residual-in_err-put_spaced-2.result c.from_residual-in_err-put_spaced-2.ensures.1 in
+    let p = err_from_is_err_and c.from_residual-in_err-put_spaced-2.result c.from_residual-in_err-put_spaced-2.ensures.1
+    in
     rw (p.1, p.2) (record { ok = tt; going = tt; err = c.in_err-put_spaced-2.ensures.err })
 
 pub returns : goal.returns
@@ -26,7 +27,17 @@ returns g c =
     let taken = g.S.Sink.taken in
     let failed = g.S.Sink.failed in
     record {
-      ok = writes_4 c.put_choices.result (taken c.args.sink.now) (taken c.put_text.new.sink) (taken c.put_spaced.new.sink) (taken c.put_spaced-2.new.sink) (taken c.put_choices.new.sink) (codes "cross") (spaced_words (decimal c.args.packet ∷ [])) (spaced_words (decimal c.args.crossing ∷ [])) (spaced_words (map choice_word c.args.choices.now)) _ c.in_ok-put_text.ensures.ok c.in_ok-put_spaced.ensures.ok c.in_ok-put_spaced-2.ensures.ok c.put_choices.ensures.ok (cross_put c.args.packet c.args.crossing c.args.choices.now);
-      going = going_then c.put_choices.result (failed c.args.sink.now) (failed c.put_text.new.sink) (failed c.put_choices.new.sink) c.in_ok-put_text.ensures.going (going_then c.put_choices.result (failed c.put_text.new.sink) (failed c.put_spaced.new.sink) (failed c.put_choices.new.sink) c.in_ok-put_spaced.ensures.going (going_then c.put_choices.result (failed c.put_spaced.new.sink) (failed c.put_spaced-2.new.sink) (failed c.put_choices.new.sink) c.in_ok-put_spaced-2.ensures.going c.put_choices.ensures.going));
+      ok = writes_4 c.put_choices.result (taken c.args.sink.now) (taken c.put_text.new.sink)
+          (taken c.put_spaced.new.sink) (taken c.put_spaced-2.new.sink) (taken c.put_choices.new.sink) (codes "cross")
+          (spaced_words (decimal c.args.packet ∷ [])) (spaced_words (decimal c.args.crossing ∷ []))
+          (spaced_words (map choice_word c.args.choices.now)) _ c.in_ok-put_text.ensures.ok
+          c.in_ok-put_spaced.ensures.ok c.in_ok-put_spaced-2.ensures.ok c.put_choices.ensures.ok
+          (cross_put c.args.packet c.args.crossing c.args.choices.now);
+      going = going_then c.put_choices.result (failed c.args.sink.now) (failed c.put_text.new.sink)
+          (failed c.put_choices.new.sink) c.in_ok-put_text.ensures.going
+          (going_then c.put_choices.result (failed c.put_text.new.sink) (failed c.put_spaced.new.sink)
+          (failed c.put_choices.new.sink) c.in_ok-put_spaced.ensures.going
+          (going_then c.put_choices.result (failed c.put_spaced.new.sink) (failed c.put_spaced-2.new.sink)
+          (failed c.put_choices.new.sink) c.in_ok-put_spaced-2.ensures.going c.put_choices.ensures.going));
       err = c.put_choices.ensures.err;
     }

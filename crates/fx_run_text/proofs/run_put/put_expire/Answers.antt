@@ -26,7 +26,17 @@ returns g c =
     let taken = g.S.Sink.taken in
     let failed = g.S.Sink.failed in
     record {
-      ok = writes_4 c.put_choices.result (taken c.args.sink.now) (taken c.put_text.new.sink) (taken c.put_holder.new.sink) (taken c.put_spaced.new.sink) (taken c.put_choices.new.sink) (codes "expire") (spaced_words (holder_words c.args.holder)) (spaced_words (decimal c.args.position ∷ [])) (spaced_words (map choice_word c.args.choices.now)) _ c.in_ok-put_text.ensures.ok c.in_ok-put_holder.ensures.ok c.in_ok-put_spaced.ensures.ok c.put_choices.ensures.ok (expire_put c.args.holder c.args.position c.args.choices.now);
-      going = going_then c.put_choices.result (failed c.args.sink.now) (failed c.put_text.new.sink) (failed c.put_choices.new.sink) c.in_ok-put_text.ensures.going (going_then c.put_choices.result (failed c.put_text.new.sink) (failed c.put_holder.new.sink) (failed c.put_choices.new.sink) c.in_ok-put_holder.ensures.going (going_then c.put_choices.result (failed c.put_holder.new.sink) (failed c.put_spaced.new.sink) (failed c.put_choices.new.sink) c.in_ok-put_spaced.ensures.going c.put_choices.ensures.going));
+      ok = writes_4 c.put_choices.result (taken c.args.sink.now) (taken c.put_text.new.sink)
+          (taken c.put_holder.new.sink) (taken c.put_spaced.new.sink) (taken c.put_choices.new.sink) (codes "expire")
+          (spaced_words (holder_words c.args.holder)) (spaced_words (decimal c.args.position ∷ []))
+          (spaced_words (map choice_word c.args.choices.now)) _ c.in_ok-put_text.ensures.ok
+          c.in_ok-put_holder.ensures.ok c.in_ok-put_spaced.ensures.ok c.put_choices.ensures.ok
+          (expire_put c.args.holder c.args.position c.args.choices.now);
+      going = going_then c.put_choices.result (failed c.args.sink.now) (failed c.put_text.new.sink)
+          (failed c.put_choices.new.sink) c.in_ok-put_text.ensures.going
+          (going_then c.put_choices.result (failed c.put_text.new.sink) (failed c.put_holder.new.sink)
+          (failed c.put_choices.new.sink) c.in_ok-put_holder.ensures.going
+          (going_then c.put_choices.result (failed c.put_holder.new.sink) (failed c.put_spaced.new.sink)
+          (failed c.put_choices.new.sink) c.in_ok-put_spaced.ensures.going c.put_choices.ensures.going));
       err = c.put_choices.ensures.err;
     }

@@ -17,7 +17,11 @@ returns g c =
     let axis = c.args.axis in
     let failed = g.S.Sink.failed in
     record {
-      ok = writes_2 c.put_value.result (taken c.args.sink.now) (taken c.put_text.new.sink) (taken c.put_value.new.sink) (codes " ") (leading_text axis c.width.result c.get.result) _ c.in_ok-put_text.ensures.ok c.put_value.ensures.ok (field_put axis (field c.args.fields.now axis) c.width.result c.get.result c.width.ensures.bits c.get.ensures);
-      going = going_then c.put_value.result (failed c.args.sink.now) (failed c.put_text.new.sink) (failed c.put_value.new.sink) c.in_ok-put_text.ensures.going c.put_value.ensures.going;
+      ok = writes_2 c.put_value.result (taken c.args.sink.now) (taken c.put_text.new.sink) (taken c.put_value.new.sink)
+          (codes " ") (leading_text axis c.width.result c.get.result) _ c.in_ok-put_text.ensures.ok
+          c.put_value.ensures.ok (field_put axis (field c.args.fields.now axis) c.width.result c.get.result
+          c.width.ensures.bits c.get.ensures);
+      going = going_then c.put_value.result (failed c.args.sink.now) (failed c.put_text.new.sink)
+          (failed c.put_value.new.sink) c.in_ok-put_text.ensures.going c.put_value.ensures.going;
       err = c.put_value.ensures.err;
     }

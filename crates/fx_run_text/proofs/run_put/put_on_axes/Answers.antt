@@ -16,7 +16,10 @@ loop-axis-preserved g c =
     let taken = g.S.Sink.taken in
     let word = λ (axis : Axis). value_text axis (field c.args.fields.now axis) in
     record {
-      taken = writes_both (taken c.args.sink.now) (taken c.loop-axis.sink) (taken c.put_field.new.sink) _ _ _ c.loop-axis.invariant.taken c.in_ok-put_field.ensures.ok (spaced_next word c.args.axes.now c.loop-axis.axis-index _ (slice_get-get_or c.args.axes.now c.loop-axis.axis-index _ c.loop-axis-test.true));
+      taken = writes_both (taken c.args.sink.now) (taken c.loop-axis.sink) (taken c.put_field.new.sink) _ _ _
+          c.loop-axis.invariant.taken c.in_ok-put_field.ensures.ok
+          (spaced_next word c.args.axes.now c.loop-axis.axis-index _
+          (slice_get-get_or c.args.axes.now c.loop-axis.axis-index _ c.loop-axis-test.true));
       going = λ going. c.in_ok-put_field.ensures.going (c.loop-axis.invariant.going going);
     }
 
@@ -30,7 +33,9 @@ returns g c =
     let taken = g.S.Sink.taken in
     let word = λ (axis : Axis). value_text axis (field c.args.fields.now axis) in
     record {
-      ok = subst (λ (items : List Axis). Writes (taken c.args.sink.now) (taken c.loop-axis.sink) (spaced_words (map word items))) (take_all c.loop-axis.axis-index c.args.axes.now c.loop-axis-test.false) c.loop-axis.invariant.taken;
+      ok = subst (λ (items : List Axis). Writes (taken c.args.sink.now) (taken c.loop-axis.sink)
+          (spaced_words (map word items))) (take_all c.loop-axis.axis-index c.args.axes.now c.loop-axis-test.false)
+          c.loop-axis.invariant.taken;
       going = c.loop-axis.invariant.going;
       err = tt;
     }

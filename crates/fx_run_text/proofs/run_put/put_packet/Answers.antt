@@ -19,12 +19,14 @@ returns-in_err-put_spaced g c =
 
 pub returns-in_err-put_spaced-2 : goal.returns-in_err-put_spaced-2
 returns-in_err-put_spaced-2 g c =
-    let p = err_from_is_err_and c.from_residual-in_err-put_spaced-2.result c.from_residual-in_err-put_spaced-2.ensures.1 in
+    let p = err_from_is_err_and c.from_residual-in_err-put_spaced-2.result c.from_residual-in_err-put_spaced-2.ensures.1
+    in
     rw (p.1, p.2) (record { ok = tt; going = tt; err = c.in_err-put_spaced-2.ensures.err })
 
 pub returns-in_err-put_on_axes : goal.returns-in_err-put_on_axes
 returns-in_err-put_on_axes g c =
-    let p = err_from_is_err_and c.from_residual-in_err-put_on_axes.result c.from_residual-in_err-put_on_axes.ensures.1 in
+    let p = err_from_is_err_and c.from_residual-in_err-put_on_axes.result c.from_residual-in_err-put_on_axes.ensures.1
+    in
     rw (p.1, p.2) (record { ok = tt; going = tt; err = c.in_err-put_on_axes.ensures.err })
 
 pub returns : goal.returns
@@ -33,7 +35,19 @@ returns g c =
     let p = c.args.packet.now in
     let failed = g.S.Sink.failed in
     record {
-      ok = writes_5 c.put_spaced-3.result (taken c.args.sink.now) (taken c.put_text.new.sink) (taken c.put_spaced.new.sink) (taken c.put_spaced-2.new.sink) (taken c.put_on_axes.new.sink) (taken c.put_spaced-3.new.sink) (codes "packet") (spaced_words (decimal p.class ∷ [])) (spaced_words (decimal p.path ∷ [])) (spaced_words (field_words Two p.fields)) (spaced_words (decimal p.octets ∷ [])) _ c.in_ok-put_text.ensures.ok c.in_ok-put_spaced.ensures.ok c.in_ok-put_spaced-2.ensures.ok c.in_ok-put_on_axes.ensures.ok c.put_spaced-3.ensures.ok (packet_put p);
-      going = going_then c.put_spaced-3.result (failed c.args.sink.now) (failed c.put_text.new.sink) (failed c.put_spaced-3.new.sink) c.in_ok-put_text.ensures.going (going_then c.put_spaced-3.result (failed c.put_text.new.sink) (failed c.put_spaced.new.sink) (failed c.put_spaced-3.new.sink) c.in_ok-put_spaced.ensures.going (going_then c.put_spaced-3.result (failed c.put_spaced.new.sink) (failed c.put_spaced-2.new.sink) (failed c.put_spaced-3.new.sink) c.in_ok-put_spaced-2.ensures.going (going_then c.put_spaced-3.result (failed c.put_spaced-2.new.sink) (failed c.put_on_axes.new.sink) (failed c.put_spaced-3.new.sink) c.in_ok-put_on_axes.ensures.going c.put_spaced-3.ensures.going)));
+      ok = writes_5 c.put_spaced-3.result (taken c.args.sink.now) (taken c.put_text.new.sink)
+          (taken c.put_spaced.new.sink) (taken c.put_spaced-2.new.sink) (taken c.put_on_axes.new.sink)
+          (taken c.put_spaced-3.new.sink) (codes "packet") (spaced_words (decimal p.class ∷ []))
+          (spaced_words (decimal p.path ∷ [])) (spaced_words (field_words Two p.fields))
+          (spaced_words (decimal p.octets ∷ [])) _ c.in_ok-put_text.ensures.ok c.in_ok-put_spaced.ensures.ok
+          c.in_ok-put_spaced-2.ensures.ok c.in_ok-put_on_axes.ensures.ok c.put_spaced-3.ensures.ok (packet_put p);
+      going = going_then c.put_spaced-3.result (failed c.args.sink.now) (failed c.put_text.new.sink)
+          (failed c.put_spaced-3.new.sink) c.in_ok-put_text.ensures.going
+          (going_then c.put_spaced-3.result (failed c.put_text.new.sink) (failed c.put_spaced.new.sink)
+          (failed c.put_spaced-3.new.sink) c.in_ok-put_spaced.ensures.going
+          (going_then c.put_spaced-3.result (failed c.put_spaced.new.sink) (failed c.put_spaced-2.new.sink)
+          (failed c.put_spaced-3.new.sink) c.in_ok-put_spaced-2.ensures.going
+          (going_then c.put_spaced-3.result (failed c.put_spaced-2.new.sink) (failed c.put_on_axes.new.sink)
+          (failed c.put_spaced-3.new.sink) c.in_ok-put_on_axes.ensures.going c.put_spaced-3.ensures.going)));
       err = c.put_spaced-3.ensures.err;
     }

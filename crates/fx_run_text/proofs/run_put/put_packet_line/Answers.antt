@@ -16,7 +16,10 @@ returns g c =
     let taken = g.S.Sink.taken in
     let failed = g.S.Sink.failed in
     record {
-      ok = writes_2 c.put_text.result (taken c.args.sink.now) (taken c.put_packet.new.sink) (taken c.put_text.new.sink) (run_line_text Two (line.Packet c.args.packet.now)) (10 ∷ []) _ c.in_ok-put_packet.ensures.ok c.put_text.ensures.ok refl;
-      going = going_then c.put_text.result (failed c.args.sink.now) (failed c.put_packet.new.sink) (failed c.put_text.new.sink) c.in_ok-put_packet.ensures.going c.put_text.ensures.going;
+      ok = writes_2 c.put_text.result (taken c.args.sink.now) (taken c.put_packet.new.sink) (taken c.put_text.new.sink)
+          (run_line_text Two (line.Packet c.args.packet.now)) (10 ∷ []) _ c.in_ok-put_packet.ensures.ok
+          c.put_text.ensures.ok refl;
+      going = going_then c.put_text.result (failed c.args.sink.now) (failed c.put_packet.new.sink)
+          (failed c.put_text.new.sink) c.in_ok-put_packet.ensures.going c.put_text.ensures.going;
       err = c.put_text.ensures.err;
     }

@@ -14,7 +14,10 @@ returns g c =
     let taken = g.S.Sink.taken in
     let failed = g.S.Sink.failed in
     record {
-      ok = writes_2 c.put_number.result (taken c.args.sink.now) (taken c.put_text.new.sink) (taken c.put_number.new.sink) _ _ _ c.in_ok-put_text.ensures.ok c.put_number.ensures.ok (ap (λ (x : List ℕ). 32 ∷ x) (append-nil (decimal c.args.number)));
-      going = going_then c.put_number.result (failed c.args.sink.now) (failed c.put_text.new.sink) (failed c.put_number.new.sink) c.in_ok-put_text.ensures.going c.put_number.ensures.going;
+      ok = writes_2 c.put_number.result (taken c.args.sink.now) (taken c.put_text.new.sink)
+          (taken c.put_number.new.sink) _ _ _ c.in_ok-put_text.ensures.ok c.put_number.ensures.ok
+          (ap (λ (x : List ℕ). 32 ∷ x) (append-nil (decimal c.args.number)));
+      going = going_then c.put_number.result (failed c.args.sink.now) (failed c.put_text.new.sink)
+          (failed c.put_number.new.sink) c.in_ok-put_text.ensures.going c.put_number.ensures.going;
       err = c.put_number.ensures.err;
     }

@@ -12,7 +12,9 @@ returns g c =
     let taken = g.S.Sink.taken in
     let failed = g.S.Sink.failed in
     record {
-      ok = writes_then c.put_text.result (taken c.args.sink.now) (taken c.put_step.new.sink) (taken c.put_text.new.sink) _ _ c.in_ok-put_step.ensures.ok c.put_text.ensures.ok;
-      going = going_then c.put_text.result (failed c.args.sink.now) (failed c.put_step.new.sink) (failed c.put_text.new.sink) c.in_ok-put_step.ensures.going c.put_text.ensures.going;
+      ok = writes_then c.put_text.result (taken c.args.sink.now) (taken c.put_step.new.sink) (taken c.put_text.new.sink)
+          _ _ c.in_ok-put_step.ensures.ok c.put_text.ensures.ok;
+      going = going_then c.put_text.result (failed c.args.sink.now) (failed c.put_step.new.sink)
+          (failed c.put_text.new.sink) c.in_ok-put_step.ensures.going c.put_text.ensures.going;
       err = c.put_text.ensures.err;
     }

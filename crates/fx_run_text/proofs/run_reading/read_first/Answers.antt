@@ -24,7 +24,8 @@ returns-else-line-2-clause-err g c =
       | else-line-2-via-then-line-2+else-is_word-2 w ↦ search rules
       | else-line-2-via-else-line-2 w ↦ search rules
     ] in
-    inr (λ classes. rw (c.at_line-else-line-2.ensures, c.line-line.ensures.number) (first_wrong c.args.lines.now new classes at not_one not_two))
+    inr (λ classes. rw (c.at_line-else-line-2.ensures, c.line-line.ensures.number)
+    (first_wrong c.args.lines.now new classes at not_one not_two))
 
 pub returns-then-not-branch : goal.returns-then-not-branch
 returns-then-not-branch g c =
@@ -34,7 +35,8 @@ returns-then-not-branch g c =
       going = tt;
       on = tt;
       ok = tt;
-      err = inr (λ classes. rw (c.at_line.ensures, c.saturating_add.ensures, c.number.ensures) (first_missing c.args.lines.now new classes end));
+      err = inr (λ classes. rw (c.at_line.ensures, c.saturating_add.ensures, c.number.ensures)
+          (first_missing c.args.lines.now new classes end));
     }
 
 pub returns-then-is_word : goal.returns-then-is_word
@@ -45,7 +47,9 @@ returns-then-is_word g c =
     record {
       going = at.going.1;
       on = to_line c.args.lines.now new at ended;
-      ok = first_one c.args.lines.now new at ended (ap (λ bytes. bytes_eq bytes (codes "once-run 1")) (sym c.line-line.ensures.bytes) ∙ sym c.is_word.ensures ∙ c.if-is_word.true);
+      ok = first_one c.args.lines.now new at ended
+          (ap (λ bytes. bytes_eq bytes (codes "once-run 1")) (sym c.line-line.ensures.bytes) ∙ sym c.is_word.ensures
+          ∙ c.if-is_word.true);
       err = tt;
     }
 
@@ -56,12 +60,15 @@ returns-then-is_word-2 g c =
     let ended = sym c.line-line.ensures.ended ∙ c.if-line-2.true in
     let line = c.line-line.ensures.bytes in
     let not_one : bytes_eq new.line (codes "once-run 1") ≡ false = elim c.else-line.branch [
-      | else-line-via-then-line+else-is_word w ↦ ap (λ bytes. bytes_eq bytes (codes "once-run 1")) (sym line) ∙ sym w.is_word.ensures ∙ w.if-is_word.false
+      | else-line-via-then-line+else-is_word w ↦ ap (λ bytes. bytes_eq bytes (codes "once-run 1")) (sym line)
+          ∙ sym w.is_word.ensures ∙ w.if-is_word.false
       | else-line-via-else-line w ↦ absurd (false≢true (sym w.if-line.false ∙ c.if-line-2.true))
     ] in
     record {
       going = at.going.1;
       on = to_line c.args.lines.now new at ended;
-      ok = first_two c.args.lines.now new at ended not_one (ap (λ bytes. bytes_eq bytes (codes "once-run 2")) (sym line) ∙ sym c.is_word-then-line-2.ensures ∙ c.if-is_word-2.true);
+      ok = first_two c.args.lines.now new at ended not_one
+          (ap (λ bytes. bytes_eq bytes (codes "once-run 2")) (sym line) ∙ sym c.is_word-then-line-2.ensures
+          ∙ c.if-is_word-2.true);
       err = tt;
     }

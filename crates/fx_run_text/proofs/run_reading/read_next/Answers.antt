@@ -26,20 +26,23 @@ returns-then-not-branch g c =
       on = tt;
       ok = tt;
       smaller = tt;
-      err = inr (inr (λ classes run. rw (c.at_line.ensures, c.saturating_add.ensures, c.number.ensures) (next_missing c.args.version c.args.lines.now new classes run end)));
+      err = inr (inr (λ classes run. rw (c.at_line.ensures, c.saturating_add.ensures, c.number.ensures)
+          (next_missing c.args.version c.args.lines.now new classes run end)));
     }
 
 pub returns-then-not-line : goal.returns-then-not-line
 returns-then-not-line g c =
     let new = c.advance.new.self in
     let at = at_line_of c.args.lines.now new c.in_ok-advance.field-0 c.in_ok-advance.ensures c.if-not-branch.false in
-    let wrong = said_unended c.args.version c.args.lines.now new at (sym c.line-line.ensures.ended ∙ c.if-not-line.true) in
+    let wrong = said_unended c.args.version c.args.lines.now new at (sym c.line-line.ensures.ended ∙ c.if-not-line.true)
+    in
     record {
       going = tt;
       on = tt;
       ok = tt;
       smaller = tt;
-      err = inr (inr (λ classes run. rw (c.at_line-then-not-line.ensures, c.line-line.ensures.number) (next_wrong c.args.version c.args.lines.now new 855 classes run at wrong)));
+      err = inr (inr (λ classes run. rw (c.at_line-then-not-line.ensures, c.line-line.ensures.number)
+          (next_wrong c.args.version c.args.lines.now new 855 classes run at wrong)));
     }
 
 pub returns-in_err-x : goal.returns-in_err-x
@@ -54,7 +57,9 @@ returns-in-Some g c =
     let at = at_line_of old new c.in_ok-advance.field-0 c.in_ok-advance.ensures c.if-not-branch.false in
     let ended = sym c.line-line.ensures.ended ∙ c.if-not-line.false in
     let x = line_with c.read_line.new.packet c.in-Some.x in
-    let read : line_of c.args.version (words new.line) ≡ Some x = ap (λ bytes. line_of c.args.version (words bytes)) (sym c.line-line.ensures.bytes) ∙ sym (rw c.in-Some.is at c.in_ok-x.ensures) in
+    let read : line_of c.args.version (words new.line) ≡ Some x =
+    ap (λ bytes. line_of c.args.version (words bytes)) (sym c.line-line.ensures.bytes)
+    ∙ sym (rw c.in-Some.is at c.in_ok-x.ensures) in
     record {
       going = at.going.1;
       on = to_line old new at ended;
@@ -68,12 +73,15 @@ returns-in-None g c =
     let new = c.advance.new.self in
     let at = at_line_of c.args.lines.now new c.in_ok-advance.field-0 c.in_ok-advance.ensures c.if-not-branch.false in
     let ended = sym c.line-line.ensures.ended ∙ c.if-not-line.false in
-    let read : line_of c.args.version (words new.line) ≡ None = ap (λ bytes. line_of c.args.version (words bytes)) (sym c.line-line.ensures.bytes) ∙ sym (rw c.in-None.is at c.in_ok-x.ensures) in
+    let read : line_of c.args.version (words new.line) ≡ None =
+    ap (λ bytes. line_of c.args.version (words bytes)) (sym c.line-line.ensures.bytes)
+    ∙ sym (rw c.in-None.is at c.in_ok-x.ensures) in
     let wrong = said_ended c.args.version c.args.lines.now new None at ended read in
     record {
       going = tt;
       on = tt;
       ok = tt;
       smaller = tt;
-      err = inr (inr (λ classes run. rw (c.at_line-in-None.ensures, c.line-line.ensures.number) (next_wrong c.args.version c.args.lines.now new 855 classes run at wrong)));
+      err = inr (inr (λ classes run. rw (c.at_line-in-None.ensures, c.line-line.ensures.number)
+          (next_wrong c.args.version c.args.lines.now new 855 classes run at wrong)));
     }

@@ -15,5 +15,8 @@ pub returns-clause-settles : goal.returns-clause-settles
 returns-clause-settles c net classes limit is_net g =
     let f = found net classes limit c.args.growth.items.items c.args.growth.lines g.few g.begun in
     let written = written_more c.args.growth.items.items (item.End ∷ []) g.written (end_writable, tt) in
-    let is = certifies net classes limit _ f written in
-    (c.certificates_count_once.ensures.once net classes _ is_net is, c.certificates_count_once.ensures.modulo net classes _ is_net is)
+    let is = certifies net classes limit _ f written in (
+      c.certificates_count_once.ensures.once net classes _ is_net is,
+      c.certificates_count_once.ensures.modulo net
+          classes _ is_net is,
+    )

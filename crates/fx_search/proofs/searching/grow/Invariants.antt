@@ -13,8 +13,10 @@ invariant-regions g l = record {
   ahead : AreAhead l.scratch.selections l.target l.growth.ahead.items;
   few : l.growth.lines ≤ l.most;
   growing : (targets : List Target) (version : Version) (later : List RegionAhead)
-      → IsGrowing l.tables.net targets version l.most l.fn.growth.items.items l.fn.growth.lines (front l.fn.growth.ahead.items ++ later)
-      → IsGrowing l.tables.net targets version l.most l.growth.items.items l.growth.lines (front l.growth.ahead.items ++ later);
+      → IsGrowing l.tables.net targets version l.most l.fn.growth.items.items l.fn.growth.lines
+      (front l.fn.growth.ahead.items ++ later)
+      → IsGrowing l.tables.net targets version l.most l.growth.items.items l.growth.lines
+      (front l.growth.ahead.items ++ later);
 }
 
 abbrev pub decreases-regions : goal.decreases-regions

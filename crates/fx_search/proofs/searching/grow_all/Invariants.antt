@@ -14,5 +14,6 @@ invariant-targets g l = record {
   few : l.growth.lines ≤ l.most;
   growing : (all : List Target) (version : Version)
       → IsGrowing l.tables.net all version l.most l.fn.growth.items.items l.fn.growth.lines (map root l.targets)
-      → IsGrowing l.tables.net all version l.most l.growth.items.items l.growth.lines (map root (drop l.place l.targets));
+      → IsGrowing l.tables.net all version l.most l.growth.items.items l.growth.lines
+      (map root (drop l.place l.targets));
 }

@@ -6,13 +6,15 @@ use Rattle.fx_session.proofs.data_set.take_flows.Goals as goal
 pub loop-rest-smaller : goal.loop-rest-smaller
 loop-rest-smaller c =
     let done = c.in_ok-rest.ensures.done in
-    (flow_set-more c.args.template.now.fields c.loop-rest.taken c.loop-rest.rest.now _ (omega arith) (omega arith) done).1
+    (flow_set-more c.args.template.now.fields c.loop-rest.taken c.loop-rest.rest.now _ (omega arith) (omega arith)
+    done).1
 
 pub loop-rest-preserved : goal.loop-rest-preserved
 loop-rest-preserved c =
     let done = c.in_ok-rest.ensures.done in
     record {
-      same = c.loop-rest.invariant.same ∙ (flow_set-more c.args.template.now.fields c.loop-rest.taken c.loop-rest.rest.now _ (omega arith) (omega arith) done).0;
+      same = c.loop-rest.invariant.same ∙ (flow_set-more c.args.template.now.fields c.loop-rest.taken
+          c.loop-rest.rest.now _ (omega arith) (omega arith) done).0;
       grows = grows_on _ _ _ c.loop-rest.invariant.grows c.take_flow.ensures.grows;
     }
 
@@ -21,7 +23,9 @@ returns-in_err-rest-clause-done c =
     let p = err_from_is_err_and c.from_residual.result c.from_residual.ensures.1 in
     rw (p.1, p.2) (λ ne.
     let done = c.in_err-rest.ensures.done ne in
-    c.loop-rest.invariant.same ∙ flow_set-refused c.args.template.now.fields c.loop-rest.taken c.loop-rest.rest.now _ (omega arith) (omega arith) done)
+    c.loop-rest.invariant.same ∙ flow_set-refused c.args.template.now.fields c.loop-rest.taken c.loop-rest.rest.now _
+    (omega arith) (omega arith) done)
 
 pub returns-clause-done : goal.returns-clause-done
-returns-clause-done c = c.loop-rest.invariant.same ∙ flow_set-padding c.args.template.now.fields c.loop-rest.taken c.loop-rest.rest.now (omega arith) (omega arith)
+returns-clause-done c = c.loop-rest.invariant.same
+    ∙ flow_set-padding c.args.template.now.fields c.loop-rest.taken c.loop-rest.rest.now (omega arith) (omega arith)

@@ -5,4 +5,5 @@ use Rattle.fx_session.proofs.field_numbers.read_record.Given as goal
 
 -- the values so far are noted, and with those that are left they are the record's
 abbrev pub invariant-loop-place : goal.invariant-loop-place
-invariant-loop-place l = (vs : List Value) × (Notes l.seen vs) × (record_at l.fields l.octets ≡ before_values vs (record_at (drop l.place l.fields) l.rest))
+invariant-loop-place l = (vs : List Value) × (Notes l.seen vs)
+    × (record_at l.fields l.octets ≡ before_values vs (record_at (drop l.place l.fields) l.rest))

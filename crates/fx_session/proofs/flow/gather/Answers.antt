@@ -10,7 +10,12 @@ use Rattle.fx_session.proofs.Keys.{reported_more}
 use Rattle.fx_session.proofs.flow.gather.Goals as goal
 
 pub loop-axis-init : goal.loop-axis-init
-loop-axis-init c = record { bits_count = omega arith; values_count = omega arith; reported = λ axis lt. absurd (omega (arith, lt)) }
+loop-axis-init c = record {
+  bits_count = omega arith;
+  values_count = omega arith;
+  reported =
+      λ axis lt. absurd (omega (arith, lt));
+}
 
 pub loop-axis-preserved : goal.loop-axis-preserved
 loop-axis-preserved c =
@@ -19,8 +24,10 @@ loop-axis-preserved c =
     let inv = c.loop-axis.invariant in record {
       bits_count = length-set c.loop-axis.bits c.index-place.result c.bits_of.result ∙ inv.bits_count;
       values_count = length-set c.loop-axis.numbers c.index-place.result c.value_of.result ∙ inv.values_count;
-      reported = reported_more (noted_part c.args.seen.now) c.loop-axis.bits c.loop-axis.numbers own c.in_ok-found.found c.bits_of.result c.value_of.result i c.index-place.result inv.bits_count inv.values_count
-          c.index-place.ensures.place (sym (index_at i (omega arith))) (sym c.in_ok-found.ensures.part) c.in_ok-found.ensures.stands c.bits_of.ensures c.value_of.ensures.value inv.reported;
+      reported = reported_more (noted_part c.args.seen.now) c.loop-axis.bits c.loop-axis.numbers own c.in_ok-found.found
+          c.bits_of.result c.value_of.result i c.index-place.result inv.bits_count inv.values_count
+          c.index-place.ensures.place (sym (index_at i (omega arith))) (sym c.in_ok-found.ensures.part)
+          c.in_ok-found.ensures.stands c.bits_of.ensures c.value_of.ensures.value inv.reported;
     }
 
 pub returns-in_err-found : goal.returns-in_err-found

@@ -12,8 +12,11 @@ pub loop-axis-preserved : goal.loop-axis-preserved
 loop-axis-preserved c =
     let i = c.loop-axis.axis-index in
     let axis = get_or axes i Source in (
-      c.add_part-layout.ensures.value ∙ ap (λ (l : Layout). l ++ part_by axis (get_or c.args.bits.now c.index.result 0)) c.loop-axis.invariant.0
-          ∙ ap (λ n. flat_map (λ axis. part_by axis (get_or c.args.bits.now (axis_index axis) 0)) (take i axes) ++ part_by axis (get_or c.args.bits.now n 0)) c.index.ensures.place
+      c.add_part-layout.ensures.value ∙ ap (λ (l : Layout). l ++ part_by axis (get_or c.args.bits.now c.index.result 0))
+          c.loop-axis.invariant.0
+          ∙ ap (λ n. flat_map (λ axis. part_by axis (get_or c.args.bits.now (axis_index axis) 0)) (take i axes)
+          ++ part_by axis (get_or c.args.bits.now n 0)) c.index.ensures.place
           ∙ sym (parts_more (λ axis. part_by axis (get_or c.args.bits.now (axis_index axis) 0)) i (omega arith)),
-      subst (AllBefore c.add_part-layout.result) (let at = index_at i (omega arith) in omega (arith, at)) c.add_part-layout.ensures.before,
+      subst (AllBefore c.add_part-layout.result) (let at = index_at i (omega arith) in omega (arith, at))
+          c.add_part-layout.ensures.before,
     )

@@ -6,4 +6,5 @@ use Rattle.fx_session.proofs.key.layout_of.Given as goal
 
 -- the parts of the axes so far
 abbrev pub invariant-loop-axis : goal.invariant-loop-axis
-invariant-loop-axis l = (l.layout ≡ flat_map (λ axis. part_by axis (get_or l.bits (axis_index axis) 0)) (take l.axis-index axes)) × AllBefore l.layout l.axis-index
+invariant-loop-axis l = (l.layout ≡ flat_map (λ axis. part_by axis (get_or l.bits (axis_index axis) 0))
+    (take l.axis-index axes)) × AllBefore l.layout l.axis-index

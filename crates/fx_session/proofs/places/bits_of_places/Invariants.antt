@@ -9,5 +9,6 @@ use Rattle.fx_session.proofs.places.bits_of_places.Given as goal
 abbrev pub invariant-loop-k : goal.invariant-loop-k
 invariant-loop-k l = record {
   count : length l.bits ≡ axis_count;
-  reported : (k : ℕ) → k < l.k → (octets : List ℕ) → get_or l.bits k 0 ≡ bits_of (found_at octets (get_or axes k Source) (get_or l.places k None));
+  reported : (k : ℕ) → k < l.k → (octets : List ℕ) → get_or l.bits k 0
+      ≡ bits_of (found_at octets (get_or axes k Source) (get_or l.places k None));
 }

@@ -13,7 +13,8 @@ loop-set-preserved g c = record {
 pub returns-in_err-take_set-clause-done : goal.returns-in_err-take_set-clause-done
 returns-in_err-take_set-clause-done g c =
     let p = err_from_is_err_and c.from_residual.result c.from_residual.ensures.1 in
-    rw (p.1, p.2) (λ ne. c.loop-set.invariant.same ∙ sets_read-refused _ _ _ _ _ c.in-Some.ensures.steps (c.in_err-take_set.ensures.done ne))
+    rw (p.1, p.2) (λ ne. c.loop-set.invariant.same
+    ∙ sets_read-refused _ _ _ _ _ c.in-Some.ensures.steps (c.in_err-take_set.ensures.done ne))
 
 pub returns-in_err-take_set-clause-grows : goal.returns-in_err-take_set-clause-grows
 returns-in_err-take_set-clause-grows g c = grows_on _ _ _ c.loop-set.invariant.grows c.take_set.ensures.grows

@@ -9,8 +9,10 @@ loop-field-preserved c =
     let fields = c.args.fields.now in
     let n = c.loop-field.field-index in
     c.in_ok-push.ensures.items ∙ ap (λ (es : List Element). es ++ c.element.result ∷ []) c.loop-field.invariant
-    ∙ ap (λ (e : Element). map element_of (take n fields) ++ e ∷ []) c.element.ensures ∙ sym (map_more element_of fields n _ c.loop-field-test.true)
+    ∙ ap (λ (e : Element). map element_of (take n fields) ++ e ∷ []) c.element.ensures
+    ∙ sym (map_more element_of fields n _ c.loop-field-test.true)
 
 pub returns : goal.returns
 returns c =
-    c.shrink_to_fit.ensures.items ∙ c.loop-field.invariant ∙ ap (map element_of) (take_all c.loop-field.field-index c.args.fields.now c.loop-field-test.false)
+    c.shrink_to_fit.ensures.items ∙ c.loop-field.invariant
+    ∙ ap (map element_of) (take_all c.loop-field.field-index c.args.fields.now c.loop-field-test.false)

@@ -11,6 +11,9 @@ returns-clause-noted c =
     let number = c.args.number in
     let mid = c.note_caches.new.names in
     let new = c.note_processes.new.names in
-    let caches = subst (λ (xs : List ℕ). (k : ℕ) → k < length xs → Note net mid (Cache number (suc k))) c.caches.ensures c.note_caches.ensures.noted in
-    let aggregations = subst (λ (xs : List ℕ). (p place a : ℕ) → slice_get xs p ≡ Some place → a < length (aggregations_of (slice_get net.processes place)) → Note net new (Aggregation number (suc p) (suc a))) c.processes.ensures c.note_processes.ensures.noted in
+    let caches = subst (λ (xs : List ℕ). (k : ℕ) → k < length xs → Note net mid (Cache number (suc k))) c.caches.ensures
+    c.note_caches.ensures.noted in
+    let aggregations = subst (λ (xs : List ℕ). (p place a : ℕ) → slice_get xs p ≡ Some place → a
+    < length (aggregations_of (slice_get net.processes place)) → Note net new (Aggregation number (suc p) (suc a)))
+    c.processes.ensures c.note_processes.ensures.noted in
     device_noted net number c.args.device.now mid new c.requires c.note_processes.ensures.kept caches aggregations

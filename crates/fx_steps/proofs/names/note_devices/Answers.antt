@@ -18,4 +18,11 @@ loop-number-preserved c =
 pub returns : goal.returns
 returns c =
     let i = c.loop-number.invariant in
-    all_named c.args.net.now c.loop-number.names i.0 (λ k name lt is. i.1 k name (omega (arith, lt, c.loop-number-test.false, c.loop-number.auto.number-end, ap length c.devices-devices.ensures)) is)
+    all_named c.args.net.now c.loop-number.names i.0
+    (λ k name lt is. i.1 k name (omega (
+      arith,
+      lt,
+      c.loop-number-test.false,
+      c.loop-number.auto.number-end,
+      ap length c.devices-devices.ensures,
+    )) is)

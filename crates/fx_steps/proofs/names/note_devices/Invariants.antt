@@ -5,4 +5,5 @@ use Rattle.fx_steps.proofs.names.note_devices.Given as goal
 
 abbrev pub invariant-loop-number : goal.invariant-loop-number
 invariant-loop-number l =
-    (length l.names ≡ length l.net.holders) × ((k : ℕ) (name : HolderName) → k < l.number → device_of name ≡ suc k → Note l.net l.names name)
+    (length l.names ≡ length l.net.holders)
+    × ((k : ℕ) (name : HolderName) → k < l.number → device_of name ≡ suc k → Note l.net l.names name)

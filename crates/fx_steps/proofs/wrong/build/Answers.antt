@@ -34,22 +34,34 @@ loop-number-preserved c =
     let e = c.in_ok-left.ensures in
     let crossing = c.index-path-number.result in
     let rest = rest_is (k + 1) xs in
-    let here : drop k xs ≡ crossing ∷ drop (k + 1) xs = drop_next k xs crossing c.loop-number-test.true ∙ ap (λ (x : Crossing). x ∷ drop (k + 1) xs) (sym c.index-path-number.is) in (
+    let here : drop k xs ≡ crossing ∷ drop (k + 1) xs = drop_next k xs crossing c.loop-number-test.true
+    ∙ ap (λ (x : Crossing). x ∷ drop (k + 1) xs) (sym c.index-path-number.is) in (
       e.nothing,
       e.waiting,
-      ap (λ (cs : List Crossing). length new.steps.items + cost_of (path_costs rows net n p.fields cs) c.in_ok-left.left) (sym rest)
+      ap (λ (cs : List Crossing). length new.steps.items
+          + cost_of (path_costs rows net n p.fields cs) c.in_ok-left.left) (sym rest)
           ∙ e.number
-          ∙ ap (λ (cs : List Crossing). length old.steps.items + cost_of (path_costs rows net n p.fields cs) c.loop-number.left) (ap (λ (cs : List Crossing). crossing ∷ cs) rest ∙ sym here)
+          ∙ ap (λ (cs : List Crossing). length old.steps.items
+          + cost_of (path_costs rows net n p.fields cs) c.loop-number.left)
+          (ap (λ (cs : List Crossing). crossing ∷ cs) rest ∙ sym here)
           ∙ inv.2,
       λ classes same.
           let way = inv.3 classes same in
           let coming = crossings_from 1 (suc (suc k)) (drop (k + 1) xs) in
           let at : entry_numbered (path classes p) (k + 1) ≡ Some crossing =
-          ap (λ (cs : List Crossing). entry_numbered cs (k + 1)) same ∙ ap (entry_numbered xs) (add-one k) ∙ slice_get-get_or xs k crossing c.loop-number-test.true ∙ ap (λ (x : Crossing). Some x) (sym c.index-path-number.is) in
+          ap (λ (cs : List Crossing). entry_numbered cs (k + 1)) same ∙ ap (entry_numbered xs) (add-one k)
+          ∙ slice_get-get_or xs k crossing c.loop-number-test.true
+          ∙ ap (λ (x : Crossing). Some x) (sym c.index-path-number.is) in
           let first : crossings_from 1 (suc k) (drop k xs) ≡ record { packet = 1; crossing = k + 1 } ∷ coming =
-          ap (crossings_from 1 (suc k)) here ∙ ap (λ m. record { packet = 1; crossing = m } ∷ coming) (sym (add-one k)) in
-          let made = e.way classes coming way.0 at (subst (λ (cs : List Coming). UnderWay net n classes p cs way.0 old.steps.items []) first way.2) in
-          (made.0, made.1 ∙ way.1, subst (λ m. UnderWay net n classes p (crossings_from 1 (suc m) (drop (k + 1) xs)) made.0 new.steps.items []) (sym (add-one k)) made.2),
+          ap (crossings_from 1 (suc k)) here ∙ ap (λ m. record { packet = 1; crossing = m } ∷ coming) (sym (add-one k))
+          in
+          let made = e.way classes coming way.0 at
+          (subst (λ (cs : List Coming). UnderWay net n classes p cs way.0 old.steps.items []) first way.2) in (
+            made.0,
+            made.1 ∙ way.1,
+            subst (λ m. UnderWay net n classes p (crossings_from 1 (suc m) (drop (k + 1) xs))
+                made.0 new.steps.items []) (sym (add-one k)) made.2,
+          ),
     )
 
 pub make_crossing-requires-clause-cheap : goal.make_crossing-requires-clause-cheap
@@ -62,11 +74,17 @@ make_crossing-requires-clause-cheap c =
     let left = c.loop-number.left in
     let crossing = c.index-path-number.result in
     let costs : List Crossing → Costs = path_costs rows tables.net tables.numbering c.args.costs.now.packet.fields in
-    let here : drop k xs ≡ crossing ∷ drop (k + 1) xs = drop_next k xs crossing c.loop-number-test.true ∙ ap (λ (x : Crossing). x ∷ drop (k + 1) xs) (sym c.index-path-number.is) in
-    subst (λ (cs : List Crossing). made + cost_of (costs cs) left ≤ step_limit) (here ∙ ap (λ (cs : List Crossing). crossing ∷ cs) (sym (rest_is (k + 1) xs))) (subst (λ m. m ≤ step_limit) (sym c.loop-number.invariant.2) c.requires.cheap)
+    let here : drop k xs ≡ crossing ∷ drop (k + 1) xs = drop_next k xs crossing c.loop-number-test.true
+    ∙ ap (λ (x : Crossing). x ∷ drop (k + 1) xs) (sym c.index-path-number.is) in
+    subst (λ (cs : List Crossing). made + cost_of (costs cs) left ≤ step_limit)
+    (here ∙ ap (λ (cs : List Crossing). crossing ∷ cs) (sym (rest_is (k + 1) xs)))
+    (subst (λ m. m ≤ step_limit) (sym c.loop-number.invariant.2) c.requires.cheap)
 
 -- where no crossing is left, what was to be met is met
-module _ (costs : List Crossing → Costs) (never : costs [] ≡ costs_of_never) (xs : List Crossing) (k made : ℕ) (left fate : Fate) (past : length xs ≤ k) (so_far : made + cost_of (costs (drop k xs)) left ≡ cost_of (costs xs) fate) (cheap : cost_of (costs xs) fate ≤ step_limit) where
+module _ (costs : List Crossing → Costs) (never : costs [] ≡ costs_of_never) (xs : List Crossing) (k made : ℕ)
+    (left fate : Fate) (past : length xs ≤ k)
+    (so_far : made + cost_of (costs (drop k xs)) left ≡ cost_of (costs xs) fate)
+    (cheap : cost_of (costs xs) fate ≤ step_limit) where
   end : drop k xs ≡ []
   end = drop_of_length-le xs past
 
@@ -82,7 +100,10 @@ module _ (costs : List Crossing → Costs) (never : costs [] ≡ costs_of_never)
 pub returns-clause-number : goal.returns-clause-number
 returns-clause-number c =
     let tables = c.args.costs.now.tables in
-    ap length c.into_steps.ensures ∙ number (path_costs c.args.costs.now.table tables.net tables.numbering c.args.costs.now.packet.fields) refl c.args.path.now c.loop-number.number (length c.loop-number.building.steps.items) c.loop-number.left c.args.fate c.loop-number-test.false c.loop-number.invariant.2 c.requires.cheap
+    ap length c.into_steps.ensures ∙ number
+    (path_costs c.args.costs.now.table tables.net tables.numbering c.args.costs.now.packet.fields) refl
+    c.args.path.now c.loop-number.number (length c.loop-number.building.steps.items) c.loop-number.left c.args.fate
+    c.loop-number-test.false c.loop-number.invariant.2 c.requires.cheap
 
 pub returns-clause-few : goal.returns-clause-few
 returns-clause-few c = subst (λ m. m ≤ step_limit) (sym (returns-clause-number c)) c.requires.cheap
@@ -96,7 +117,10 @@ returns-clause-way c classes same =
     let left = c.loop-number.left in
     let steps = c.loop-number.building.steps.items in
     let way = c.loop-number.invariant.3 classes same in
-    let none = nothing_left (path_costs c.args.costs.now.table net n p.fields) refl xs c.loop-number.number (length steps) left c.args.fate c.loop-number-test.false c.loop-number.invariant.2 c.requires.cheap in
+    let none = nothing_left (path_costs c.args.costs.now.table net n p.fields) refl xs c.loop-number.number
+    (length steps) left c.args.fate c.loop-number-test.false c.loop-number.invariant.2 c.requires.cheap in
     let fate : way.0 ≡ c.args.fate = sym (both_never way.0) ∙ ap (both way.0) (sym none.0) ∙ way.1 in
-    let made = subst (λ (cs : List Coming). UnderWay net n classes p cs way.0 steps []) (ap (crossings_from 1 (suc c.loop-number.number)) (drop_of_length-le xs c.loop-number-test.false)) way.2 in
-    subst (λ (ss : List Step). UnderWay net n classes p [] c.args.fate ss []) (sym c.into_steps.ensures) (subst (λ (f : Fate). UnderWay net n classes p [] f steps []) fate made)
+    let made = subst (λ (cs : List Coming). UnderWay net n classes p cs way.0 steps [])
+    (ap (crossings_from 1 (suc c.loop-number.number)) (drop_of_length-le xs c.loop-number-test.false)) way.2 in
+    subst (λ (ss : List Step). UnderWay net n classes p [] c.args.fate ss []) (sym c.into_steps.ensures)
+    (subst (λ (f : Fate). UnderWay net n classes p [] f steps []) fate made)

@@ -15,5 +15,9 @@ invariant-loop-number l =
     let n = l.costs.tables.numbering in
     (l.building.plan.pending.items ≡ [])
     × Wait net [] l.building.waiting
-    × (length l.building.steps.items + cost_of (path_costs l.costs.table net n l.costs.packet.fields (drop l.number l.path)) l.left ≡ cost_of (path_costs l.costs.table net n l.costs.packet.fields l.path) l.fn.fate)
-    × ((classes : List Class) → path classes l.costs.packet ≡ l.path → (f : Fate) × (both f l.left ≡ l.fn.fate) × UnderWay net n classes l.costs.packet (crossings_from 1 (suc l.number) (drop l.number l.path)) f l.building.steps.items [])
+    × (length l.building.steps.items + cost_of
+    (path_costs l.costs.table net n l.costs.packet.fields (drop l.number l.path)) l.left
+    ≡ cost_of (path_costs l.costs.table net n l.costs.packet.fields l.path) l.fn.fate)
+    × ((classes : List Class) → path classes l.costs.packet ≡ l.path → (f : Fate) × (both f l.left ≡ l.fn.fate)
+    × UnderWay net n classes l.costs.packet (crossings_from 1 (suc l.number) (drop l.number l.path)) f
+    l.building.steps.items [])

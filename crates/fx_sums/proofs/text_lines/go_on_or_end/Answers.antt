@@ -12,4 +12,5 @@ pub returns-then-not-line : goal.returns-then-not-line
 returns-then-not-line g c =
     let new = c.advance.new.self in
     let at = at_line_of c.args.lines.now new c.in_ok-advance.field-0 c.in_ok-advance.ensures c.if-not-branch.false in
-    inr (rw (c.at_line.ensures, c.line-line.ensures.number) (unended c.args.lines.now new at (sym c.line-line.ensures.ended ∙ c.if-not-line.true)))
+    inr (rw (c.at_line.ensures, c.line-line.ensures.number)
+    (unended c.args.lines.now new at (sym c.line-line.ensures.ended ∙ c.if-not-line.true)))

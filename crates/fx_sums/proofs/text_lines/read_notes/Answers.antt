@@ -9,8 +9,10 @@ returns-in-None-clause-err g c =
     let now = c.notes.lines in
     let new = c.go_on_or_end.new.lines in
     let line = goes_on_of now new c.in_ok-go_on_or_end.field-0 c.in_ok-go_on_or_end.ensures c.if-not-branch.false in
-    let none = ap (line_behind c.notes.notes) (sym c.line.ensures.bytes) ∙ sym c.read_line_behind.ensures ∙ c.in-None.is in
-    inr (rw (c.wrong_line.ensures) (notes_wrong c.args.lines.now now c.notes.notes c.notes.invariant.reads new line none))
+    let none = ap (line_behind c.notes.notes) (sym c.line.ensures.bytes) ∙ sym c.read_line_behind.ensures ∙ c.in-None.is
+    in
+    inr (rw (c.wrong_line.ensures) (notes_wrong c.args.lines.now now c.notes.notes c.notes.invariant.reads new line
+    none))
 
 pub notes-preserved : goal.notes-preserved
 notes-preserved g c = first_of (grind arith, search rules)

@@ -10,7 +10,8 @@ invariant-loop-left g l = record {
   on : GoesOnToLines l.fn.lines l.lines;
   smaller : line_budget l.lines ≤ line_budget l.fn.lines;
   same : l.totals.layout ≡ l.fn.totals.layout;
-  tallies : TalliesOn l.layout l.fn.count l.fn.totals l.fn.lines l.lines l.left (option_map (λ (k : Key). k.values) l.last) l.totals;
+  tallies : TalliesOn l.layout l.fn.count l.fn.totals l.fn.lines l.lines l.left
+      (option_map (λ (k : Key). k.values) l.last) l.totals;
 }
 
 abbrev pub decreases-loop-left : goal.decreases-loop-left

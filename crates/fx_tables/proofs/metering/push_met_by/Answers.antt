@@ -16,7 +16,10 @@ loop-place-preserved c =
     let f = c.args.fields.now in
     let ss = c.args.selections.now in
     let new = cond (selects s.region f) (occurrence p (k + 1) s.holder) [] in
-    c.in_ok-push_met.ensures ∙ ap (λ (xs : List Occurrence). xs ++ new) c.loop-place.invariant ∙ append_assoc front (met_by p 1 (take k ss) f) new ∙ ap (λ (xs : List Occurrence). front ++ xs) (sym (met_by_first p k ss f s c.loop-place-test.true c.index-selections-place.is))
+    c.in_ok-push_met.ensures ∙ ap (λ (xs : List Occurrence). xs ++ new) c.loop-place.invariant
+    ∙ append_assoc front (met_by p 1 (take k ss) f) new
+    ∙ ap (λ (xs : List Occurrence). front ++ xs)
+    (sym (met_by_first p k ss f s c.loop-place-test.true c.index-selections-place.is))
 
 pub loop-place-init : goal.loop-place-init
 loop-place-init c = sym (append-nil c.args.found.now.items)
@@ -29,4 +32,5 @@ returns-in_err-push_met c =
 pub returns : goal.returns
 returns c =
     let front = c.args.found.now.items in
-    c.loop-place.invariant ∙ ap (λ (ss : List Selection). front ++ met_by c.args.point 1 ss c.args.fields.now) (take_all c.loop-place.place c.args.selections.now c.loop-place-test.false)
+    c.loop-place.invariant ∙ ap (λ (ss : List Selection). front ++ met_by c.args.point 1 ss c.args.fields.now)
+    (take_all c.loop-place.place c.args.selections.now c.loop-place-test.false)

@@ -16,7 +16,10 @@ loop-place-preserved c =
     let f = c.args.fields.now in
     let x = c.args.crossing.now in
     let new = cond (watches p x) (met_by (k + 1) 1 p.selections f) [] in
-    c.in_ok-push_met_at.ensures ∙ ap (λ (xs : List Occurrence). xs ++ new) c.loop-place.invariant ∙ append_assoc front (met_at 1 (take k ps) x f) new ∙ ap (λ (xs : List Occurrence). front ++ xs) (sym (met_at_first k ps x f p c.loop-place-test.true c.index-points-place.is))
+    c.in_ok-push_met_at.ensures ∙ ap (λ (xs : List Occurrence). xs ++ new) c.loop-place.invariant
+    ∙ append_assoc front (met_at 1 (take k ps) x f) new
+    ∙ ap (λ (xs : List Occurrence). front ++ xs)
+    (sym (met_at_first k ps x f p c.loop-place-test.true c.index-points-place.is))
 
 pub loop-place-init : goal.loop-place-init
 loop-place-init c = sym (append-nil c.args.found.now.items)
@@ -29,4 +32,5 @@ returns-in_err-push_met_at c =
 pub returns : goal.returns
 returns c =
     let front = c.args.found.now.items in
-    c.loop-place.invariant ∙ ap (λ (ps : List Point). front ++ met_at 1 ps c.args.crossing.now c.args.fields.now) (take_all c.loop-place.place c.args.points.now c.loop-place-test.false)
+    c.loop-place.invariant ∙ ap (λ (ps : List Point). front ++ met_at 1 ps c.args.crossing.now c.args.fields.now)
+    (take_all c.loop-place.place c.args.points.now c.loop-place-test.false)

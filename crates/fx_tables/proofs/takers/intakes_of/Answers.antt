@@ -9,7 +9,10 @@ use Rattle.fx_tables.proofs.takers.intakes_of.Goals as goal
 pub loop-aggregation-preserved : goal.loop-aggregation-preserved
 loop-aggregation-preserved c =
     let a = c.aggregation-item.result in
-    c.in_ok-push_intake.ensures ∙ ap (λ (xs : List Holding). xs ++ intake_of c.args.holders.now c.args.key.now a) c.loop-aggregation.invariant ∙ sym (aggregated_more c.args.holders.now c.args.key.now c.loop-aggregation.aggregation-index c.args.aggregations.now a c.loop-aggregation-test.true c.aggregation-item.is)
+    c.in_ok-push_intake.ensures ∙ ap (λ (xs : List Holding). xs ++ intake_of c.args.holders.now c.args.key.now a)
+    c.loop-aggregation.invariant ∙ sym (aggregated_more c.args.holders.now c.args.key.now
+    c.loop-aggregation.aggregation-index c.args.aggregations.now a c.loop-aggregation-test.true
+    c.aggregation-item.is)
 
 pub returns-in_err-push_intake : goal.returns-in_err-push_intake
 returns-in_err-push_intake c =
@@ -17,4 +20,6 @@ returns-in_err-push_intake c =
     rw (p.1) tt
 
 pub returns : goal.returns
-returns c = c.loop-aggregation.invariant ∙ ap (intakes c.args.holders.now c.args.key.now) (take_all c.loop-aggregation.aggregation-index c.args.aggregations.now c.loop-aggregation-test.false)
+returns c = c.loop-aggregation.invariant
+    ∙ ap (intakes c.args.holders.now c.args.key.now)
+    (take_all c.loop-aggregation.aggregation-index c.args.aggregations.now c.loop-aggregation-test.false)

@@ -11,16 +11,19 @@ pub returns-then-not-matches_entry : goal.returns-then-not-matches_entry
 returns-then-not-matches_entry c =
     let key = c.args.key.now in
     let has : MatchEntry → Bool = λ e. reads key.layout e.axis e.bits && bits_on key e.axis e.bits == e.value in
-    sym (list_all_at has c.args.entries.now c.loop-entry.entry-index _ c.loop-entry-test.true (sym c.matches_entry.ensures ∙ c.if-not-matches_entry.true))
+    sym (list_all_at has c.args.entries.now c.loop-entry.entry-index _ c.loop-entry-test.true
+    (sym c.matches_entry.ensures ∙ c.if-not-matches_entry.true))
 
 pub loop-entry-preserved : goal.loop-entry-preserved
 loop-entry-preserved c =
     let key = c.args.key.now in
     let has : MatchEntry → Bool = λ e. reads key.layout e.axis e.bits && bits_on key e.axis e.bits == e.value in
-    list_all_more has c.args.entries.now c.loop-entry.entry-index _ c.loop-entry-test.true ∙ and_from _ _ c.loop-entry.invariant (sym c.matches_entry.ensures ∙ c.if-not-matches_entry.false)
+    list_all_more has c.args.entries.now c.loop-entry.entry-index _ c.loop-entry-test.true
+    ∙ and_from _ _ c.loop-entry.invariant (sym c.matches_entry.ensures ∙ c.if-not-matches_entry.false)
 
 pub returns : goal.returns
 returns c =
     let key = c.args.key.now in
     let has : MatchEntry → Bool = λ e. reads key.layout e.axis e.bits && bits_on key e.axis e.bits == e.value in
-    sym c.loop-entry.invariant ∙ ap (list_all has) (take_all c.loop-entry.entry-index c.args.entries.now c.loop-entry-test.false)
+    sym c.loop-entry.invariant ∙ ap (list_all has)
+    (take_all c.loop-entry.entry-index c.args.entries.now c.loop-entry-test.false)

@@ -5,4 +5,5 @@ pub narrow-active-requires : goal.narrow-active-requires
 narrow-active-requires g c = record { narrowed = c.begin-all.ensures.all c.sources-region.result }
 
 pub fate-requires-2-clause-begun : goal.fate-requires-2-clause-begun
-fate-requires-2-clause-begun g c = c.narrow-active.ensures.begun c.new-tables.result (c.into.result ∷ []) c.begin-all.ensures.begun
+fate-requires-2-clause-begun g c = c.narrow-active.ensures.begun c.new-tables.result (c.into.result ∷ [])
+    c.begin-all.ensures.begun

@@ -7,4 +7,5 @@ asked-requires-clause-tables g c = are_tables c.network-net.result c.to_two-firs
 pub asked-requires-clause-runnable : goal.asked-requires-clause-runnable
 asked-requires-clause-runnable g c =
     let e = c.network-net.ensures in
-    is_runnable c.network-net.result c.to_two-first.result c.args.parallel c.args.one c.args.other e.tables c.to_two-first.ensures e.meter e.devices c.requires.one c.requires.other
+    is_runnable c.network-net.result c.to_two-first.result c.args.parallel c.args.one c.args.other e.tables
+    c.to_two-first.ensures e.meter e.devices c.requires.one c.requires.other

@@ -15,7 +15,9 @@ use Rattle.fx_traffic.proofs.region.region_in.Goals as goal
 
 pub returns-in_err-values : goal.returns-in_err-values
 returns-in_err-values c =
-    exit _ _ _ _ c.from_residual.ensures (refuses_here _ _ _ _ (c.loop-axis.invariant.faults ∙ faults_here (pointer c.args.path.now) (view c.args.object.now) c.loop-axis.axis-index (omega arith)) c.in_err-values.ensures.answer)
+    exit _ _ _ _ c.from_residual.ensures (refuses_here _ _ _ _
+    (c.loop-axis.invariant.faults ∙ faults_here (pointer c.args.path.now) (view c.args.object.now)
+    c.loop-axis.axis-index (omega arith)) c.in_err-values.ensures.answer)
 
 pub loop-axis-preserved : goal.loop-axis-preserved
 loop-axis-preserved c =
@@ -28,21 +30,30 @@ loop-axis-preserved c =
     record {
       low_len = length-set c.loop-axis.low c.index.result c.in_ok-values.values.low ∙ inv.low_len;
       high_len = length-set c.loop-axis.high c.index-in-loop-axis.result c.in_ok-values.values.high ∙ inv.high_len;
-      faults = inv.faults ∙ faults_here up d i (omega arith) ∙ ap (λ (fs : List FoundFault). fs ++ row_faults (map row_on (drop (i + 1) axes)) up d) c.in_ok-values.ensures.answer.0;
-      lows = set_more (IsLowAt d) c.loop-axis.low i c.index.result c.in_ok-values.values.low 0 (omega (arith, inv.low_len)) (c.index.ensures.place ∙ at)
-          (ap (λ (r : Range). r.low) given, subst (IsOn (get_or axes i Source)) given c.in_ok-values.ensures.bound) inv.lows;
-      highs = set_more (IsHighAt d) c.loop-axis.high i c.index-in-loop-axis.result c.in_ok-values.values.high 0 (omega (arith, inv.high_len)) (c.index-in-loop-axis.ensures.place ∙ at) (ap (λ (r : Range). r.high) given) inv.highs;
+      faults = inv.faults ∙ faults_here up d i (omega arith)
+          ∙ ap (λ (fs : List FoundFault). fs ++ row_faults (map row_on (drop (i + 1) axes)) up d)
+          c.in_ok-values.ensures.answer.0;
+      lows = set_more (IsLowAt d) c.loop-axis.low i c.index.result c.in_ok-values.values.low 0
+          (omega (arith, inv.low_len)) (c.index.ensures.place ∙ at)
+          (ap (λ (r : Range). r.low) given, subst (IsOn (get_or axes i Source)) given c.in_ok-values.ensures.bound)
+          inv.lows;
+      highs = set_more (IsHighAt d) c.loop-axis.high i c.index-in-loop-axis.result c.in_ok-values.values.high 0
+          (omega (arith, inv.high_len)) (c.index-in-loop-axis.ensures.place ∙ at) (ap (λ (r : Range). r.high) given)
+          inv.highs;
     }
 
 pub region_between-requires : goal.region_between-requires
 region_between-requires c =
     let inv = c.loop-axis.invariant in
-    is_region (view c.args.object.now) c.loop-axis.low c.loop-axis.high (λ k. λ lt. inv.lows k (omega (arith, lt))) (λ k. λ lt. inv.highs k (omega (arith, lt)))
+    is_region (view c.args.object.now) c.loop-axis.low c.loop-axis.high (λ k. λ lt. inv.lows k (omega (arith, lt)))
+    (λ k. λ lt. inv.highs k (omega (arith, lt)))
 
 pub returns : goal.returns
 returns c =
     let inv = c.loop-axis.invariant in
     let d = view c.args.object.now in (
-      inv.faults ∙ ap (λ (xs : List Axis). row_faults (map row_on xs) (pointer c.args.path.now) d) (drop_all c.loop-axis.axis-index axes (omega arith)),
-      c.region_between.ensures ∙ region_is d c.loop-axis.low c.loop-axis.high inv.low_len inv.high_len (λ k. λ lt. inv.lows k (omega (arith, lt))) (λ k. λ lt. inv.highs k (omega (arith, lt))),
+      inv.faults ∙ ap (λ (xs : List Axis). row_faults (map row_on xs) (pointer c.args.path.now) d)
+          (drop_all c.loop-axis.axis-index axes (omega arith)),
+      c.region_between.ensures ∙ region_is d c.loop-axis.low c.loop-axis.high inv.low_len inv.high_len
+          (λ k. λ lt. inv.lows k (omega (arith, lt))) (λ k. λ lt. inv.highs k (omega (arith, lt))),
     )

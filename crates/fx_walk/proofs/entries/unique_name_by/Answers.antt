@@ -10,11 +10,15 @@ returns-in_err-name-clause-reads c = exit _ _ _ _ c.from_residual.ensures (refus
 
 pub returns-then-not-branch-clause-reads : goal.returns-then-not-branch-clause-reads
 returns-then-not-branch-clause-reads c =
-    read_twice c.args.wrong c.args.twice c.args.earlier.now (pointer c.args.path.now) (view c.args.value.now) c.in_ok-name.name c.in_ok-add.field-0 c.in_ok-name.ensures.0 c.in_ok-name.ensures.1 c.in_ok-add.ensures.answer c.refusal.result c.if-not-branch.true c.refusal.ensures
+    read_twice c.args.wrong c.args.twice c.args.earlier.now (pointer c.args.path.now) (view c.args.value.now)
+    c.in_ok-name.name c.in_ok-add.field-0 c.in_ok-name.ensures.0 c.in_ok-name.ensures.1 c.in_ok-add.ensures.answer
+    c.refusal.result c.if-not-branch.true c.refusal.ensures
 
 pub returns-clause-reads : goal.returns-clause-reads
 returns-clause-reads c =
-    read_once c.args.wrong c.args.twice c.args.earlier.now (pointer c.args.path.now) (view c.args.value.now) c.in_ok-name.name c.in_ok-add.field-0 c.in_ok-name.ensures.0 c.in_ok-name.ensures.1 c.in_ok-add.ensures.answer c.if-not-branch.false
+    read_once c.args.wrong c.args.twice c.args.earlier.now (pointer c.args.path.now) (view c.args.value.now)
+    c.in_ok-name.name c.in_ok-add.field-0 c.in_ok-name.ensures.0 c.in_ok-name.ensures.1 c.in_ok-add.ensures.answer
+    c.if-not-branch.false
 
 pub returns-then-not-branch-clause-same : goal.returns-then-not-branch-clause-same
 returns-then-not-branch-clause-same c = first_of (grind arith, search rules)

@@ -9,4 +9,5 @@ returns-in_err-items g c =
 
 pub returns : goal.returns
 returns g c =
-    rw (c.in_ok-items.ensures.0 (λ up ds. items_faults g.T.FromValue.faults up 0 ds) refl, c.in_ok-items.ensures.1) (rw pointer-Member at c.values_of.ensures)
+    rw (c.in_ok-items.ensures.0 (λ up ds. items_faults g.T.FromValue.faults up 0 ds) refl, c.in_ok-items.ensures.1)
+    (rw pointer-Member at c.values_of.ensures)

@@ -10,6 +10,7 @@ invariant-loop-item g l =
     let meaning = g.T.FromValue.meaning in
     record {
       place : l.place ≡ l.item-index;
-      faults : items_faults faults (pointer l.path) 0 (map view l.items) ≡ items_faults faults (pointer l.path) l.place (map view (drop l.place l.items));
+      faults : items_faults faults (pointer l.path) 0 (map view l.items)
+          ≡ items_faults faults (pointer l.path) l.place (map view (drop l.place l.items));
       values : l.values.items ++ map meaning (map view (drop l.place l.items)) ≡ map meaning (map view l.items);
     }

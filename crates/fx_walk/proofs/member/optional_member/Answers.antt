@@ -4,7 +4,8 @@ use Rattle.fx_walk.proofs.member.optional_member.Goals as goal
 
 pub returns-in_err-from_value-in-Some : goal.returns-in_err-from_value-in-Some
 returns-in_err-from_value-in-Some g c =
-    exit _ _ _ _ c.from_residual.ensures (rw (← c.in-Some.ensures) (rw pointer-Member at c.in_err-from_value-in-Some.ensures))
+    exit _ _ _ _ c.from_residual.ensures (rw (← c.in-Some.ensures)
+    (rw pointer-Member at c.in_err-from_value-in-Some.ensures))
 
 pub returns-in_ok-from_value-in-Some : goal.returns-in_ok-from_value-in-Some
 returns-in_ok-from_value-in-Some g c =

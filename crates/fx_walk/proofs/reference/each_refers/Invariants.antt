@@ -8,5 +8,6 @@ invariant-loop-item g l =
     let faults = g.T.Refers.faults l.known in
     record {
       place : l.place ≡ l.item-index;
-      faults : items_faults faults (pointer l.path) 0 l.items ≡ items_faults faults (pointer l.path) l.place (drop l.place l.items);
+      faults : items_faults faults (pointer l.path) 0 l.items
+          ≡ items_faults faults (pointer l.path) l.place (drop l.place l.items);
     }

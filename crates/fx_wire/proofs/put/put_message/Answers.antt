@@ -20,7 +20,15 @@ returns g c =
     let taken = g.S.Sink.taken in
     let failed = g.S.Sink.failed in
     record {
-      ok = writes_3 c.put_sets.result (taken c.args.sink.now) (taken c.put_version.new.sink) (taken c.put_origin.new.sink) (taken c.put_sets.new.sink) (version_octets c.in-Some.length) (origin_octets c.args.header.now) (sets_octets (map set_parts c.args.sets.now)) _ c.in_ok-put_version.ensures.ok c.in_ok-put_origin.ensures.ok c.put_sets.ensures.ok (ap (λ (n : ℕ). version_octets n ++ (origin_octets c.args.header.now ++ sets_octets (map set_parts c.args.sets.now))) (sym c.in-Some.ensures.some));
-      going = going_then c.put_sets.result (failed c.args.sink.now) (failed c.put_version.new.sink) (failed c.put_sets.new.sink) c.in_ok-put_version.ensures.going (going_then c.put_sets.result (failed c.put_version.new.sink) (failed c.put_origin.new.sink) (failed c.put_sets.new.sink) c.in_ok-put_origin.ensures.going c.put_sets.ensures.going);
+      ok = writes_3 c.put_sets.result (taken c.args.sink.now) (taken c.put_version.new.sink)
+          (taken c.put_origin.new.sink) (taken c.put_sets.new.sink) (version_octets c.in-Some.length)
+          (origin_octets c.args.header.now) (sets_octets (map set_parts c.args.sets.now)) _
+          c.in_ok-put_version.ensures.ok c.in_ok-put_origin.ensures.ok c.put_sets.ensures.ok
+          (ap (λ (n : ℕ). version_octets n ++ (origin_octets c.args.header.now
+          ++ sets_octets (map set_parts c.args.sets.now))) (sym c.in-Some.ensures.some));
+      going = going_then c.put_sets.result (failed c.args.sink.now) (failed c.put_version.new.sink)
+          (failed c.put_sets.new.sink) c.in_ok-put_version.ensures.going
+          (going_then c.put_sets.result (failed c.put_version.new.sink) (failed c.put_origin.new.sink)
+          (failed c.put_sets.new.sink) c.in_ok-put_origin.ensures.going c.put_sets.ensures.going);
       err = c.put_sets.ensures.err;
     }

@@ -20,7 +20,13 @@ returns g c =
     let taken = g.S.Sink.taken in
     let failed = g.S.Sink.failed in
     record {
-      ok = writes_3 c.put_text-3.result (taken c.args.sink.now) (taken c.put_text.new.sink) (taken c.put_text-2.new.sink) (taken c.put_text-3.new.sink) _ _ _ _ c.in_ok-put_text.ensures.ok c.in_ok-put_text-2.ensures.ok c.put_text-3.ensures.ok (rw (c.to_be_bytes.ensures, c.to_be_bytes-2.ensures) refl);
-      going = going_then c.put_text-3.result (failed c.args.sink.now) (failed c.put_text.new.sink) (failed c.put_text-3.new.sink) c.in_ok-put_text.ensures.going (going_then c.put_text-3.result (failed c.put_text.new.sink) (failed c.put_text-2.new.sink) (failed c.put_text-3.new.sink) c.in_ok-put_text-2.ensures.going c.put_text-3.ensures.going);
+      ok = writes_3 c.put_text-3.result (taken c.args.sink.now) (taken c.put_text.new.sink)
+          (taken c.put_text-2.new.sink) (taken c.put_text-3.new.sink) _ _ _ _ c.in_ok-put_text.ensures.ok
+          c.in_ok-put_text-2.ensures.ok c.put_text-3.ensures.ok
+          (rw (c.to_be_bytes.ensures, c.to_be_bytes-2.ensures) refl);
+      going = going_then c.put_text-3.result (failed c.args.sink.now) (failed c.put_text.new.sink)
+          (failed c.put_text-3.new.sink) c.in_ok-put_text.ensures.going
+          (going_then c.put_text-3.result (failed c.put_text.new.sink) (failed c.put_text-2.new.sink)
+          (failed c.put_text-3.new.sink) c.in_ok-put_text-2.ensures.going c.put_text-3.ensures.going);
       err = c.put_text-3.ensures.err;
     }

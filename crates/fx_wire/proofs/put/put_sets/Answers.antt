@@ -8,6 +8,7 @@ put_set-requires g c = grind (arith, set_length-among)
 
 pub loop-set-preserved : goal.loop-set-preserved
 loop-set-preserved g c = record {
-  taken = writes_both _ _ _ _ _ _ c.loop-set.invariant.taken c.in_ok-put_set.ensures.ok (sets_octets-more c.args.sets.now c.loop-set.set-index _ c.loop-set-test.true);
+  taken = writes_both _ _ _ _ _ _ c.loop-set.invariant.taken c.in_ok-put_set.ensures.ok
+      (sets_octets-more c.args.sets.now c.loop-set.set-index _ c.loop-set-test.true);
   going = λ e. c.in_ok-put_set.ensures.going (c.loop-set.invariant.going e);
 }

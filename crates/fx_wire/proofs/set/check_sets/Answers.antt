@@ -16,7 +16,10 @@ loop-rest-preserved c =
 pub returns-in_err-rest : goal.returns-in_err-rest
 returns-in_err-rest c =
     let p = err_from_is_err_and c.from_residual.result c.from_residual.ensures.1 in
-    rw (p.1, p.2) (c.loop-rest.invariant.err _ (sets_of-refused c.loop-rest.rest.now _ (some_octets _ _ c.is_empty.ensures c.loop-rest-test.true) c.in_err-rest.ensures))
+    rw (p.1, p.2) (c.loop-rest.invariant.err _
+    (sets_of-refused c.loop-rest.rest.now _ (some_octets _ _ c.is_empty.ensures c.loop-rest-test.true)
+    c.in_err-rest.ensures))
 
 pub returns : goal.returns
-returns c = c.loop-rest.invariant.ok ∙ ap (λ bs. is_ok (sets_of bs)) (no_octets _ _ c.is_empty.ensures c.loop-rest-test.false) ∙ ap is_ok sets_of-none
+returns c = c.loop-rest.invariant.ok ∙ ap (λ bs. is_ok (sets_of bs))
+    (no_octets _ _ c.is_empty.ensures c.loop-rest-test.false) ∙ ap is_ok sets_of-none

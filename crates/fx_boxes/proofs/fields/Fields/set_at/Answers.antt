@@ -6,8 +6,10 @@ use Rattle.fx_boxes.proofs.fields.Fields.set_at.Goals as goal
 
 pub returns-then-k-lt-NARROW : goal.returns-then-k-lt-NARROW
 returns-then-k-lt-NARROW c =
-    sym (set-append_left c.self.inside.narrow c.self.inside.wide c.args.k c.args.value (omega (arith, c.self.invariant.0))) ∙ ap (λ v. set v c.args.k c.args.value) c.self.view_is
+    sym (set-append_left c.self.inside.narrow c.self.inside.wide c.args.k c.args.value
+    (omega (arith, c.self.invariant.0))) ∙ ap (λ v. set v c.args.k c.args.value) c.self.view_is
 
 pub returns-else-k-lt-NARROW : goal.returns-else-k-lt-NARROW
 returns-else-k-lt-NARROW c =
-    sym (set-append_right c.self.inside.narrow c.self.inside.wide 7 c.args.k c.args.value c.self.invariant.0 c.if-k-lt-NARROW.false) ∙ ap (λ v. set v c.args.k c.args.value) c.self.view_is
+    sym (set-append_right c.self.inside.narrow c.self.inside.wide 7 c.args.k c.args.value c.self.invariant.0
+    c.if-k-lt-NARROW.false) ∙ ap (λ v. set v c.args.k c.args.value) c.self.view_is

@@ -6,7 +6,11 @@ use Rattle.fx_check.proofs.ReadyProgress.{narrowed_there}
 use Rattle.fx_check.proofs.progress.Progress.narrow.Goals as goal
 
 pub narrow-requires : goal.narrow-requires
-narrow-requires c = record { narrowed = narrowed_there c.args.self.now.stage c.args.self.now.waiting c.args.scratch.now.selections c.in-Tree.here c.in-Tree.is c.requires.narrowed }
+narrow-requires c = record {
+  narrowed =
+      narrowed_there c.args.self.now.stage c.args.self.now.waiting c.args.scratch.now.selections c.in-Tree.here
+      c.in-Tree.is c.requires.narrowed;
+}
 
 pub returns-then-here-le1 : goal.returns-then-here-le1
 returns-then-here-le1 c = λ w is.
@@ -14,7 +18,8 @@ returns-then-here-le1 c = λ w is.
     let same : c.in-Tree.here ≡ w = cc in
     let scratch = c.args.scratch.now in
     subst (λ (v : WaitingRegion). IsNarrowedTo scratch scratch v c.in-Tree.here.active) same (record {
-      narrowed = narrowed_there c.args.self.now.stage c.args.self.now.waiting scratch.selections c.in-Tree.here c.in-Tree.is c.requires.narrowed;
+      narrowed = narrowed_there c.args.self.now.stage c.args.self.now.waiting scratch.selections c.in-Tree.here
+          c.in-Tree.is c.requires.narrowed;
       fewer = omega arith;
       others = λ b m le h. h;
       begun = λ t path h. h;

@@ -14,7 +14,11 @@ loop-values-preserved g c =
     let left : c.loop-values.values-iterator ≡ entry ∷ c.next.new.self = c.in-Some.ensures.steps in
     record {
       whole = λ after h.
-          c.loop-values.invariant.whole after (subst (λ (es : List (List ℕ × Counts)). Writes (g.S.Sink.taken c.loop-values.sink) after (record_lines (records_of layout es))) (sym left) (writes_both _ _ _ _ _ _ c.in_ok-put_line.ensures.ok h refl));
-      bits = behind_has_bits layout entry c.next.new.self (subst (λ (es : List (List ℕ × Counts)). AllHaveBits layout es) left c.loop-values.invariant.bits);
+          c.loop-values.invariant.whole after (subst
+          (λ (es : List (List ℕ × Counts)). Writes (g.S.Sink.taken c.loop-values.sink) after
+          (record_lines (records_of layout es))) (sym left)
+          (writes_both _ _ _ _ _ _ c.in_ok-put_line.ensures.ok h refl));
+      bits = behind_has_bits layout entry c.next.new.self
+          (subst (λ (es : List (List ℕ × Counts)). AllHaveBits layout es) left c.loop-values.invariant.bits);
       going = λ h. c.in_ok-put_line.ensures.going (c.loop-values.invariant.going h);
     }

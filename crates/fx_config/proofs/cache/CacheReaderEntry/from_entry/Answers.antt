@@ -12,12 +12,23 @@ returns-in_err-name-clause-reads c =
 
 pub returns-in_err-given-clause-reads : goal.returns-in_err-given-clause-reads
 returns-in_err-given-clause-reads c =
-    exit _ _ _ _ c.from_residual-in_err-given.ensures (from_rows _ _ _ (c.in_ok-name.ensures.reads.0 (drop 1 (cache_rows c.args.earlier.now)) refl ∙ rows_before kind_rows (drop 6 (cache_rows c.args.earlier.now)) (pointer c.args.path.now) (view c.args.value.now)) (refuses_more _ _ _ c.in_err-given.ensures))
+    exit _ _ _ _ c.from_residual-in_err-given.ensures
+    (from_rows _ _ _ (c.in_ok-name.ensures.reads.0 (drop 1 (cache_rows c.args.earlier.now)) refl
+    ∙ rows_before kind_rows (drop 6 (cache_rows c.args.earlier.now)) (pointer c.args.path.now)
+    (view c.args.value.now)) (refuses_more _ _ _ c.in_err-given.ensures))
 
 pub returns-in_err-processes-clause-reads : goal.returns-in_err-processes-clause-reads
 returns-in_err-processes-clause-reads c =
-    exit _ _ _ _ c.from_residual-in_err-processes.ensures (from_rows _ _ _ (c.in_ok-name.ensures.reads.0 (drop 1 (cache_rows c.args.earlier.now)) refl ∙ rows_before kind_rows (drop 6 (cache_rows c.args.earlier.now)) (pointer c.args.path.now) (view c.args.value.now)) (skip _ _ _ c.in_ok-given.ensures.0 (refuses_more _ _ _ c.in_err-processes.ensures)))
+    exit _ _ _ _ c.from_residual-in_err-processes.ensures
+    (from_rows _ _ _ (c.in_ok-name.ensures.reads.0 (drop 1 (cache_rows c.args.earlier.now)) refl
+    ∙ rows_before kind_rows (drop 6 (cache_rows c.args.earlier.now)) (pointer c.args.path.now)
+    (view c.args.value.now)) (skip _ _ _ c.in_ok-given.ensures.0 (refuses_more _ _ _ c.in_err-processes.ensures)))
 
 pub returns-clause-reads : goal.returns-clause-reads
-returns-clause-reads c =
-    (no_rows _ _ (c.in_ok-name.ensures.reads.0 (drop 1 (cache_rows c.args.earlier.now)) refl ∙ rows_before kind_rows (drop 6 (cache_rows c.args.earlier.now)) (pointer c.args.path.now) (view c.args.value.now)) (none_more _ _ c.in_ok-given.ensures.0 (none_more _ _ c.in_ok-processes.ensures.0 refl)), rw (c.in_ok-name.ensures.reads.1, c.in_ok-given.ensures.1, c.in_ok-processes.ensures.1) refl)
+returns-clause-reads c = (
+  no_rows _ _ (c.in_ok-name.ensures.reads.0 (drop 1 (cache_rows c.args.earlier.now)) refl
+      ∙ rows_before kind_rows (drop 6 (cache_rows c.args.earlier.now)) (pointer c.args.path.now)
+      (view c.args.value.now)) (none_more _ _ c.in_ok-given.ensures.0
+      (none_more _ _ c.in_ok-processes.ensures.0 refl)),
+  rw (c.in_ok-name.ensures.reads.1, c.in_ok-given.ensures.1, c.in_ok-processes.ensures.1) refl,
+)

@@ -12,9 +12,12 @@ returns-in_err-document_of c =
 pub returns-in_err-ipfix : goal.returns-in_err-ipfix
 unfolding device_faults device_of
 returns-in_err-ipfix c =
-    exit _ _ _ _ c.from_residual-in_err-ipfix.ensures (from_rows _ _ _ (c.in_ok-document_of.ensures (device_rows) refl) (refuses_more _ _ _ c.in_err-ipfix.ensures))
+    exit _ _ _ _ c.from_residual-in_err-ipfix.ensures
+    (from_rows _ _ _ (c.in_ok-document_of.ensures (device_rows) refl) (refuses_more _ _ _ c.in_err-ipfix.ensures))
 
 pub returns : goal.returns
 unfolding device_faults device_of
-returns c =
-    (no_rows _ _ (c.in_ok-document_of.ensures (device_rows) refl) (none_more _ _ c.in_ok-ipfix.ensures.0 refl), rw (c.in_ok-ipfix.ensures.1) refl)
+returns c = (
+  no_rows _ _ (c.in_ok-document_of.ensures (device_rows) refl) (none_more _ _ c.in_ok-ipfix.ensures.0 refl),
+  rw (c.in_ok-ipfix.ensures.1) refl,
+)

@@ -10,8 +10,12 @@ returns-in_err-object_of c =
 
 pub returns-in_err-device : goal.returns-in_err-device
 returns-in_err-device c =
-    exit _ _ _ _ c.from_residual-in_err-device.ensures (from_rows _ _ _ (c.in_ok-object_of.ensures ipfix_rows refl) c.in_err-device.ensures)
+    exit _ _ _ _ c.from_residual-in_err-device.ensures
+    (from_rows _ _ _ (c.in_ok-object_of.ensures ipfix_rows refl) c.in_err-device.ensures)
 
 pub returns : goal.returns
-returns c =
-    (no_rows _ _ (c.in_ok-object_of.ensures ipfix_rows refl) c.in_ok-device.ensures.0, rw (c.in_ok-device.ensures.1) refl)
+returns c = (
+  no_rows _ _ (c.in_ok-object_of.ensures ipfix_rows refl) c.in_ok-device.ensures.0,
+  rw (c.in_ok-device.ensures.1)
+      refl,
+)

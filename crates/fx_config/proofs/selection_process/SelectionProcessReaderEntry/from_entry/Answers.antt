@@ -6,16 +6,24 @@ use Rattle.fx_config.proofs.selection_process.SelectionProcessReaderEntry.from_e
 
 pub returns-in_err-name-clause-reads : goal.returns-in_err-name-clause-reads
 returns-in_err-name-clause-reads c =
-    exit _ _ _ _ c.from_residual.ensures (c.in_err-name.ensures.reads (drop 1 (selection_process_rows c.args.earlier.now)) refl)
+    exit _ _ _ _ c.from_residual.ensures (c.in_err-name.ensures.reads
+    (drop 1 (selection_process_rows c.args.earlier.now)) refl)
 
 pub returns-in_err-selectors-clause-reads : goal.returns-in_err-selectors-clause-reads
 returns-in_err-selectors-clause-reads c =
-    exit _ _ _ _ c.from_residual-in_err-selectors.ensures (from_rows _ _ _ (c.in_ok-name.ensures.reads.0 (drop 1 (selection_process_rows c.args.earlier.now)) refl) (refuses_more _ _ _ c.in_err-selectors.ensures))
+    exit _ _ _ _ c.from_residual-in_err-selectors.ensures
+    (from_rows _ _ _ (c.in_ok-name.ensures.reads.0 (drop 1 (selection_process_rows c.args.earlier.now)) refl)
+    (refuses_more _ _ _ c.in_err-selectors.ensures))
 
 pub returns-in_err-cache-clause-reads : goal.returns-in_err-cache-clause-reads
 returns-in_err-cache-clause-reads c =
-    exit _ _ _ _ c.from_residual-in_err-cache.ensures (from_rows _ _ _ (c.in_ok-name.ensures.reads.0 (drop 1 (selection_process_rows c.args.earlier.now)) refl) (skip _ _ _ c.in_ok-selectors.ensures.0 (refuses_more _ _ _ c.in_err-cache.ensures)))
+    exit _ _ _ _ c.from_residual-in_err-cache.ensures
+    (from_rows _ _ _ (c.in_ok-name.ensures.reads.0 (drop 1 (selection_process_rows c.args.earlier.now)) refl)
+    (skip _ _ _ c.in_ok-selectors.ensures.0 (refuses_more _ _ _ c.in_err-cache.ensures)))
 
 pub returns-clause-reads : goal.returns-clause-reads
-returns-clause-reads c =
-    (no_rows _ _ (c.in_ok-name.ensures.reads.0 (drop 1 (selection_process_rows c.args.earlier.now)) refl) (none_more _ _ c.in_ok-selectors.ensures.0 (none_more _ _ c.in_ok-cache.ensures.0 refl)), rw (c.in_ok-name.ensures.reads.1, c.in_ok-selectors.ensures.1, c.in_ok-cache.ensures.1) refl)
+returns-clause-reads c = (
+  no_rows _ _ (c.in_ok-name.ensures.reads.0 (drop 1 (selection_process_rows c.args.earlier.now)) refl)
+      (none_more _ _ c.in_ok-selectors.ensures.0 (none_more _ _ c.in_ok-cache.ensures.0 refl)),
+  rw (c.in_ok-name.ensures.reads.1, c.in_ok-selectors.ensures.1, c.in_ok-cache.ensures.1) refl,
+)

@@ -9,8 +9,11 @@ returns-in_err-name-clause-reads c = exit _ _ _ _ c.from_residual.ensures (c.in_
 
 pub returns-in_err-method-clause-reads : goal.returns-in_err-method-clause-reads
 returns-in_err-method-clause-reads c =
-    exit _ _ _ _ c.from_residual-in_err-method.ensures (from_rows _ _ _ (c.in_ok-name.ensures.reads.0 method_rows refl) c.in_err-method.ensures)
+    exit _ _ _ _ c.from_residual-in_err-method.ensures
+    (from_rows _ _ _ (c.in_ok-name.ensures.reads.0 method_rows refl) c.in_err-method.ensures)
 
 pub returns-clause-reads : goal.returns-clause-reads
-returns-clause-reads c =
-    (no_rows _ _ (c.in_ok-name.ensures.reads.0 method_rows refl) c.in_ok-method.ensures.0, rw (c.in_ok-name.ensures.reads.1, c.in_ok-method.ensures.1) refl)
+returns-clause-reads c = (
+  no_rows _ _ (c.in_ok-name.ensures.reads.0 method_rows refl) c.in_ok-method.ensures.0,
+  rw (c.in_ok-name.ensures.reads.1, c.in_ok-method.ensures.1) refl,
+)

@@ -8,18 +8,28 @@ use Rattle.fx_layout.proofs.PartByPart.{one_more}
 use Rattle.fx_layout.proofs.key.Key.project.Goals as goal
 
 pub push-requires : goal.push-requires
-push-requires c = (omega arith, so_many _ _ _ _ c.loop-part.invariant c.loop-part-test.true c.parts-part-items.ensures.kept.ascends)
+push-requires c = (
+  omega arith,
+  so_many _ _ _ _ c.loop-part.invariant c.loop-part-test.true
+      c.parts-part-items.ensures.kept.ascends,
+)
 
 pub invariant_of-result : goal.invariant_of-result
 invariant_of-result c =
     let parts = c.parts-part-items in
-    let stands : list_all can_stand c.args.layout.now ≡ true = subst (λ (l : Layout). list_all can_stand l ≡ true) parts.ensures.value parts.ensures.kept.stands in
-    let own : HasBits c.args.self.now.layout c.args.self.now.values = subst (λ (k : Key). HasBits k.layout k.values) c.self.view_is c.self.invariant in
+    let stands : list_all can_stand c.args.layout.now ≡ true =
+    subst (λ (l : Layout). list_all can_stand l ≡ true) parts.ensures.value parts.ensures.kept.stands in
+    let own : HasBits c.args.self.now.layout c.args.self.now.values =
+    subst (λ (k : Key). HasBits k.layout k.values) c.self.view_is c.self.invariant in
     let g : Part → ℕ = λ part. bits_on c.args.self.now part.axis part.bits in
-    let all : c.loop-part.values.items ≡ map g c.args.layout.now = all_of g _ _ _ c.loop-part.invariant c.loop-part-test.false ∙ ap (map g) parts.ensures.value in
-    subst (λ (vs : List ℕ). HasBits c.copy.result vs) (sym all) (subst (λ (l : Layout). HasBits l (map g c.args.layout.now)) (sym c.copy.ensures) (cut_has_bits _ _ c.args.layout.now own stands))
+    let all : c.loop-part.values.items ≡ map g c.args.layout.now =
+    all_of g _ _ _ c.loop-part.invariant c.loop-part-test.false ∙ ap (map g) parts.ensures.value in
+    subst (λ (vs : List ℕ). HasBits c.copy.result vs) (sym all)
+    (subst (λ (l : Layout). HasBits l (map g c.args.layout.now)) (sym c.copy.ensures)
+    (cut_has_bits _ _ c.args.layout.now own stands))
 
 pub loop-part-preserved : goal.loop-part-preserved
 loop-part-preserved c =
     let g : Part → ℕ = λ part. bits_on c.args.self.now part.axis part.bits in
-    one_more g c.loop-part.part-index c.parts-part-items.result.now _ c.loop-part.values.items _ c.bits_on.result c.loop-part-test.true c.loop-part.invariant c.bits_on.ensures c.push.ensures.items
+    one_more g c.loop-part.part-index c.parts-part-items.result.now _ c.loop-part.values.items _ c.bits_on.result
+    c.loop-part-test.true c.loop-part.invariant c.bits_on.ensures c.push.ensures.items

@@ -11,7 +11,8 @@ returns c =
     let old = c.args.self.now in
     let i : ℕ = c.args.i in
     let below : ℕ = after_word old.second old.state (word (le_bytes 16 i) 0) in
-    let low : c.folded_product-low.result ≡ below = c.folded_product-low.ensures ∙ ap (after_word old.second old.state) (and_mask i 64 ∙ sym (low_word i)) in
+    let low : c.folded_product-low.result ≡ below = c.folded_product-low.ensures
+    ∙ ap (after_word old.second old.state) (and_mask i 64 ∙ sym (low_word i)) in
     ap (hasher_at old.second)
     (c.folded_product-self.ensures
     ∙ ap (λ (state : ℕ). after_word old.second state (i / 2 ^ 64)) low

@@ -8,4 +8,5 @@ pub returns : goal.returns
 unfolding le_bytes after_words
 returns c =
     let old = c.args.self.now in
-    ap (hasher_at old.second) (c.folded_product-self.ensures ∙ ap (after_word old.second old.state) (sym (own_word c.args.i c.ranges.i.fits)))
+    ap (hasher_at old.second) (c.folded_product-self.ensures
+    ∙ ap (after_word old.second old.state) (sym (own_word c.args.i c.ranges.i.fits)))

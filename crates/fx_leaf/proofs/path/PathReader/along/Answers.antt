@@ -8,7 +8,9 @@ pub loop-place-preserved : goal.loop-place-preserved
 loop-place-preserved c =
     let net = c.args.self.now.verdicts.tables.now.net in
     let region = c.args.self.now.verdicts.region.now in
-    adds_crossing (verdict net region) net region c.loop-place.place c.args.path.now c.index-path-place.result c.args.known c.loop-place.known c.in_ok-known.known c.loop-place-test.true c.index-path-place.is c.loop-place.invariant c.in_ok-known.ensures.ok
+    adds_crossing (verdict net region) net region c.loop-place.place c.args.path.now c.index-path-place.result
+    c.args.known c.loop-place.known c.in_ok-known.known c.loop-place-test.true c.index-path-place.is
+    c.loop-place.invariant c.in_ok-known.ensures.ok
 
 pub crossing-requires-clause-along : goal.crossing-requires-clause-along
 crossing-requires-clause-along c = λ p. λ at. λ watched. λ s. λ among.
@@ -23,4 +25,6 @@ crossing-requires-clause-along c = λ p. λ at. λ watched. λ s. λ among.
 
 pub returns-in_err-known-clause-err : goal.returns-in_err-known-clause-err
 returns-in_err-known-clause-err c =
-    exit_with _ _ _ c.from_residual.ensures (c.in_err-known.ensures.err c.args.path.now (c.loop-place.place, c.loop-place-test.true, sym c.index-path-place.is))
+    exit_with _ _ _ c.from_residual.ensures
+    (c.in_err-known.ensures.err c.args.path.now
+    (c.loop-place.place, c.loop-place-test.true, sym c.index-path-place.is))

@@ -13,5 +13,8 @@ returns-in-Some-2 c = λ path all other.
     let rows = reader.verdicts.rows.now in
     let cut = c.in-Some.cut in
     let split = c.in-Some-2.split in
-    let there : IsCauseAt t region rows cut.process cut.number (Split split.0 split.1) = subst (λ (o : Option (Axis × ℕ)). IfSome o (λ s. IsCauseAt t region rows cut.process cut.number (Split s.0 s.1))) c.in-Some-2.is c.in_ok-split.ensures in
-    follow_split t c.requires.tables region reader.bounded rows path cut.process cut.number (c.in-Some.ensures path all).starts split.0 split.1 there
+    let there : IsCauseAt t region rows cut.process cut.number (Split split.0 split.1) =
+    subst (λ (o : Option (Axis × ℕ)). IfSome o
+    (λ s. IsCauseAt t region rows cut.process cut.number (Split s.0 s.1))) c.in-Some-2.is c.in_ok-split.ensures in
+    follow_split t c.requires.tables region reader.bounded rows path cut.process cut.number
+    (c.in-Some.ensures path all).starts split.0 split.1 there

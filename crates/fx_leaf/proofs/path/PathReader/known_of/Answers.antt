@@ -18,16 +18,29 @@ loop-place-preserved c =
     let region = c.args.self.now.verdicts.region.now in
     let x = c.index-selections-place.result in
     let same = c.met.view_is in
-    let new = subst (λ (s : PathSelection). AddsVerdicts c.loop-place.known c.in_ok-known.known (of_one (verdict net region) net region s)) same c.in_ok-known.ensures.ok in
-    known_more (verdict net region) net region c.loop-place.place c.args.selections.now x nothing_known c.loop-place.known c.in_ok-known.known c.loop-place-test.true c.index-selections-place.is c.loop-place.invariant new
+    let new = subst (λ (s : PathSelection). AddsVerdicts c.loop-place.known c.in_ok-known.known
+    (of_one (verdict net region) net region s)) same c.in_ok-known.ensures.ok in
+    known_more (verdict net region) net region c.loop-place.place c.args.selections.now x nothing_known
+    c.loop-place.known c.in_ok-known.known c.loop-place-test.true c.index-selections-place.is c.loop-place.invariant
+    new
 
 pub selection-requires-clause-along : goal.selection-requires-clause-along
 selection-requires-clause-along c =
     let t = c.args.self.now.verdicts.tables.now in
     let same = c.met.view_is in
-    subst (HoldsBehindSelection t.net t.numbering (IsMarked c.args.self.now.marks.now)) (ap (λ (s : PathSelection). s.selection) (sym same)) (c.requires.along c.index-selections-place.result (c.loop-place.place, c.loop-place-test.true, sym c.index-selections-place.is))
+    subst (HoldsBehindSelection t.net t.numbering (IsMarked c.args.self.now.marks.now))
+    (ap (λ (s : PathSelection). s.selection) (sym same))
+    (c.requires.along c.index-selections-place.result
+    (c.loop-place.place, c.loop-place-test.true, sym c.index-selections-place.is))
 
 pub returns-in_err-known-clause-err : goal.returns-in_err-known-clause-err
 returns-in_err-known-clause-err c =
     let same = c.met.view_is in
-    exit_with _ _ _ c.from_residual.ensures (λ path. λ all. c.in_err-known.ensures.err path (subst (Meets c.args.self.now.verdicts.tables.now.net path) (ap (λ (s : PathSelection). s.selection) (sym same)) (all c.index-selections-place.result (c.loop-place.place, c.loop-place-test.true, sym c.index-selections-place.is))))
+    exit_with _ _ _ c.from_residual.ensures
+    (λ path. λ all. c.in_err-known.ensures.err path
+    (subst (Meets c.args.self.now.verdicts.tables.now.net path) (ap (λ (s : PathSelection). s.selection) (sym same))
+    (all c.index-selections-place.result (
+      c.loop-place.place,
+      c.loop-place-test.true,
+      sym c.index-selections-place.is,
+    ))))

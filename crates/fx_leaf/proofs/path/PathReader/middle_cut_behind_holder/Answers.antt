@@ -11,9 +11,16 @@ returns-in-Some c =
     let t = reader.verdicts.tables.now in
     let process = c.in-Some.process in
     let number = c.number_of_layout-number.result in
-    let named = c.named_by-places.ensures ∙ ap (λ (n : Net). named_by (slice_get n.holders c.args.holder)) c.net.ensures in
-    let s : IsCauseByHolder t reader.verdicts.rows.now c.args.holder (Behind process number) = (c.number_of_layout-number.ensures, subst (λ (places : List ℕ). SendsOn reader.verdicts.rows.now t.net number (at_places t.net.exporters places) process) named c.in-Some.ensures) in
-    some_more _ _ c.cut_behind.result (λ x. λ h. λ path. λ held. h path (starts_at t c.requires.tables reader.verdicts.region.now reader.bounded reader.verdicts.rows.now path c.args.holder process number s held)) c.cut_behind.ensures.some
+    let named = c.named_by-places.ensures ∙ ap (λ (n : Net). named_by (slice_get n.holders c.args.holder)) c.net.ensures
+    in
+    let s : IsCauseByHolder t reader.verdicts.rows.now c.args.holder (Behind process number) = (
+      c.number_of_layout-number.ensures,
+      subst (λ (places : List ℕ). SendsOn reader.verdicts.rows.now t.net number
+          (at_places t.net.exporters places) process) named c.in-Some.ensures,
+    ) in
+    some_more _ _ c.cut_behind.result (λ x. λ h. λ path. λ held. h path
+    (starts_at t c.requires.tables reader.verdicts.region.now reader.bounded reader.verdicts.rows.now path
+    c.args.holder process number s held)) c.cut_behind.ensures.some
 
 pub cut_behind-requires-clause-marked : goal.cut_behind-requires-clause-marked
 cut_behind-requires-clause-marked c =
@@ -21,6 +28,12 @@ cut_behind-requires-clause-marked c =
     let t = reader.verdicts.tables.now in
     let process = c.in-Some.process in
     let number = c.number_of_layout-number.result in
-    let named = c.named_by-places.ensures ∙ ap (λ (n : Net). named_by (slice_get n.holders c.args.holder)) c.net.ensures in
-    let s : IsCauseByHolder t reader.verdicts.rows.now c.args.holder (Behind process number) = (c.number_of_layout-number.ensures, subst (λ (places : List ℕ). SendsOn reader.verdicts.rows.now t.net number (at_places t.net.exporters places) process) named c.in-Some.ensures) in
-    marked_there t c.requires.tables reader.verdicts.region.now reader.bounded reader.verdicts.rows.now reader.marks.now reader.filled c.args.holder process number c.requires.along s
+    let named = c.named_by-places.ensures ∙ ap (λ (n : Net). named_by (slice_get n.holders c.args.holder)) c.net.ensures
+    in
+    let s : IsCauseByHolder t reader.verdicts.rows.now c.args.holder (Behind process number) = (
+      c.number_of_layout-number.ensures,
+      subst (λ (places : List ℕ). SendsOn reader.verdicts.rows.now t.net number
+          (at_places t.net.exporters places) process) named c.in-Some.ensures,
+    ) in
+    marked_there t c.requires.tables reader.verdicts.region.now reader.bounded reader.verdicts.rows.now reader.marks.now
+    reader.filled c.args.holder process number c.requires.along s

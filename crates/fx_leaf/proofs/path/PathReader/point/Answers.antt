@@ -13,4 +13,7 @@ selections-requires-then-watches-clause-along c = λ s. λ at.
 pub returns-then-watches-clause-err : goal.returns-then-watches-clause-err
 returns-then-watches-clause-err c =
     let watched : watches c.args.point.now c.args.crossing.now ≡ true = sym c.watches.ensures ∙ c.if-watches.true in
-    err_more _ _ c.selections-then-watches.result (λ x. λ h. λ path. λ all. h path (λ s. λ among. all s watched (subst (λ (ss : List Selection). Contains ss s) c.selections.ensures among))) c.selections-then-watches.ensures.err
+    err_more _ _ c.selections-then-watches.result
+    (λ x. λ h. λ path. λ all. h path (λ s. λ among. all s watched
+    (subst (λ (ss : List Selection). Contains ss s) c.selections.ensures among)))
+    c.selections-then-watches.ensures.err

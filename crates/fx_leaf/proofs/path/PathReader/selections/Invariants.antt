@@ -7,4 +7,5 @@ abbrev pub invariant-loop-place : goal.invariant-loop-place
 invariant-loop-place l =
     let net = l.self.verdicts.tables.now.net in
     let region = l.self.verdicts.region.now in
-    AddsVerdicts l.initial.known l.known (point_verdicts (verdict net region) net region l.crossing l.point 1 (take l.place l.selections))
+    AddsVerdicts l.initial.known l.known (point_verdicts (verdict net region) net region l.crossing l.point 1
+    (take l.place l.selections))

@@ -14,5 +14,6 @@ returns-clause-begun c =
     let is = c.fill.ensures.items ∙ ap (λ (net : Net). path_selections net 1 path) c.net.ensures in
     record {
       marked = record { along = here.along; closed = here.closed; filled = here.filled };
-      selections = subst (λ (xs : List PathSelection). IsPermutation (path_selections t.net 1 path) xs) (sym is) (IsPermutation-refl (path_selections t.net 1 path));
+      selections = subst (λ (xs : List PathSelection). IsPermutation (path_selections t.net 1 path) xs) (sym is)
+          (IsPermutation-refl (path_selections t.net 1 path));
     }

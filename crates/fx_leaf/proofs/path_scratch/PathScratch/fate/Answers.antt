@@ -3,4 +3,6 @@ use Rattle.fx_leaf.proofs.path_scratch.PathScratch.fate.Goals as goal
 
 pub returns-clause-answer : goal.returns-clause-answer
 returns-clause-answer c =
-    leaf_is_answer c.args.tables.now.net c.args.path.now c.args.region.now c.requires.tables.network c.bounds_hold.ensures c.path_verdict.result c.leaf_of.result c.path_verdict.ensures.ok c.path_verdict.ensures.err c.leaf_of.ensures.ok c.leaf_of.ensures.err
+    leaf_is_answer c.args.tables.now.net c.args.path.now c.args.region.now c.requires.tables.network
+    c.bounds_hold.ensures c.path_verdict.result c.leaf_of.result c.path_verdict.ensures.ok
+    c.path_verdict.ensures.err c.leaf_of.ensures.ok c.leaf_of.ensures.err

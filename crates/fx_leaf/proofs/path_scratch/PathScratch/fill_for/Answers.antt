@@ -3,7 +3,8 @@ use Rattle.fx_leaf.specs.PathTables.{IsPathBegun, PathTable}
 use Rattle.fx_leaf.proofs.path_scratch.PathScratch.fill_for.Goals as goal
 
 pub returns-then-self-clause-filled : goal.returns-then-self-clause-filled
-returns-then-self-clause-filled c = c.requires.begun.marked.filled (ap (λ (p : PathTable). p.steady) (sym c.self.view_is) ∙ c.if-self.true) c.args.region.now
+returns-then-self-clause-filled c = c.requires.begun.marked.filled
+    (ap (λ (p : PathTable). p.steady) (sym c.self.view_is) ∙ c.if-self.true) c.args.region.now
 
 pub returns-clause-begun : goal.returns-clause-begun
 returns-clause-begun c =

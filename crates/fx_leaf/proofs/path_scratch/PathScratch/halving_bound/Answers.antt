@@ -19,7 +19,8 @@ halving_match-requires-clause-along c = λ s at.
     let begun = subst (IsPathBegun t path) (sym c.self.view_is) c.requires.begun in
     let there = subst (λ (xs : List PathSelection). Contains (take m xs) s) c.as_slice.ensures at in
     let meets = all_meet t.net path s (among_path t.net path items m s begun.selections there) in
-    subst (λ (marks : List ℕ). HoldsBehindSelection t.net t.numbering (IsMarked marks) s.selection) (sym c.deref-2.ensures.value) (begun.marked.along s.selection meets)
+    subst (λ (marks : List ℕ). HoldsBehindSelection t.net t.numbering (IsMarked marks) s.selection)
+    (sym c.deref-2.ensures.value) (begun.marked.along s.selection meets)
 
 pub returns-clause-ok : goal.returns-clause-ok
 returns-clause-ok c = λ split.
@@ -28,7 +29,9 @@ returns-clause-ok c = λ split.
     let begun = subst (IsPathBegun t path) (sym c.self.view_is) c.requires.begun in
     let m = c.min-active.result in
     let items = c.self.inside.selections.items in
-    c.in_ok-halving_match.ensures path (λ each at. all_meet t.net path each (among_path t.net path items m each begun.selections (subst (λ (xs : List PathSelection). Contains (take m xs) each) c.as_slice.ensures at))) split
+    c.in_ok-halving_match.ensures path (λ each at. all_meet t.net path each
+    (among_path t.net path items m each begun.selections
+    (subst (λ (xs : List PathSelection). Contains (take m xs) each) c.as_slice.ensures at))) split
 
 pub halving_selections-requires : goal.halving_selections-requires
 halving_selections-requires c = λ k d less apart.
@@ -38,8 +41,10 @@ halving_selections-requires c = λ k d less apart.
     let few = c.min-active.ensures in
     let long = length-take m given in
     let within : k < m = omega (arith, less, long) in
-    let same = get_or-take m given k d within ∙ ap (λ (xs : List PathSelection). get_or xs k d) c.as_slice.ensures ∙ ap (λ (p : PathTable). get_or p.selections k d) c.self.view_is in
-    c.requires.overlapping k d (omega (arith, within, few)) (subst (λ (s : PathSelection). IsApart region s.selection) same apart)
+    let same = get_or-take m given k d within ∙ ap (λ (xs : List PathSelection). get_or xs k d) c.as_slice.ensures
+    ∙ ap (λ (p : PathTable). get_or p.selections k d) c.self.view_is in
+    c.requires.overlapping k d (omega (arith, within, few))
+    (subst (λ (s : PathSelection). IsApart region s.selection) same apart)
 
 pub returns-in-Some-clause-ok : goal.returns-in-Some-clause-ok
 returns-in-Some-clause-ok c = λ split.
@@ -50,5 +55,10 @@ returns-in-Some-clause-ok c = λ split.
     let m = c.min-active.result in
     let items = c.self.inside.selections.items in
     let given = c.as_slice.result.now in
-    let found = subst (λ (o : Option (Axis × ℕ)). IfSome o (λ s. (net : Net) (way : List Crossing) → ((each : PathSelection) → Contains (take m given) each → Meets net way each.selection) → IsSplit net way region s.0 s.1)) c.in-Some.is c.in_ok-split.ensures in
-    found t.net path (λ each at. all_meet t.net path each (among_path t.net path items m each begun.selections (subst (λ (xs : List PathSelection). Contains (take m xs) each) c.as_slice.ensures at)))
+    let found = subst (λ (o : Option (Axis × ℕ)). IfSome o
+    (λ s. (net : Net) (way : List Crossing)
+    → ((each : PathSelection) → Contains (take m given) each → Meets net way each.selection)
+    → IsSplit net way region s.0 s.1)) c.in-Some.is c.in_ok-split.ensures in
+    found t.net path (λ each at. all_meet t.net path each
+    (among_path t.net path items m each begun.selections
+    (subst (λ (xs : List PathSelection). Contains (take m xs) each) c.as_slice.ensures at)))

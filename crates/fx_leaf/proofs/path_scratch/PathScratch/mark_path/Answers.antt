@@ -11,7 +11,8 @@ use Rattle.fx_leaf.proofs.path_scratch.PathScratch.mark_path.Goals as goal
 pub fill-requires-clause-closed : goal.fill-requires-clause-closed
 fill-requires-clause-closed c =
     let t = c.args.tables.now in
-    let marks_are = with_items_is c.self.inside.marks c.mark.new.marks (omega (arith, c.mark.auto.marks, c.deref_mut.ensures.len)) in
+    let marks_are = with_items_is c.self.inside.marks c.mark.new.marks
+    (omega (arith, c.mark.auto.marks, c.deref_mut.ensures.len)) in
     subst (IsClosed t.net t.numbering) (sym (c.deref-then-self.ensures.value ∙ marks_are)) c.mark.ensures.closed
 
 pub returns-then-self-clause-marked : goal.returns-then-self-clause-marked
@@ -21,30 +22,74 @@ returns-then-self-clause-marked c =
     let rows = c.fill.new.rows in
     let path = c.args.path.now in
     let steady = c.take_none_in-self-inside.result in
-    let marks_are = with_items_is c.self.inside.marks marks (omega (arith, c.mark.auto.marks, c.deref_mut.ensures.len)) in
-    let rows_are = with_items_is c.self.inside.rows rows (omega (arith, c.fill.auto.rows, c.deref_mut-then-self.ensures.len)) in
+    let marks_are = with_items_is c.self.inside.marks marks (omega (arith, c.mark.auto.marks, c.deref_mut.ensures.len))
+    in
+    let rows_are = with_items_is c.self.inside.rows rows
+    (omega (arith, c.fill.auto.rows, c.deref_mut-then-self.ensures.len)) in
     let same = c.processes.ensures ∙ ap (λ (net : Net). net.processes) c.net.ensures in
-    let none = subst (λ (ps : List Process). TakeNoneIn ps marks) same (subst (TakeNoneIn c.processes.result.now) (c.deref.ensures.value ∙ marks_are) (c.take_none_in-self-inside.ensures c.if-self.true)) in
-    let filled = subst (λ (ms : List ℕ). IsFilled t.net t.numbering c.whole.result ms rows) (c.deref-then-self.ensures.value ∙ marks_are) c.fill.ensures in
-    let begun : IsPathMarked t path (record { table = rows; marks = marks; steady = steady; selections = c.self.inside.selections.items; room = c.self.inside.selections.room }) = record {
+    let none = subst (λ (ps : List Process). TakeNoneIn ps marks) same
+    (subst (TakeNoneIn c.processes.result.now) (c.deref.ensures.value ∙ marks_are)
+    (c.take_none_in-self-inside.ensures c.if-self.true)) in
+    let filled = subst (λ (ms : List ℕ). IsFilled t.net t.numbering c.whole.result ms rows)
+    (c.deref-then-self.ensures.value ∙ marks_are) c.fill.ensures in
+    let begun : IsPathMarked t path (record {
+      table = rows;
+      marks = marks;
+      steady = steady;
+      selections = c.self.inside.selections.items;
+      room =
+          c.self.inside.selections.room;
+    }) = record {
       along = c.mark.ensures.along;
       closed = c.mark.ensures.closed;
       filled = λ is. filled_for_each t c.requires.tables marks rows none c.whole.result filled;
     } in
-    let filled_in = subst (λ (rs : Table). IsPathMarked t path (record { table = rs; marks = marks; steady = steady; selections = c.self.inside.selections.items; room = c.self.inside.selections.room })) (sym rows_are) begun in
-    subst (λ (ms : List ℕ). IsPathMarked t path (record { table = (with_items c.self.inside.rows rows).items; marks = ms; steady = steady; selections = c.self.inside.selections.items; room = c.self.inside.selections.room })) (sym marks_are) filled_in
+    let filled_in = subst (λ (rs : Table). IsPathMarked t path
+    (record {
+      table = rs;
+      marks = marks;
+      steady = steady;
+      selections = c.self.inside.selections.items;
+      room =
+          c.self.inside.selections.room;
+    })) (sym rows_are) begun in
+    subst (λ (ms : List ℕ). IsPathMarked t path
+    (record {
+      table = (with_items c.self.inside.rows rows).items;
+      marks = ms;
+      steady = steady;
+      selections =
+          c.self.inside.selections.items;
+      room = c.self.inside.selections.room;
+    })) (sym marks_are) filled_in
 
 pub returns-else-self-clause-marked : goal.returns-else-self-clause-marked
 returns-else-self-clause-marked c =
     let t = c.args.tables.now in
     let marks = c.mark.new.marks in
-    let marks_are = with_items_is c.self.inside.marks marks (omega (arith, c.mark.auto.marks, c.deref_mut.ensures.len)) in
+    let marks_are = with_items_is c.self.inside.marks marks (omega (arith, c.mark.auto.marks, c.deref_mut.ensures.len))
+    in
     let rows = c.self.inside.rows.items in
     let path = c.args.path.now in
     let steady = c.take_none_in-self-inside.result in
-    let begun : IsPathMarked t path (record { table = rows; marks = marks; steady = steady; selections = c.self.inside.selections.items; room = c.self.inside.selections.room }) = record {
+    let begun : IsPathMarked t path (record {
+      table = rows;
+      marks = marks;
+      steady = steady;
+      selections = c.self.inside.selections.items;
+      room =
+          c.self.inside.selections.room;
+    }) = record {
       along = c.mark.ensures.along;
       closed = c.mark.ensures.closed;
       filled = λ is. let no = c.if-self.false in absurd cc;
     } in
-    subst (λ (ms : List ℕ). IsPathMarked t path (record { table = rows; marks = ms; steady = steady; selections = c.self.inside.selections.items; room = c.self.inside.selections.room })) (sym marks_are) begun
+    subst (λ (ms : List ℕ). IsPathMarked t path
+    (record {
+      table = rows;
+      marks = ms;
+      steady = steady;
+      selections = c.self.inside.selections.items;
+      room =
+          c.self.inside.selections.room;
+    })) (sym marks_are) begun

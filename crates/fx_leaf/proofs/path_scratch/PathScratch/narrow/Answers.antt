@@ -19,7 +19,8 @@ returns-clause-begun c = λ t path begun.
     let here = subst (IsPathBegun t path) (sym c.self.view_is) begun in
     record {
       marked = record { along = here.marked.along; closed = here.marked.closed; filled = here.marked.filled };
-      selections = IsPermutation-trans (path_selections t.net 1 path) c.self.inside.selections.items c.narrow.new.self.items here.selections c.narrow.ensures.moved;
+      selections = IsPermutation-trans (path_selections t.net 1 path) c.self.inside.selections.items
+          c.narrow.new.self.items here.selections c.narrow.ensures.moved;
     }
 
 pub narrow-requires-clause-narrowed : goal.narrow-requires-clause-narrowed

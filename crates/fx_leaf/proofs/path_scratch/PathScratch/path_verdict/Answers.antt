@@ -17,7 +17,8 @@ known_of-requires-clause-along c = λ s at.
     let begun = subst (IsPathBegun t path) (sym c.self.view_is) c.fill_for.ensures.begun in
     let there = subst (λ (xs : List PathSelection). Contains (take m xs) s) c.as_slice.ensures at in
     let meets = all_meet t.net path s (among_path t.net path items m s begun.selections there) in
-    subst (λ (marks : List ℕ). HoldsBehindSelection t.net t.numbering (IsMarked marks) s.selection) (sym c.deref-2.ensures.value) (begun.marked.along s.selection meets)
+    subst (λ (marks : List ℕ). HoldsBehindSelection t.net t.numbering (IsMarked marks) s.selection)
+    (sym c.deref-2.ensures.value) (begun.marked.along s.selection meets)
 
 pub returns-clause-ok : goal.returns-clause-ok
 returns-clause-ok c =
@@ -28,10 +29,14 @@ returns-clause-ok c =
     let items = c.self.inside.selections.items in
     let begun = subst (IsPathBegun t path) (sym c.self.view_is) c.fill_for.ensures.begun in
     let same = ap (λ (p : PathTable). p.selections) c.self.view_is ∙ c.fill_for.ensures.kept in
-    let narrowed = subst (λ (xs : List PathSelection). IsNarrowed xs region c.args.active) (sym same) c.requires.narrowed in
+    let narrowed = subst (λ (xs : List PathSelection). IsNarrowed xs region c.args.active) (sym same)
+    c.requires.narrowed in
     let few = c.min-active.ensures in
     let long = c.len.ensures in
-    ok_more _ _ c.known_of.result (λ known adds. known_of_path t.net path region items m known begun.selections (narrowed_within items region c.args.active m (few ∙ ap (λ (n : ℕ). min c.args.active n) long) narrowed) (subst (λ (xs : List PathSelection). AddsVerdicts nothing_known known (verdicts_of (verdict t.net region) t.net region (take m xs))) c.as_slice.ensures adds)) c.known_of.ensures.ok
+    ok_more _ _ c.known_of.result (λ known adds. known_of_path t.net path region items m known begun.selections
+    (narrowed_within items region c.args.active m (few ∙ ap (λ (n : ℕ). min c.args.active n) long) narrowed)
+    (subst (λ (xs : List PathSelection). AddsVerdicts nothing_known known
+    (verdicts_of (verdict t.net region) t.net region (take m xs))) c.as_slice.ensures adds)) c.known_of.ensures.ok
 
 pub returns-clause-err : goal.returns-clause-err
 returns-clause-err c =
@@ -40,4 +45,6 @@ returns-clause-err c =
     let m = c.min-active.result in
     let items = c.self.inside.selections.items in
     let begun = subst (IsPathBegun t path) (sym c.self.view_is) c.fill_for.ensures.begun in
-    err_more _ _ c.known_of.result (λ s h. h path (λ e at. all_meet t.net path e (among_path t.net path items m e begun.selections (subst (λ (xs : List PathSelection). Contains (take m xs) e) c.as_slice.ensures at)))) c.known_of.ensures.err
+    err_more _ _ c.known_of.result (λ s h. h path
+    (λ e at. all_meet t.net path e (among_path t.net path items m e begun.selections
+    (subst (λ (xs : List PathSelection). Contains (take m xs) e) c.as_slice.ensures at)))) c.known_of.ensures.err

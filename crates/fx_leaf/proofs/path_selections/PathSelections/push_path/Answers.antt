@@ -14,9 +14,14 @@ push_points-requires c =
     let net = c.args.net.now in
     let cs = c.args.path.now in
     let ps = points_of (entry_numbered net.devices x.device) in
-    let here : drop at.place cs ≡ x ∷ drop (at.place + 1) cs = drop_here cs at.place x c.loop-place-test.true ∙ ap (λ (y : Crossing). y ∷ drop (at.place + 1) cs) (sym c.index-path-place.is) in
+    let here : drop at.place cs ≡ x ∷ drop (at.place + 1) cs = drop_here cs at.place x c.loop-place-test.true
+    ∙ ap (λ (y : Crossing). y ∷ drop (at.place + 1) cs) (sym c.index-path-place.is) in
     let every = path_selections net 1 cs in
     let all = length-append c.args.self.now.items every in
     let room = at.invariant.1 in
-    let fits = room_for at.self.items (crossing_selections (at.place + 1) 1 ps x) (path_selections net (at.place + 1 + 1) (drop (at.place + 1) cs)) (c.args.self.now.items ++ every) at.self.room (ap (λ (xs : List Crossing). at.self.items ++ path_selections net (at.place + 1) xs) (sym here) ∙ at.invariant.0) (omega (arith, all, room, c.requires)) in
-    subst (λ (qs : List Point). length at.self.items + length (crossing_selections (at.place + 1) 1 qs x) ≤ at.self.room) (sym c.points_of.ensures) fits
+    let fits = room_for at.self.items (crossing_selections (at.place + 1) 1 ps x)
+    (path_selections net (at.place + 1 + 1) (drop (at.place + 1) cs)) (c.args.self.now.items ++ every) at.self.room
+    (ap (λ (xs : List Crossing). at.self.items ++ path_selections net (at.place + 1) xs) (sym here)
+    ∙ at.invariant.0) (omega (arith, all, room, c.requires)) in
+    subst (λ (qs : List Point). length at.self.items + length (crossing_selections (at.place + 1) 1 qs x)
+    ≤ at.self.room) (sym c.points_of.ensures) fits

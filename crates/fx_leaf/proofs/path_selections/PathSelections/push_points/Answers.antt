@@ -11,8 +11,13 @@ push_point-requires c =
     let p = c.index-points-place.result in
     let crossing = c.args.crossing.now in
     let ps = c.args.points.now in
-    let here : drop at.place ps ≡ p ∷ drop (at.place + 1) ps = drop_here ps at.place p c.loop-place-test.true ∙ ap (λ (x : Point). x ∷ drop (at.place + 1) ps) (sym c.index-points-place.is) in
+    let here : drop at.place ps ≡ p ∷ drop (at.place + 1) ps = drop_here ps at.place p c.loop-place-test.true
+    ∙ ap (λ (x : Point). x ∷ drop (at.place + 1) ps) (sym c.index-points-place.is) in
     let every = crossing_selections c.args.number 1 ps crossing in
     let all = length-append c.args.self.now.items every in
     let room = at.invariant.1 in
-    room_for at.self.items (watching_selections c.args.number (at.place + 1) crossing p) (crossing_selections c.args.number (at.place + 1 + 1) (drop (at.place + 1) ps) crossing) (c.args.self.now.items ++ every) at.self.room (ap (λ (xs : List Point). at.self.items ++ crossing_selections c.args.number (at.place + 1) xs crossing) (sym here) ∙ at.invariant.0) (omega (arith, all, room, c.requires))
+    room_for at.self.items (watching_selections c.args.number (at.place + 1) crossing p)
+    (crossing_selections c.args.number (at.place + 1 + 1) (drop (at.place + 1) ps) crossing)
+    (c.args.self.now.items ++ every) at.self.room
+    (ap (λ (xs : List Point). at.self.items ++ crossing_selections c.args.number (at.place + 1) xs crossing)
+    (sym here) ∙ at.invariant.0) (omega (arith, all, room, c.requires))

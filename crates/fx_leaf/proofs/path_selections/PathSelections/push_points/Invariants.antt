@@ -5,4 +5,6 @@ use Rattle.fx_leaf.proofs.path_selections.PathSelections.push_points.Given as go
 -- those so far, and behind them those that are still to come
 abbrev pub invariant-loop-place : goal.invariant-loop-place
 invariant-loop-place l =
-    (l.self.items ++ crossing_selections l.number (l.place + 1) (drop l.place l.points) l.crossing ≡ l.initial.self.items ++ crossing_selections l.number 1 l.points l.crossing) × (l.initial.self.room ≤ l.self.room)
+    (l.self.items ++ crossing_selections l.number (l.place + 1) (drop l.place l.points) l.crossing
+    ≡ l.initial.self.items ++ crossing_selections l.number 1 l.points l.crossing)
+    × (l.initial.self.room ≤ l.self.room)

@@ -4,4 +4,5 @@ use Rattle.fx_leaf.proofs.table.Verdicts.all_taken_verdict.Given as goal
 
 abbrev pub invariant-loop-aggregation : goal.invariant-loop-aggregation
 invariant-loop-aggregation l =
-    So (taken_entry l.self.rows.now l.self.tables.now.net l.self.tables.now.numbering l.self.region.now l.layout) l.joined l.aggregations l.aggregation-index
+    So (taken_entry l.self.rows.now l.self.tables.now.net l.self.tables.now.numbering l.self.region.now l.layout)
+    l.joined l.aggregations l.aggregation-index

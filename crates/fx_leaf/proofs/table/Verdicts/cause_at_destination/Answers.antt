@@ -7,7 +7,8 @@ pub returns-in_default-clause-none : goal.returns-in_default-clause-none
 returns-in_default-clause-none c =
     let net = c.args.self.now.tables.now.net in
     let same = c.links.ensures ∙ ap (λ (n : Net). n.links) c.net.ensures in
-    no_link c.args.self.now.rows.now net c.args.number c.in_ok-link.link c.args.destination c.in_ok-link.was (past_too c.links.result.now net.links c.in_ok-link.link same c.in_default.ensures.lookup.3)
+    no_link c.args.self.now.rows.now net c.args.number c.in_ok-link.link c.args.destination c.in_ok-link.was
+    (past_too c.links.result.now net.links c.in_ok-link.link same c.in_default.ensures.lookup.3)
 
 pub returns-then-is_none-clause-some : goal.returns-then-is_none-clause-some
 returns-then-is_none-clause-some c =
@@ -15,7 +16,9 @@ returns-then-is_none-clause-some c =
     let same = c.links.ensures ∙ ap (λ (n : Net). n.links) c.net.ensures in
     let here = c.in-Some.ensures.lookup.3 in
     let process = c.in-Some.process.now in
-    without_verdict c.args.self.now.rows.now net c.args.number c.in_ok-link.link c.args.destination c.in_ok-link.was process (there_too c.links.result.now net.links c.in_ok-link.link process same here.0 (here.1 process)) (sym c.entry.ensures ∙ none_of c.entry.result c.if-is_none.ensures)
+    without_verdict c.args.self.now.rows.now net c.args.number c.in_ok-link.link c.args.destination c.in_ok-link.was
+    process (there_too c.links.result.now net.links c.in_ok-link.link process same here.0 (here.1 process))
+    (sym c.entry.ensures ∙ none_of c.entry.result c.if-is_none.ensures)
 
 pub returns-else-is_none-clause-none : goal.returns-else-is_none-clause-none
 returns-else-is_none-clause-none c =
@@ -23,4 +26,6 @@ returns-else-is_none-clause-none c =
     let same = c.links.ensures ∙ ap (λ (n : Net). n.links) c.net.ensures in
     let here = c.in-Some.ensures.lookup.3 in
     let process = c.in-Some.process.now in
-    with_verdict c.args.self.now.rows.now net c.args.number c.in_ok-link.link c.args.destination c.in_ok-link.was process (there_too c.links.result.now net.links c.in_ok-link.link process same here.0 (here.1 process)) (λ e. some_of c.entry.result c.if-is_none.ensures (c.entry.ensures ∙ e))
+    with_verdict c.args.self.now.rows.now net c.args.number c.in_ok-link.link c.args.destination c.in_ok-link.was
+    process (there_too c.links.result.now net.links c.in_ok-link.link process same here.0 (here.1 process))
+    (λ e. some_of c.entry.result c.if-is_none.ensures (c.entry.ensures ∙ e))

@@ -4,4 +4,5 @@ use Rattle.fx_leaf.proofs.table.Verdicts.cause_in_matches.Given as goal
 
 abbrev pub invariant-loop-aggregation : goal.invariant-loop-aggregation
 invariant-loop-aggregation l =
-    Still (taken_entry l.self.rows.now l.self.tables.now.net l.self.tables.now.numbering l.self.region.now l.layout) l.aggregations l.aggregation-index
+    Still (taken_entry l.self.rows.now l.self.tables.now.net l.self.tables.now.numbering l.self.region.now l.layout)
+    l.aggregations l.aggregation-index

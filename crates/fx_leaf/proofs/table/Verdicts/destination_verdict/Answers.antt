@@ -11,7 +11,8 @@ returns-in-None-get c =
     let rows = c.args.self.now.rows.now in
     let same = c.links.ensures ∙ ap (λ (n : Net). n.links) c.net.ensures in
     sym (ap (destination_verdict (entry rows) net c.args.layout) c.in-Some.is
-    ∙ ap (process_verdict (entry rows) c.args.layout) (past_too c.links.result.now net.links c.in-Some.link same c.in-None-get.ensures.lookup.3))
+    ∙ ap (process_verdict (entry rows) c.args.layout)
+    (past_too c.links.result.now net.links c.in-Some.link same c.in-None-get.ensures.lookup.3))
 
 pub returns-in-Some-get : goal.returns-in-Some-get
 returns-in-Some-get c =
@@ -22,4 +23,5 @@ returns-in-Some-get c =
     let at = c.in-Some-get.ensures.lookup.3 in
     c.entry.ensures
     ∙ sym (ap (destination_verdict (entry rows) net c.args.layout) c.in-Some.is
-    ∙ ap (process_verdict (entry rows) c.args.layout) (there_too c.links.result.now net.links c.in-Some.link process same at.0 (at.1 process)))
+    ∙ ap (process_verdict (entry rows) c.args.layout)
+    (there_too c.links.result.now net.links c.in-Some.link process same at.0 (at.1 process)))

@@ -12,4 +12,5 @@ loop-other-preserved c =
     let d : Option ℕ = None in
     let joined : c.verdict_of_either-joined.result ≡ verdict_of_either c.loop-other.joined (f (get_or others k d)) =
     c.verdict_of_either-joined.ensures ∙ ap (verdict_of_either c.loop-other.joined) c.destination_verdict.ensures in
-    ap (λ (v : Verdict). verdict_of_one (v ∷ map f (drop (k + 1) others))) joined ∙ one_more f (f c.args.first) c.loop-other.joined others k d c.loop-other-test.true c.loop-other.invariant
+    ap (λ (v : Verdict). verdict_of_one (v ∷ map f (drop (k + 1) others))) joined
+    ∙ one_more f (f c.args.first) c.loop-other.joined others k d c.loop-other-test.true c.loop-other.invariant

@@ -20,7 +20,10 @@ returns-in-Some-get c =
     ok_more _ _ c.halving_among.result (λ o h. some_more _ _ o (λ s among. record {
       layout = layout;
       at = process;
-      layout_is = there_too c.layouts.result.now t.numbering.layouts c.args.number layout c.layouts.ensures layout_at.0 (layout_at.1 layout);
-      process_is = there_too c.processes.result.now t.net.processes c.args.process process same process_at.0 (process_at.1 process);
-      is_cause = inr (subst (λ (entries : List AggregationEntry). IsCauseInMatches t region rows layout entries (Split s.0 s.1)) c.aggregations.ensures among);
+      layout_is = there_too c.layouts.result.now t.numbering.layouts c.args.number layout c.layouts.ensures layout_at.0
+          (layout_at.1 layout);
+      process_is = there_too c.processes.result.now t.net.processes c.args.process process same process_at.0
+          (process_at.1 process);
+      is_cause = inr (subst (λ (entries : List AggregationEntry). IsCauseInMatches t region rows layout entries
+          (Split s.0 s.1)) c.aggregations.ensures among);
     }) h) c.halving_among.ensures

@@ -10,5 +10,8 @@ use Rattle.fx_leaf.proofs.table.Verdicts.part_taken.Goals as goal
 pub returns : goal.returns
 returns c =
     let region = c.args.self.now.region.now in
-    let cut = subst (λ (es : List MatchEntry). IfSome c.cut_part.result (λ part. (region_overlap region (match_fields es) ≡ Part) × ((axis : Axis) (at : ℕ) → IsSplitBy region part axis at → IsSplitBy region (match_fields es) axis at))) c.matches.ensures c.cut_part.ensures in
+    let cut = subst (λ (es : List MatchEntry). IfSome c.cut_part.result
+    (λ part. (region_overlap region (match_fields es) ≡ Part)
+    × ((axis : Axis) (at : ℕ) → IsSplitBy region part axis at → IsSplitBy region (match_fields es) axis at)))
+    c.matches.ensures c.cut_part.ensures in
     some_more _ _ c.cut_part.result (λ part h axis at by. (search rules, h.0, h.1 axis at by)) cut

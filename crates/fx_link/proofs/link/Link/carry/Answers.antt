@@ -11,11 +11,16 @@ use Rattle.fx_link.proofs.link.Link.carry.Goals as goal
 
 pub returns-in-Err-clause-err : goal.returns-in-Err-clause-err
 returns-in-Err-clause-err c = λ none.
-    let octets : c.as_slice.result.now ≡ c.args.self.now.queue = c.as_slice.ensures.value ∙ ap (λ (o : Ongoing). o.queue) c.self.view_is in
+    let octets : c.as_slice.result.now ≡ c.args.self.now.queue = c.as_slice.ensures.value
+    ∙ ap (λ (o : Ongoing). o.queue) c.self.view_is in
     let receiver : c.self.inside.session ≡ c.args.self.now.receiver = ap (λ (o : Ongoing). o.receiver) c.self.view_is in
-    let read : c.feed.new.self.fault ≢ Some 900 → c.feed.new.self ≡ after_piece c.args.self.now.receiver (take c.args.count c.args.self.now.queue) =
-    λ k. c.feed.ensures.fed k ∙ ap (λ (st : SessionState). after_piece st (take c.args.count c.as_slice.result.now)) receiver ∙ ap (λ (l : List ℕ). after_piece c.args.self.now.receiver (take c.args.count l)) octets in
-    let err : IfErr c.feed.result (λ e. e ≡ fault_at 900 places.None) = starves c.args.self.now.receiver c.feed.new.self c.args.count c.args.self.now.queue c.feed.result c.feed.ensures.answer read none in
+    let read : c.feed.new.self.fault ≢ Some 900 → c.feed.new.self
+    ≡ after_piece c.args.self.now.receiver (take c.args.count c.args.self.now.queue) =
+    λ k. c.feed.ensures.fed k ∙ ap (λ (st : SessionState). after_piece st (take c.args.count c.as_slice.result.now))
+    receiver ∙ ap (λ (l : List ℕ). after_piece c.args.self.now.receiver (take c.args.count l)) octets in
+    let err : IfErr c.feed.result (λ e. e ≡ fault_at 900 places.None) =
+    starves c.args.self.now.receiver c.feed.new.self c.args.count c.args.self.now.queue c.feed.result
+    c.feed.ensures.answer read none in
     subst (λ (r : Result (Unit {0}) Fault). IfErr r (λ e. e ≡ fault_at 900 places.None)) c.in-Err.is err
 
 pub returns-clause-ok : goal.returns-clause-ok

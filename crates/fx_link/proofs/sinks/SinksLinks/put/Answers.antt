@@ -6,8 +6,10 @@ use Rattle.fx_link.proofs.sinks.SinksLinks.put.Goals.{then-link-eq0-via-then-lin
 pub returns-then-link-eq0 : goal.returns-then-link-eq0
 returns-then-link-eq0 g c = record {
   ok = elim c.then-link-eq0.branch [
-    | then-link-eq0-via-then-link-eq0 w ↦ none_known_first g.S.Sink.taken c.args.self.now.sinks.items c.args.link c.args.octets.now w.if-link-eq0.true
-    | then-link-eq0-via-else-link-eq0+then-link-len w ↦ none_known g.S.Sink.taken c.args.self.now.sinks.items c.args.link c.args.octets.now (omega arith)
+    | then-link-eq0-via-then-link-eq0 w ↦ none_known_first g.S.Sink.taken c.args.self.now.sinks.items c.args.link
+        c.args.octets.now w.if-link-eq0.true
+    | then-link-eq0-via-else-link-eq0+then-link-len w ↦
+        none_known g.S.Sink.taken c.args.self.now.sinks.items c.args.link c.args.octets.now (omega arith)
   ];
   going = λ _. refl;
   err = tt;
@@ -15,7 +17,8 @@ returns-then-link-eq0 g c = record {
 
 pub returns-in-Ok : goal.returns-in-Ok
 returns-in-Ok g c = record {
-  ok = sink_known g.S.Sink.taken c.args.self.now.sinks.items c.args.link c.index_mut.result.now c.put_text.new.sink c.args.octets.now c.if-link-eq0.false (omega arith) c.index_mut.ensures.value c.in-Ok.ensures.ok;
+  ok = sink_known g.S.Sink.taken c.args.self.now.sinks.items c.args.link c.index_mut.result.now c.put_text.new.sink
+      c.args.octets.now c.if-link-eq0.false (omega arith) c.index_mut.ensures.value c.in-Ok.ensures.ok;
   going = λ _. refl;
   err = tt;
 }

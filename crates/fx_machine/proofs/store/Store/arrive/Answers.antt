@@ -25,14 +25,20 @@ returns-in_err-links-clause-err c =
     let r = c.copy-entry.result in
     let cs = c.args.choices.now in
     let h' = c.in_ok-handling.handling in
-    let k : Some rs ≡ slice_get in'.carried.items place = c.in-Some-entry_at.ensures ∙ ap (λ (x : List (List Record)). slice_get x place) c.as_slice.ensures.value in
-    let n : Some r ≡ entry_numbered rs c.args.number = ap Some c.copy-entry.ensures ∙ c.in-Some-record_numbered.ensures in
+    let k : Some rs ≡ slice_get in'.carried.items place = c.in-Some-entry_at.ensures
+    ∙ ap (λ (x : List (List Record)). slice_get x place) c.as_slice.ensures.value in
+    let n : Some r ≡ entry_numbered rs c.args.number = ap Some c.copy-entry.ensures ∙ c.in-Some-record_numbered.ensures
+    in
     let p = err_from_is_err_and c.from_residual-in_err-links.result c.from_residual-in_err-links.ensures.1 in
     rw (p.1, p.2) (elim c.in_err-links.ensures.err [
       | inl a ↦ (ap (λ (f : Fault). f.place) a, inl (ap (λ (f : Fault). f.number) a))
       | inr b ↦ (
         ap (λ (f : Fault). f.place) b.0,
-        inr (λ s e. arrive_is net c.args.link c.args.number cs (coming_of 1 in'.to_come.items) in'.held.items in'.carried.items in'.totals.items in'.unassigned s (c.self.view_is ∙ e) place rs r h'.tallies h'.exporters.now h'.holdings.items None c.in-Some.ensures k n c.in_ok-handling.ensures (ap (λ (xs : List Exporter). chosen_from [] (at_places xs h'.exporters.now) cs) (sym c.exporters.ensures) ∙ b.1) ∙ ap (λ (f : Fault). Err f.number) (sym b.0)),
+        inr (λ s e. arrive_is net c.args.link c.args.number cs (coming_of 1 in'.to_come.items) in'.held.items
+            in'.carried.items in'.totals.items in'.unassigned s (c.self.view_is ∙ e) place rs r h'.tallies
+            h'.exporters.now h'.holdings.items None c.in-Some.ensures k n c.in_ok-handling.ensures
+            (ap (λ (xs : List Exporter). chosen_from [] (at_places xs h'.exporters.now) cs) (sym c.exporters.ensures)
+            ∙ b.1) ∙ ap (λ (f : Fault). Err f.number) (sym b.0)),
       )
     ])
 
@@ -47,16 +53,25 @@ returns-in_err-hold_all-clause-err c =
     let h' = c.in_ok-handling.handling in
     let links = c.in_ok-links.links.items in
     let rest = drop c.in_ok-links.used cs in
-    let k : Some rs ≡ slice_get in'.carried.items place = c.in-Some-entry_at.ensures ∙ ap (λ (x : List (List Record)). slice_get x place) c.as_slice.ensures.value in
-    let n : Some r ≡ entry_numbered rs c.args.number = ap Some c.copy-entry.ensures ∙ c.in-Some-record_numbered.ensures in
-    let picked : chosen_from [] (at_places net.exporters h'.exporters.now) cs ≡ Some (record { links = links; rest = rest }) =
-    ap (λ (xs : List Exporter). chosen_from [] (at_places xs h'.exporters.now) cs) (sym c.exporters.ensures) ∙ c.in_ok-links.ensures.ok.1 in
+    let k : Some rs ≡ slice_get in'.carried.items place = c.in-Some-entry_at.ensures
+    ∙ ap (λ (x : List (List Record)). slice_get x place) c.as_slice.ensures.value in
+    let n : Some r ≡ entry_numbered rs c.args.number = ap Some c.copy-entry.ensures ∙ c.in-Some-record_numbered.ensures
+    in
+    let picked : chosen_from [] (at_places net.exporters h'.exporters.now) cs
+    ≡ Some (record { links = links; rest = rest }) =
+    ap (λ (xs : List Exporter). chosen_from [] (at_places xs h'.exporters.now) cs) (sym c.exporters.ensures)
+    ∙ c.in_ok-links.ensures.ok.1 in
     let p = err_from_is_err_and c.from_residual-in_err-hold_all.result c.from_residual-in_err-hold_all.ensures.1 in
     rw (p.1, p.2) (elim c.in_err-hold_all.ensures.err [
       | inl a ↦ (ap (λ (f : Fault). f.place) a, inl (ap (λ (f : Fault). f.number) a))
       | inr b ↦ (
         ap (λ (f : Fault). f.place) b.0,
-        inr (λ s e. refused_holds net c.args.link c.args.number cs (coming_of 1 in'.to_come.items) in'.held.items in'.carried.items in'.totals.items in'.unassigned s (c.self.view_is ∙ e) place rs r h'.tallies h'.exporters.now h'.holdings.items links rest c.in-Some.ensures k n c.in_ok-handling.ensures picked (ap₂ (λ (xs : List Holding) (ys : List (Option ℕ)). hold_all r.counts xs in'.held.items ys) (sym c.as_slice-2.ensures.value) (sym c.choices_from-left.ensures) ∙ b.1) ∙ ap (λ (f : Fault). Err f.number) (sym b.0)),
+        inr (λ s e. refused_holds net c.args.link c.args.number cs (coming_of 1 in'.to_come.items) in'.held.items
+            in'.carried.items in'.totals.items in'.unassigned s (c.self.view_is ∙ e) place rs r h'.tallies
+            h'.exporters.now h'.holdings.items links rest c.in-Some.ensures k n c.in_ok-handling.ensures picked
+            (ap₂ (λ (xs : List Holding) (ys : List (Option ℕ)). hold_all r.counts xs in'.held.items ys)
+            (sym c.as_slice-2.ensures.value) (sym c.choices_from-left.ensures) ∙ b.1)
+            ∙ ap (λ (f : Fault). Err f.number) (sym b.0)),
       )
     ])
 
@@ -72,18 +87,28 @@ returns-clause-ok c s e =
     let links = c.in_ok-links.links.items in
     let rest = drop c.in_ok-links.used cs in
     let t = h'.tallies in
-    let k : Some rs ≡ slice_get in'.carried.items place = c.in-Some-entry_at.ensures ∙ ap (λ (x : List (List Record)). slice_get x place) c.as_slice.ensures.value in
-    let n : Some r ≡ entry_numbered rs c.args.number = ap Some c.copy-entry.ensures ∙ c.in-Some-record_numbered.ensures in
-    let picked : chosen_from [] (at_places net.exporters h'.exporters.now) cs ≡ Some (record { links = links; rest = rest }) =
-    ap (λ (xs : List Exporter). chosen_from [] (at_places xs h'.exporters.now) cs) (sym c.exporters.ensures) ∙ c.in_ok-links.ensures.ok.1 in
+    let k : Some rs ≡ slice_get in'.carried.items place = c.in-Some-entry_at.ensures
+    ∙ ap (λ (x : List (List Record)). slice_get x place) c.as_slice.ensures.value in
+    let n : Some r ≡ entry_numbered rs c.args.number = ap Some c.copy-entry.ensures ∙ c.in-Some-record_numbered.ensures
+    in
+    let picked : chosen_from [] (at_places net.exporters h'.exporters.now) cs
+    ≡ Some (record { links = links; rest = rest }) =
+    ap (λ (xs : List Exporter). chosen_from [] (at_places xs h'.exporters.now) cs) (sym c.exporters.ensures)
+    ∙ c.in_ok-links.ensures.ok.1 in
     let taken : hold_all r.counts h'.holdings.items in'.held.items rest ≡ Some c.hold_all.new.held.items =
-    ap₂ (λ (xs : List Holding) (ys : List (Option ℕ)). hold_all r.counts xs in'.held.items ys) (sym c.as_slice-2.ensures.value) (sym c.choices_from-left.ensures) ∙ c.in_ok-hold_all.ensures.ok.0 in
+    ap₂ (λ (xs : List Holding) (ys : List (Option ℕ)). hold_all r.counts xs in'.held.items ys)
+    (sym c.as_slice-2.ensures.value) (sym c.choices_from-left.ensures) ∙ c.in_ok-hold_all.ensures.ok.0 in
     let done = c.in_default-send_and_tally.ensures.ok in
     let out : c.take_out_at.new.lists.items ≡ taken_out (put_all links r in'.carried.items) place c.args.number =
-    c.take_out_at.ensures ∙ ap (λ (x : List (List Record)). taken_out x place c.args.number) (done.0 ∙ ap (λ (ls : List ℕ). put_all ls r in'.carried.items) c.as_slice-3.ensures.value) in
+    c.take_out_at.ensures ∙ ap (λ (x : List (List Record)). taken_out x place c.args.number)
+    (done.0 ∙ ap (λ (ls : List ℕ). put_all ls r in'.carried.items) c.as_slice-3.ensures.value) in
     let totals : c.send_and_tally.new.totals.items ≡ totals_when t net.report_layout r.key r.counts in'.totals.items =
     done.1 ∙ ap (λ (l : Layout). totals_when t l r.key r.counts in'.totals.items) c.report_layout.ensures.value in
-    arrived net c.args.link c.args.number cs (coming_of 1 in'.to_come.items) in'.held.items in'.carried.items in'.totals.items in'.unassigned s (c.self.view_is ∙ e) place rs r t h'.exporters.now h'.holdings.items links rest c.hold_all.new.held.items c.take_out_at.new.lists.items c.send_and_tally.new.totals.items c.send_and_tally.new.unassigned c.in-Some.ensures k n c.in_ok-handling.ensures picked taken out totals (λ v h. done.2 v h ∙ ap (λ (l : Layout). unassigned_when t l r.key v % 2 ^ 64) c.report_layout.ensures.value)
+    arrived net c.args.link c.args.number cs (coming_of 1 in'.to_come.items) in'.held.items in'.carried.items
+    in'.totals.items in'.unassigned s (c.self.view_is ∙ e) place rs r t h'.exporters.now h'.holdings.items links
+    rest c.hold_all.new.held.items c.take_out_at.new.lists.items c.send_and_tally.new.totals.items
+    c.send_and_tally.new.unassigned c.in-Some.ensures k n c.in_ok-handling.ensures picked taken out totals
+    (λ v h. done.2 v h ∙ ap (λ (l : Layout). unassigned_when t l r.key v % 2 ^ 64) c.report_layout.ensures.value)
 
 pub returns-in_default : goal.returns-in_default
 returns-in_default c = record {
@@ -91,7 +116,8 @@ returns-in_default c = record {
   same = refl;
   err = (
     ap (λ (f : Fault). f.place) c.bare.ensures,
-    inr (λ s e. ap (λ (place : Option ℕ). arrive_at c.args.net.now place c.args.number s c.args.choices.now) (sym c.in_default.ensures) ∙ ap (λ (f : Fault). Err f.number) (sym c.bare.ensures)),
+    inr (λ s e. ap (λ (place : Option ℕ). arrive_at c.args.net.now place c.args.number s c.args.choices.now)
+        (sym c.in_default.ensures) ∙ ap (λ (f : Fault). Err f.number) (sym c.bare.ensures)),
   );
 }
 
@@ -101,7 +127,8 @@ returns-in_default-entry_at c =
     let net = c.args.net.now in
     let place = c.in-Some.place in
     let cs = c.args.choices.now in
-    let none : None ≡ slice_get in'.carried.items place = c.in_default-entry_at.ensures ∙ ap (λ (x : List (List Record)). slice_get x place) c.as_slice.ensures.value in
+    let none : None ≡ slice_get in'.carried.items place = c.in_default-entry_at.ensures
+    ∙ ap (λ (x : List (List Record)). slice_get x place) c.as_slice.ensures.value in
     record {
       ok = tt;
       same = refl;
@@ -109,7 +136,8 @@ returns-in_default-entry_at c =
         ap (λ (f : Fault). f.place) c.bare-in_default-entry_at.ensures,
         inr (λ s e.
             ap (λ (place : Option ℕ). arrive_at net place c.args.number s cs) (sym c.in-Some.ensures)
-            ∙ ap (λ (x : State). arrive_from net place (slice_get x.carried place) c.args.number s cs) (sym (c.self.view_is ∙ e))
+            ∙ ap (λ (x : State). arrive_from net place (slice_get x.carried place) c.args.number s cs)
+            (sym (c.self.view_is ∙ e))
             ∙ ap (λ (o : Option (List Record)). arrive_from net place o c.args.number s cs) (sym none)
             ∙ ap (λ (f : Fault). Err f.number) (sym c.bare-in_default-entry_at.ensures)),
       );
@@ -122,7 +150,8 @@ returns-in_default-record_numbered c =
     let place = c.in-Some.place in
     let rs = c.in-Some-entry_at.records.now in
     let cs = c.args.choices.now in
-    let k : Some rs ≡ slice_get in'.carried.items place = c.in-Some-entry_at.ensures ∙ ap (λ (x : List (List Record)). slice_get x place) c.as_slice.ensures.value in
+    let k : Some rs ≡ slice_get in'.carried.items place = c.in-Some-entry_at.ensures
+    ∙ ap (λ (x : List (List Record)). slice_get x place) c.as_slice.ensures.value in
     record {
       ok = tt;
       same = refl;
@@ -130,9 +159,11 @@ returns-in_default-record_numbered c =
         ap (λ (f : Fault). f.place) c.bare-in_default-record_numbered.ensures,
         inr (λ s e.
             ap (λ (place : Option ℕ). arrive_at net place c.args.number s cs) (sym c.in-Some.ensures)
-            ∙ ap (λ (x : State). arrive_from net place (slice_get x.carried place) c.args.number s cs) (sym (c.self.view_is ∙ e))
+            ∙ ap (λ (x : State). arrive_from net place (slice_get x.carried place) c.args.number s cs)
+            (sym (c.self.view_is ∙ e))
             ∙ ap (λ (o : Option (List Record)). arrive_from net place o c.args.number s cs) (sym k)
-            ∙ ap (λ (o : Option Record). after_arrive net place rs c.args.number o s cs) (sym c.in_default-record_numbered.ensures)
+            ∙ ap (λ (o : Option Record). after_arrive net place rs c.args.number o s cs)
+            (sym c.in_default-record_numbered.ensures)
             ∙ ap (λ (f : Fault). Err f.number) (sym c.bare-in_default-record_numbered.ensures)),
       );
     }
@@ -146,6 +177,12 @@ returns-in-Err c =
     let kept = c.in-Err.ensures.err in
     record {
       ok = tt;
-      same = same_parts coming coming c.give_all_back.new.held.items in'.held.items c.send_and_tally.new.carried.items in'.carried.items c.send_and_tally.new.totals.items in'.totals.items c.send_and_tally.new.unassigned in'.unassigned refl held kept.0 kept.1 kept.2 ∙ c.self.view_is;
-      err = (ap (λ (f : Fault). f.place) c.bare-in-Err.ensures, inl (ap (λ (f : Fault). f.number) c.bare-in-Err.ensures));
+      same = same_parts coming coming c.give_all_back.new.held.items in'.held.items c.send_and_tally.new.carried.items
+          in'.carried.items c.send_and_tally.new.totals.items in'.totals.items c.send_and_tally.new.unassigned
+          in'.unassigned refl held kept.0 kept.1 kept.2 ∙ c.self.view_is;
+      err = (
+        ap (λ (f : Fault). f.place) c.bare-in-Err.ensures,
+        inl
+            (ap (λ (f : Fault). f.number) c.bare-in-Err.ensures),
+      );
     }

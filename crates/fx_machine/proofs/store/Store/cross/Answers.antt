@@ -14,9 +14,13 @@ returns-then-not-is_to_come-clause-err c =
     let in' = c.self.inside in
     let i = c.args.packet in
     let j = c.args.crossing in
-    let gone : has_mark_at in'.to_come.items i j ≡ false = ap (λ (fs : List (List Bool)). has_mark_at fs i j) (sym c.as_slice.ensures.value) ∙ sym c.is_to_come.ensures ∙ c.if-not-is_to_come.true in (
+    let gone : has_mark_at in'.to_come.items i j ≡ false =
+    ap (λ (fs : List (List Bool)). has_mark_at fs i j) (sym c.as_slice.ensures.value) ∙ sym c.is_to_come.ensures
+    ∙ c.if-not-is_to_come.true in (
       ap (λ (f : Fault). f.place) c.bare.ensures,
-      inr (λ s e. cross_made c.args.net.now c.args.classes.now c.args.packets.now i j c.args.choices.now in'.to_come.items in'.held.items in'.carried.items in'.totals.items in'.unassigned s (c.self.view_is ∙ e) gone ∙ ap (λ (f : Fault). Err f.number) (sym c.bare.ensures)),
+      inr (λ s e. cross_made c.args.net.now c.args.classes.now c.args.packets.now i j c.args.choices.now
+          in'.to_come.items in'.held.items in'.carried.items in'.totals.items in'.unassigned s (c.self.view_is ∙ e) gone
+          ∙ ap (λ (f : Fault). Err f.number) (sym c.bare.ensures)),
     )
 
 pub returns-in_err-hold_met-clause-err : goal.returns-in_err-hold_met-clause-err
@@ -27,13 +31,21 @@ returns-in_err-hold_met-clause-err c =
     let j = c.args.crossing in
     let packet = c.in-Some.found.now in
     let hs = met_holdings net.holders packet.fields c.meet.new.met.items in
-    let there : has_mark_at in'.to_come.items i j ≡ true = ap (λ (fs : List (List Bool)). has_mark_at fs i j) (sym c.as_slice.ensures.value) ∙ sym c.is_to_come.ensures ∙ c.if-not-is_to_come.false in
+    let there : has_mark_at in'.to_come.items i j ≡ true =
+    ap (λ (fs : List (List Bool)). has_mark_at fs i j) (sym c.as_slice.ensures.value) ∙ sym c.is_to_come.ensures
+    ∙ c.if-not-is_to_come.false in
     let p = err_from_is_err_and c.from_residual-in_err-hold_met.result c.from_residual-in_err-hold_met.ensures.1 in
     rw (p.1, p.2) (elim c.in_err-hold_met.ensures.err [
       | inl a ↦ (ap (λ (f : Fault). f.place) a, inl (ap (λ (f : Fault). f.number) a))
       | inr b ↦ (
         ap (λ (f : Fault). f.place) b.0,
-        inr (λ s e. cross_is net c.args.classes.now c.args.packets.now i j c.args.choices.now in'.to_come.items in'.held.items in'.carried.items in'.totals.items in'.unassigned s (c.self.view_is ∙ e) packet hs there c.in-Some.ensures c.in_ok-meet.ensures ∙ ap (held_out (record s { coming = coming_of 1 (without_mark in'.to_come.items i j) })) (ap (λ (os : List Occurrence). hold_all (one_packet packet) (met_holdings net.holders packet.fields os) in'.held.items c.args.choices.now) (sym c.as_slice-2.ensures.value) ∙ b.1) ∙ ap (λ (f : Fault). Err f.number) (sym b.0)),
+        inr (λ s e. cross_is net c.args.classes.now c.args.packets.now i j c.args.choices.now in'.to_come.items
+            in'.held.items in'.carried.items in'.totals.items in'.unassigned s (c.self.view_is ∙ e) packet hs there
+            c.in-Some.ensures c.in_ok-meet.ensures ∙ ap (held_out
+            (record s { coming = coming_of 1 (without_mark in'.to_come.items i j) }))
+            (ap (λ (os : List Occurrence). hold_all (one_packet packet) (met_holdings net.holders packet.fields os)
+            in'.held.items c.args.choices.now) (sym c.as_slice-2.ensures.value) ∙ b.1)
+            ∙ ap (λ (f : Fault). Err f.number) (sym b.0)),
       )
     ])
 
@@ -45,7 +57,12 @@ returns-clause-ok c s e =
     let j = c.args.crossing in
     let p = c.in-Some.found.now in
     let hs = met_holdings net.holders p.fields c.meet.new.met.items in
-    let there : has_mark_at in'.to_come.items i j ≡ true = ap (λ (fs : List (List Bool)). has_mark_at fs i j) (sym c.as_slice.ensures.value) ∙ sym c.is_to_come.ensures ∙ c.if-not-is_to_come.false in
+    let there : has_mark_at in'.to_come.items i j ≡ true =
+    ap (λ (fs : List (List Bool)). has_mark_at fs i j) (sym c.as_slice.ensures.value) ∙ sym c.is_to_come.ensures
+    ∙ c.if-not-is_to_come.false in
     let taken : hold_all (one_packet p) hs in'.held.items c.args.choices.now ≡ Some c.hold_met.new.held.items =
-    ap (λ (os : List Occurrence). hold_all (one_packet p) (met_holdings net.holders p.fields os) in'.held.items c.args.choices.now) (sym c.as_slice-2.ensures.value) ∙ c.in_ok-hold_met.ensures.ok in
-    crossed net c.args.classes.now c.args.packets.now i j c.args.choices.now in'.to_come.items in'.held.items in'.carried.items in'.totals.items in'.unassigned s (c.self.view_is ∙ e) p hs c.clear.new.to_come.items c.hold_met.new.held.items there c.in-Some.ensures c.in_ok-meet.ensures taken c.clear.ensures
+    ap (λ (os : List Occurrence). hold_all (one_packet p) (met_holdings net.holders p.fields os) in'.held.items
+    c.args.choices.now) (sym c.as_slice-2.ensures.value) ∙ c.in_ok-hold_met.ensures.ok in
+    crossed net c.args.classes.now c.args.packets.now i j c.args.choices.now in'.to_come.items in'.held.items
+    in'.carried.items in'.totals.items in'.unassigned s (c.self.view_is ∙ e) p hs c.clear.new.to_come.items
+    c.hold_met.new.held.items there c.in-Some.ensures c.in_ok-meet.ensures taken c.clear.ensures

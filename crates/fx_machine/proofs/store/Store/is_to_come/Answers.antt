@@ -9,4 +9,6 @@ pub returns : goal.returns
 returns c =
     let i = c.args.packet in
     let j = c.args.crossing in
-    c.is_to_come.ensures ∙ ap (λ (fs : List (List Bool)). has_mark_at fs i j) c.as_slice.ensures.value ∙ mark_is_place c.self.inside.to_come.items i j ∙ ap (λ (s : State). is_some (place s.coming i j)) c.self.view_is
+    c.is_to_come.ensures ∙ ap (λ (fs : List (List Bool)). has_mark_at fs i j) c.as_slice.ensures.value
+    ∙ mark_is_place c.self.inside.to_come.items i j
+    ∙ ap (λ (s : State). is_some (place s.coming i j)) c.self.view_is

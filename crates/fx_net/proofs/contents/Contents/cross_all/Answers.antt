@@ -13,11 +13,15 @@ loop-crossing-preserved c =
     let n = c.loop-crossing.crossing-index in
     let crossing = c.crossing-item.result in
     let rest = drop (n + 1) path in
-    let here : drop n path ≡ crossing ∷ rest = drop_more path n crossing c.loop-crossing-test.true ∙ ap (λ (x : Crossing). x ∷ rest) (sym c.crossing-item.is) in
-    ap (after_path net fields counts rest) c.in_ok-cross.ensures.ok ∙ ap (λ (cs : List Crossing). after_path net fields counts cs c.loop-crossing.self) (sym here) ∙ c.loop-crossing.invariant
+    let here : drop n path ≡ crossing ∷ rest = drop_more path n crossing c.loop-crossing-test.true
+    ∙ ap (λ (x : Crossing). x ∷ rest) (sym c.crossing-item.is) in
+    ap (after_path net fields counts rest) c.in_ok-cross.ensures.ok
+    ∙ ap (λ (cs : List Crossing). after_path net fields counts cs c.loop-crossing.self) (sym here)
+    ∙ c.loop-crossing.invariant
 
 pub returns-clause-ok : goal.returns-clause-ok
 returns-clause-ok c =
     let path = c.args.path.now in
-    sym (ap (λ (cs : List Crossing). after_path c.args.net.now c.args.fields.now c.args.counts cs c.loop-crossing.self) (drop_all c.loop-crossing.crossing-index path c.loop-crossing-test.false))
+    sym (ap (λ (cs : List Crossing). after_path c.args.net.now c.args.fields.now c.args.counts cs c.loop-crossing.self)
+    (drop_all c.loop-crossing.crossing-index path c.loop-crossing-test.false))
     ∙ c.loop-crossing.invariant

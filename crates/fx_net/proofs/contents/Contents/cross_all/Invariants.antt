@@ -5,4 +5,5 @@ use Rattle.fx_net.proofs.contents.Contents.cross_all.Given as goal
 
 abbrev pub invariant-loop-crossing : goal.invariant-loop-crossing
 invariant-loop-crossing l =
-    after_path l.net l.fields l.counts (drop l.crossing-index l.path) l.self ≡ after_path l.net l.fields l.counts l.path l.fn.self
+    after_path l.net l.fields l.counts (drop l.crossing-index l.path) l.self
+    ≡ after_path l.net l.fields l.counts l.path l.fn.self

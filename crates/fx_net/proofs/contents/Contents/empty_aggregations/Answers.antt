@@ -16,9 +16,13 @@ loop-aggregation-preserved g c =
     let n = c.loop-aggregation.aggregation-index in
     let rest = holders (drop (n + 1) all) in
     let is : holders (drop n all) ≡ c.holder.result ∷ rest =
-    ap holders (drop_more all n c.aggregation-item.result c.loop-aggregation-test.true) ∙ ap (λ (a : AggregationEntry). a.holder ∷ rest) (sym c.aggregation-item.is) ∙ ap (λ (k : ℕ). k ∷ rest) (sym c.holder.ensures) in
+    ap holders (drop_more all n c.aggregation-item.result c.loop-aggregation-test.true)
+    ∙ ap (λ (a : AggregationEntry). a.holder ∷ rest) (sym c.aggregation-item.is)
+    ∙ ap (λ (k : ℕ). k ∷ rest) (sym c.holder.ensures) in
     record {
-      done = completes_next empties (holders all) (g.L.Links.put_on c.args.links.now) c.args.self.now (holders (drop n all)) c.holder.result rest (g.L.Links.put_on c.loop-aggregation.links) c.loop-aggregation.self (g.L.Links.put_on c.empty_out.new.links) c.empty_out.new.self
+      done = completes_next empties (holders all) (g.L.Links.put_on c.args.links.now) c.args.self.now
+          (holders (drop n all)) c.holder.result rest (g.L.Links.put_on c.loop-aggregation.links)
+          c.loop-aggregation.self (g.L.Links.put_on c.empty_out.new.links) c.empty_out.new.self
           is c.loop-aggregation.invariant.done c.in_ok-empty_out.ensures.ok;
       going = λ h. c.in_ok-empty_out.ensures.going (c.loop-aggregation.invariant.going h);
     }
@@ -26,5 +30,8 @@ loop-aggregation-preserved g c =
 pub returns-clause-ok : goal.returns-clause-ok
 unfolding holders
 returns-clause-ok g c =
-    completed_by (λ place. Ended (Empties c.args.net.now place)) (holders c.args.aggregations.now) _ (g.L.Links.put_on c.args.links.now) c.args.self.now (g.L.Links.put_on c.loop-aggregation.links) c.loop-aggregation.self
-    (ap holders (drop_all c.loop-aggregation.aggregation-index c.args.aggregations.now c.loop-aggregation-test.false)) c.loop-aggregation.invariant.done
+    completed_by (λ place. Ended (Empties c.args.net.now place)) (holders c.args.aggregations.now) _
+    (g.L.Links.put_on c.args.links.now) c.args.self.now (g.L.Links.put_on c.loop-aggregation.links)
+    c.loop-aggregation.self
+    (ap holders (drop_all c.loop-aggregation.aggregation-index c.args.aggregations.now c.loop-aggregation-test.false))
+    c.loop-aggregation.invariant.done

@@ -6,6 +6,7 @@ use Rattle.fx_net.proofs.contents.Contents.empty_all.Given as goal
 
 abbrev pub invariant-loop-place : goal.invariant-loop-place
 invariant-loop-place g l = record {
-  done : Completes (λ place. Ended (Empties l.net place)) l.places (g.L.Links.put_on l.initial.links) l.fn.self (drop l.place-index l.places) (g.L.Links.put_on l.links) l.self;
+  done : Completes (λ place. Ended (Empties l.net place)) l.places (g.L.Links.put_on l.initial.links) l.fn.self
+      (drop l.place-index l.places) (g.L.Links.put_on l.links) l.self;
   going : g.L.Links.failed l.initial.links ≡ false → g.L.Links.failed l.links ≡ false;
 }

@@ -8,6 +8,9 @@ use Rattle.fx_net.proofs.contents.Contents.empty_caches.Given as goal
 
 abbrev pub invariant-loop-device : goal.invariant-loop-device
 invariant-loop-device g l = record {
-  done : Completes (λ place. Ended (Empties l.net place)) (flat_map (λ (d : network.DeviceEntry). d.caches) l.devices) (g.L.Links.put_on l.initial.links) l.fn.self (flat_map (λ (d : network.DeviceEntry). d.caches) (drop l.device-index l.devices)) (g.L.Links.put_on l.links) l.self;
+  done : Completes (λ place. Ended (Empties l.net place)) (flat_map (λ (d : network.DeviceEntry). d.caches) l.devices)
+      (g.L.Links.put_on l.initial.links) l.fn.self
+      (flat_map (λ (d : network.DeviceEntry). d.caches) (drop l.device-index l.devices)) (g.L.Links.put_on l.links)
+      l.self;
   going : g.L.Links.failed l.initial.links ≡ false → g.L.Links.failed l.links ≡ false;
 }

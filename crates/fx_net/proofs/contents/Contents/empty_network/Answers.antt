@@ -8,7 +8,9 @@ pub returns-clause-ok : goal.returns-clause-ok
 returns-clause-ok g c = (
   g.L.Links.put_on c.empty_caches.new.links,
   c.empty_caches.new.self,
-  subst (λ (ds : List DeviceEntry). EmptiesAll c.args.net.now (flat_map (λ (d : DeviceEntry). d.caches) ds) (g.L.Links.put_on c.args.links.now) c.args.self.now (g.L.Links.put_on c.empty_caches.new.links) c.empty_caches.new.self)
+  subst (λ (ds : List DeviceEntry). EmptiesAll c.args.net.now (flat_map (λ (d : DeviceEntry). d.caches) ds)
+      (g.L.Links.put_on c.args.links.now) c.args.self.now (g.L.Links.put_on c.empty_caches.new.links)
+      c.empty_caches.new.self)
       c.devices.ensures c.in_ok-empty_caches.ensures.ok,
   c.in_ok-finish_processes.ensures.ok,
 )

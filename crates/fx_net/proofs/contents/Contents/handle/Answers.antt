@@ -17,10 +17,12 @@ loop-flow-smaller c =
       second = c.self.inside.second;
     } in
     let links = c.next_record.new.links.items in
-    let after : length (waits link c.arrive.new.self) ≡ length (waits link (after_arrive net link c.in-Some.flow (record inside { links = links }))) =
+    let after : length (waits link c.arrive.new.self)
+    ≡ length (waits link (after_arrive net link c.in-Some.flow (record inside { links = links }))) =
     ap (λ (x : Contents). length (waits link x)) c.in_ok-arrive.ensures.ok in
     let fewer = handled_fewer net link c.in-Some.flow inside links c.in-Some.ensures in
-    let before : length (waits link inside) ≡ length (waits link c.loop-flow.self) = ap (λ (x : Contents). length (waits link x)) c.self.view_is in
+    let before : length (waits link inside) ≡ length (waits link c.loop-flow.self) =
+    ap (λ (x : Contents). length (waits link x)) c.self.view_is in
     omega (arith, after, fewer, before)
 
 pub loop-flow-preserved : goal.loop-flow-preserved
@@ -50,4 +52,5 @@ returns-clause-ok c =
       second = c.self.inside.second;
     } in
     ap (λ (xs : List Ongoing). record inside { links = xs }) c.in_default.ensures.0
-    ∙ sym (handled_all net link inside c.in_default.ensures.1) ∙ ap (after_handling net link) c.self.view_is ∙ c.loop-flow.invariant
+    ∙ sym (handled_all net link inside c.in_default.ensures.1) ∙ ap (after_handling net link) c.self.view_is
+    ∙ c.loop-flow.invariant

@@ -4,4 +4,5 @@ use Rattle.fx_net.specs.Leaving.{after_leaves}
 use Rattle.fx_net.proofs.contents.Contents.leave_all.Given as goal
 
 abbrev pub invariant-loop-leaver : goal.invariant-loop-leaver
-invariant-loop-leaver l = after_leaves l.net (drop l.leaver-index l.leavers) l.self ≡ after_leaves l.net l.leavers l.fn.self
+invariant-loop-leaver l = after_leaves l.net (drop l.leaver-index l.leavers) l.self
+    ≡ after_leaves l.net l.leavers l.fn.self

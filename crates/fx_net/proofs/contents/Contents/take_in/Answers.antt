@@ -6,6 +6,9 @@ use Rattle.fx_net.proofs.contents.Contents.take_in.Goals as goal
 pub returns-clause-ok : goal.returns-clause-ok
 returns-clause-ok c =
     on_ok_weaker c.leave_both.result
-    (λ left. left ∙ taken_in_by c.args.net.now c.args.counts c.args.holdings.items _ c.args.self.now c.take_all.new.stores.items c.new-leavers.result.left.items c.new-leavers.result.passing.items c.take_all.new.leavers.left.items c.take_all.new.leavers.passing.items
-    c.self.view_is c.new-leavers.ensures.0 c.new-leavers.ensures.1 c.in_ok-take_all.ensures.ok c.in_ok-take_all.ensures.passing)
+    (λ left. left ∙ taken_in_by c.args.net.now c.args.counts c.args.holdings.items _ c.args.self.now
+    c.take_all.new.stores.items c.new-leavers.result.left.items c.new-leavers.result.passing.items
+    c.take_all.new.leavers.left.items c.take_all.new.leavers.passing.items
+    c.self.view_is c.new-leavers.ensures.0 c.new-leavers.ensures.1 c.in_ok-take_all.ensures.ok
+    c.in_ok-take_all.ensures.passing)
     c.leave_both.ensures.ok

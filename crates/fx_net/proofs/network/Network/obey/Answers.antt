@@ -6,11 +6,14 @@ use Rattle.fx_net.proofs.network.Network.obey.Goals as goal
 
 pub returns-in-Err-clause-err : goal.returns-in-Err-clause-err
 returns-in-Err-clause-err g c = λ _.
-    subst (λ (e : Fault). FailsOutside (g.L.Links.failed c.try_line.new.links) e ⊎ RefusesLine c.args.line.now.bytes.now c.args.line.now.number c.args.self.now c.args.capture.now c.try_line.new.capture e) (sym c.fault-in-Err.ensures) c.in-Err.ensures.err
+    subst (λ (e : Fault). FailsOutside (g.L.Links.failed c.try_line.new.links) e
+    ⊎ RefusesLine c.args.line.now.bytes.now c.args.line.now.number c.args.self.now c.args.capture.now
+    c.try_line.new.capture e) (sym c.fault-in-Err.ensures) c.in-Err.ensures.err
 
 pub returns-in-Err-clause-links : goal.returns-in-Err-clause-links
 returns-in-Err-clause-links g c =
-    subst (λ (e : Fault). FailsOutside (g.L.Links.failed c.try_line.new.links) e ⊎ (c.try_line.new.links ≡ c.args.links.now)) (sym c.fault-in-Err.ensures) c.in-Err.ensures.links
+    subst (λ (e : Fault). FailsOutside (g.L.Links.failed c.try_line.new.links) e
+    ⊎ (c.try_line.new.links ≡ c.args.links.now)) (sym c.fault-in-Err.ensures) c.in-Err.ensures.links
 
 pub returns-in-Err-clause-stopped : goal.returns-in-Err-clause-stopped
 returns-in-Err-clause-stopped g c = first_of (grind arith, search rules)

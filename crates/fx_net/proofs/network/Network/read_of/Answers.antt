@@ -18,13 +18,18 @@ returns-clause-ok g c =
     let old = c.args.self.now in
     let class = c.args.class in
     let path = c.args.path in
-    let classes : c.as_slice.result.now ≡ old.classes = c.as_slice.ensures ∙ c.classes.ensures ∙ ap (λ (r : RunningNetwork). r.classes) c.self.view_is in
+    let classes : c.as_slice.result.now ≡ old.classes = c.as_slice.ensures ∙ c.classes.ensures
+    ∙ ap (λ (r : RunningNetwork). r.classes) c.self.view_is in
     on_ok_weaker c.meter.result
     (λ made. (
-      at_frame_of c.args.capture.now c.advance.new.self c.in_ok-advance.field-0 c.in_ok-advance.ensures.advances c.if-not-branch.false,
-      reads_given (net_of old.network) old.classes frame c.advance.new.self.seen class path old.contents c.meter.new.self.contents
-          c.frame-frame.ensures.fields c.frame-frame.ensures.octets c.frame-frame.ensures.second c.meter.ensures.frame c.meter.ensures.soon
-          (ap (λ (cs : List Class). is_in cs frame.fields class path) (sym classes) ∙ sym c.is_in.ensures ∙ c.if-not-is_in.false)
+      at_frame_of c.args.capture.now c.advance.new.self c.in_ok-advance.field-0 c.in_ok-advance.ensures.advances
+          c.if-not-branch.false,
+      reads_given (net_of old.network) old.classes frame c.advance.new.self.seen class path old.contents
+          c.meter.new.self.contents
+          c.frame-frame.ensures.fields c.frame-frame.ensures.octets c.frame-frame.ensures.second c.meter.ensures.frame
+          c.meter.ensures.soon
+          (ap (λ (cs : List Class). is_in cs frame.fields class path) (sym classes) ∙ sym c.is_in.ensures
+          ∙ c.if-not-is_in.false)
           (ap (λ (r : RunningNetwork). r.contents) made),
     ))
     c.meter.ensures.ok
@@ -32,7 +37,8 @@ returns-clause-ok g c =
 pub returns-in_err-advance-clause-err : goal.returns-in_err-advance-clause-err
 returns-in_err-advance-clause-err g c =
     refused_exit c.from_residual.result c.in_err-advance.field-0.0
-    (λ (e : Fault). RefusesAction c.args.self.now c.args.capture.now c.advance.new.self c.args.line (action.NextOf c.args.class c.args.path) e)
+    (λ (e : Fault). RefusesAction c.args.self.now c.args.capture.now c.advance.new.self c.args.line
+    (action.NextOf c.args.class c.args.path) e)
     c.from_residual.ensures c.in_err-advance.ensures.reported (capture_refused refl c.in_err-advance.ensures.advances)
 
 pub returns-then-not-is_in-clause-err : goal.returns-then-not-is_in-clause-err
@@ -41,7 +47,11 @@ returns-then-not-is_in-clause-err g c =
     let class = c.args.class in
     let path = c.args.path in
     let seen = c.advance.new.self.seen in
-    let classes : c.as_slice.result.now ≡ old.classes = c.as_slice.ensures ∙ c.classes.ensures ∙ ap (λ (r : RunningNetwork). r.classes) c.self.view_is in
-    inr (not_in refl (at_frame_of c.args.capture.now c.advance.new.self c.in_ok-advance.field-0 c.in_ok-advance.ensures.advances c.if-not-branch.false)
+    let classes : c.as_slice.result.now ≡ old.classes = c.as_slice.ensures ∙ c.classes.ensures
+    ∙ ap (λ (r : RunningNetwork). r.classes) c.self.view_is in
+    inr (not_in refl (at_frame_of c.args.capture.now c.advance.new.self c.in_ok-advance.field-0
+    c.in_ok-advance.ensures.advances c.if-not-branch.false)
     (not_there old.classes class seen.fields path
-    (sym (c.is_in.ensures ∙ ap (λ (cs : List Class). is_in cs c.frame-frame.result.fields class path) classes ∙ ap (λ (fields : Fields). is_in old.classes fields class path) c.frame-frame.ensures.fields) ∙ c.if-not-is_in.true)))
+    (sym (c.is_in.ensures ∙ ap (λ (cs : List Class). is_in cs c.frame-frame.result.fields class path) classes
+    ∙ ap (λ (fields : Fields). is_in old.classes fields class path) c.frame-frame.ensures.fields)
+    ∙ c.if-not-is_in.true)))

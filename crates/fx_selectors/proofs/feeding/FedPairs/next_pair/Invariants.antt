@@ -10,5 +10,7 @@ invariant-loop-place l =
       device : self.device.now ≡ first.device.now;
       interface : self.interface.now ≡ first.interface.now;
       inwards : self.inwards ≡ first.inwards;
-      left : feeds_left l.processes first.interface.now first.inwards (first.point + 1) first.process (drop first.point l.points) ≡ feeds_left l.processes first.interface.now first.inwards (l.place + 1) self.process (drop l.place l.points);
+      left : feeds_left l.processes first.interface.now first.inwards (first.point + 1) first.process
+          (drop first.point l.points) ≡ feeds_left l.processes first.interface.now first.inwards (l.place + 1)
+          self.process (drop l.place l.points);
     }

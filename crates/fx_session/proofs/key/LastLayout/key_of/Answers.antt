@@ -10,7 +10,8 @@ use Rattle.fx_session.proofs.key.LastLayout.key_of.Goals as goal
 is_layout : (c : goal.After-key_of) → c.if-ne.self-inside.layout ≡ parts.layout_by c.args.bits.now
 is_layout c = elim c.if-ne.branch [
   | then-ne w ↦ ap (λ s. s.layout) w.self-inside-is ∙ w.layout_of-self-inside.ensures
-  | else-ne w ↦ ap (λ s. s.layout) w.self-inside-is ∙ same_bits c.self.inside.layout c.self.inside.bits c.args.bits.now c.self.invariant w.if-ne.ensures
+  | else-ne w ↦ ap (λ s. s.layout) w.self-inside-is
+      ∙ same_bits c.self.inside.layout c.self.inside.bits c.args.bits.now c.self.invariant w.if-ne.ensures
 ]
 
 pub returns : goal.returns

@@ -28,7 +28,8 @@ stands_at octets axis None = tt
 pub layout_of-layout-requires : goal.layout_of-layout-requires
 layout_of-layout-requires c = λ axis.
     let place = get_or c.places_of-values.result (axis_index axis) None in
-    bits_stand axis (found_at [] axis place) (get_or c.bits_of_places.result (axis_index axis) 0) (stands_at [] axis place) (c.bits_of_places.ensures axis [])
+    bits_stand axis (found_at [] axis place) (get_or c.bits_of_places.result (axis_index axis) 0)
+    (stands_at [] axis place) (c.bits_of_places.ensures axis [])
 
 pub returns : goal.returns
 returns c = record {
@@ -40,5 +41,7 @@ returns c = record {
   layout = λ octets.
       let places = c.places_of-values.result in
       c.layout_of-layout.ensures
-      ∙ sym (layout_by-is (λ axis. found_at octets axis (get_or places (axis_index axis) None)) c.bits_of_places.result (λ axis. stands_at octets axis (get_or places (axis_index axis) None)) (λ axis. c.bits_of_places.ensures axis octets));
+      ∙ sym (layout_by-is (λ axis. found_at octets axis (get_or places (axis_index axis) None)) c.bits_of_places.result
+      (λ axis. stands_at octets axis (get_or places (axis_index axis) None))
+      (λ axis. c.bits_of_places.ensures axis octets));
 }

@@ -9,5 +9,6 @@ returns c =
     let s = c.self.inside in
     let waits : List Record → Taken = λ records. record { waiting = records; skipped = s.skipped; count = s.count } in
     sym c.self.view_is
-    ∙ ap waits (first_waits s.records.items s.start s.end c.index.result.now (omega (arith, c.if-self.false, c.self.invariant.0)) (omega (arith, c.self.invariant.1)) c.index.ensures
+    ∙ ap waits (first_waits s.records.items s.start s.end c.index.result.now
+    (omega (arith, c.if-self.false, c.self.invariant.0)) (omega (arith, c.self.invariant.1)) c.index.ensures
     ∙ ap (λ (r : Record). r ∷ slice_range s.records.items (s.start + 1) s.end) (sym c.copy-record.ensures))

@@ -16,7 +16,8 @@ add_all-requires-clause-there c =
     let s = sizes net (take k xs) w c.requires.waiting in
     let one = subst (λ m. AllByRecursion (HasPlace (length net.holders) m) (drop k xs)) (sym s.1) c.requires.there in
     let both = subst (λ m. AllByRecursion (HasPlace m (length w.carried.items)) (drop k xs)) (sym s.0) one in
-    subst (λ (ys : List Pending). AllByRecursion (HasPlace (length w.held.items) (length w.carried.items)) ys) (sym rest) both
+    subst (λ (ys : List Pending). AllByRecursion (HasPlace (length w.held.items) (length w.carried.items)) ys)
+    (sym rest) both
 
 pub add_all-requires-clause-held : goal.add_all-requires-clause-held
 add_all-requires-clause-held c =
@@ -24,7 +25,14 @@ add_all-requires-clause-held c =
     let k = c.args.from in
     let rest = rest_is k c.as_slice.result.now ∙ ap (drop k) c.as_slice.ensures.value in
     let few = few_wait c.args.net.now (take k xs) c.args.self.now.waiting c.requires.waiting in
-    omega (arith, few.0, ap length rest, length-append (take k xs) (drop k xs), ap length (take-append-drop k xs), c.requires.few)
+    omega (
+      arith,
+      few.0,
+      ap length rest,
+      length-append (take k xs) (drop k xs),
+      ap length (take-append-drop k xs),
+      c.requires.few,
+    )
 
 pub add_all-requires-clause-carried : goal.add_all-requires-clause-carried
 add_all-requires-clause-carried c =
@@ -32,7 +40,14 @@ add_all-requires-clause-carried c =
     let k = c.args.from in
     let rest = rest_is k c.as_slice.result.now ∙ ap (drop k) c.as_slice.ensures.value in
     let few = few_wait c.args.net.now (take k xs) c.args.self.now.waiting c.requires.waiting in
-    omega (arith, few.1, ap length rest, length-append (take k xs) (drop k xs), ap length (take-append-drop k xs), c.requires.few)
+    omega (
+      arith,
+      few.1,
+      ap length rest,
+      length-append (take k xs) (drop k xs),
+      ap length (take-append-drop k xs),
+      c.requires.few,
+    )
 
 pub returns-clause-waiting : goal.returns-clause-waiting
 returns-clause-waiting c =
@@ -42,4 +57,7 @@ returns-clause-waiting c =
     let w = c.args.self.now.waiting in
     let new = c.add_all.new.self in
     let rest = rest_is k c.as_slice.result.now ∙ ap (drop k) c.as_slice.ensures.value in
-    subst (λ (ys : List Pending). Wait net ys new) (take-append-drop k xs) (wait_behind net (take k xs) (drop k xs) w new c.requires.waiting (c.add_all.ensures.held ∙ ap (holder_counts w.held.items) rest) (c.add_all.ensures.carried ∙ ap (link_counts w.carried.items) rest))
+    subst (λ (ys : List Pending). Wait net ys new) (take-append-drop k xs)
+    (wait_behind net (take k xs) (drop k xs) w new c.requires.waiting
+    (c.add_all.ensures.held ∙ ap (holder_counts w.held.items) rest)
+    (c.add_all.ensures.carried ∙ ap (link_counts w.carried.items) rest))

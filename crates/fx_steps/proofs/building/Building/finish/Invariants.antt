@@ -11,8 +11,11 @@ invariant-loop-top l =
     let net = l.costs.tables.net in
     let n = l.costs.tables.numbering in
     CanLeave l.costs.table net n (length l.self.steps.items) l.self.plan.pending.items l.self.waiting
-    × (length l.self.steps.items + total_cost l.costs.table net n l.self.plan.pending.items ≡ length l.initial.self.steps.items + total_cost l.costs.table net n l.initial.self.plan.pending.items)
-    × ((classes : List Class) (coming : List Coming) (f : Fate) → UnderWay net n classes l.costs.packet coming f l.initial.self.steps.items l.initial.self.plan.pending.items → UnderWay net n classes l.costs.packet coming f l.self.steps.items l.self.plan.pending.items)
+    × (length l.self.steps.items + total_cost l.costs.table net n l.self.plan.pending.items
+    ≡ length l.initial.self.steps.items + total_cost l.costs.table net n l.initial.self.plan.pending.items)
+    × ((classes : List Class) (coming : List Coming) (f : Fate)
+    → UnderWay net n classes l.costs.packet coming f l.initial.self.steps.items l.initial.self.plan.pending.items
+    → UnderWay net n classes l.costs.packet coming f l.self.steps.items l.self.plan.pending.items)
 
 abbrev pub decreases-loop-top : goal.decreases-loop-top
 decreases-loop-top l = total_cost l.costs.table l.costs.tables.net l.costs.tables.numbering l.self.plan.pending.items

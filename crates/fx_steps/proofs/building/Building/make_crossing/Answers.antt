@@ -25,9 +25,13 @@ cross-requires-clause-there c =
     let rows = c.args.costs.now.table in
     let crossing = c.args.crossing.now in
     let os = c.as_slice-occurrences.result.now in
-    let met = c.as_slice-occurrences.ensures.value ∙ c.in_ok-occurrences.ensures ∙ ap₂ (λ (m : Net) (fields : Fields). occurrences m crossing fields) c.net.ensures c.fields.ensures in
-    let is = c.shares-now.ensures ∙ ap₂ (λ (a b : Costs). shares a b c.args.left) (c.one_step_more-here.ensures ∙ ap one_step_more c.occurrence_costs.ensures) c.path_costs-others.ensures in
-    let share = shared t c.requires.prepared.tables c.requires.prepared.runnable p.fields rows c.requires.prepared.filled (length c.args.self.now.steps.items) crossing c.args.rest.now c.args.left os c.shares-now.result c.requires.cheap met is in
+    let met = c.as_slice-occurrences.ensures.value ∙ c.in_ok-occurrences.ensures
+    ∙ ap₂ (λ (m : Net) (fields : Fields). occurrences m crossing fields) c.net.ensures c.fields.ensures in
+    let is = c.shares-now.ensures ∙ ap₂ (λ (a b : Costs). shares a b c.args.left)
+    (c.one_step_more-here.ensures ∙ ap one_step_more c.occurrence_costs.ensures) c.path_costs-others.ensures in
+    let share = shared t c.requires.prepared.tables c.requires.prepared.runnable p.fields rows
+    c.requires.prepared.filled (length c.args.self.now.steps.items) crossing c.args.rest.now c.args.left os
+    c.shares-now.result c.requires.cheap met is in
     share.holders
 
 pub cross-requires-clause-cheap : goal.cross-requires-clause-cheap
@@ -39,9 +43,13 @@ cross-requires-clause-cheap c =
     let rows = c.args.costs.now.table in
     let crossing = c.args.crossing.now in
     let os = c.as_slice-occurrences.result.now in
-    let met = c.as_slice-occurrences.ensures.value ∙ c.in_ok-occurrences.ensures ∙ ap₂ (λ (m : Net) (fields : Fields). occurrences m crossing fields) c.net.ensures c.fields.ensures in
-    let is = c.shares-now.ensures ∙ ap₂ (λ (a b : Costs). shares a b c.args.left) (c.one_step_more-here.ensures ∙ ap one_step_more c.occurrence_costs.ensures) c.path_costs-others.ensures in
-    let share = shared t c.requires.prepared.tables c.requires.prepared.runnable p.fields rows c.requires.prepared.filled (length c.args.self.now.steps.items) crossing c.args.rest.now c.args.left os c.shares-now.result c.requires.cheap met is in
+    let met = c.as_slice-occurrences.ensures.value ∙ c.in_ok-occurrences.ensures
+    ∙ ap₂ (λ (m : Net) (fields : Fields). occurrences m crossing fields) c.net.ensures c.fields.ensures in
+    let is = c.shares-now.ensures ∙ ap₂ (λ (a b : Costs). shares a b c.args.left)
+    (c.one_step_more-here.ensures ∙ ap one_step_more c.occurrence_costs.ensures) c.path_costs-others.ensures in
+    let share = shared t c.requires.prepared.tables c.requires.prepared.runnable p.fields rows
+    c.requires.prepared.filled (length c.args.self.now.steps.items) crossing c.args.rest.now c.args.left os
+    c.shares-now.result c.requires.cheap met is in
     share.cheap
 
 pub finish-requires-clause-leaves : goal.finish-requires-clause-leaves
@@ -53,14 +61,26 @@ finish-requires-clause-leaves c =
     let rows = c.args.costs.now.table in
     let crossing = c.args.crossing.now in
     let os = c.as_slice-occurrences.result.now in
-    let met = c.as_slice-occurrences.ensures.value ∙ c.in_ok-occurrences.ensures ∙ ap₂ (λ (m : Net) (fields : Fields). occurrences m crossing fields) c.net.ensures c.fields.ensures in
-    let is = c.shares-now.ensures ∙ ap₂ (λ (a b : Costs). shares a b c.args.left) (c.one_step_more-here.ensures ∙ ap one_step_more c.occurrence_costs.ensures) c.path_costs-others.ensures in
-    let share = shared t c.requires.prepared.tables c.requires.prepared.runnable p.fields rows c.requires.prepared.filled (length c.args.self.now.steps.items) crossing c.args.rest.now c.args.left os c.shares-now.result c.requires.cheap met is in
+    let met = c.as_slice-occurrences.ensures.value ∙ c.in_ok-occurrences.ensures
+    ∙ ap₂ (λ (m : Net) (fields : Fields). occurrences m crossing fields) c.net.ensures c.fields.ensures in
+    let is = c.shares-now.ensures ∙ ap₂ (λ (a b : Costs). shares a b c.args.left)
+    (c.one_step_more-here.ensures ∙ ap one_step_more c.occurrence_costs.ensures) c.path_costs-others.ensures in
+    let share = shared t c.requires.prepared.tables c.requires.prepared.runnable p.fields rows
+    c.requires.prepared.filled (length c.args.self.now.steps.items) crossing c.args.rest.now c.args.left os
+    c.shares-now.result c.requires.cheap met is in
     let e = c.in_ok-cross.ensures in
     record {
       there = subst (λ (ys : List Pending). AllByRecursion (IsThere net n) ys) (sym e.pending) share.there;
       waiting = e.waiting;
-      few = omega (arith, ap length e.steps, length-append c.args.self.now.steps.items (Cross 1 c.args.number (occurrence_choices os) ∷ []), ap (total_cost rows net n) e.pending, share.same, c.requires.cheap);
+      few = omega (
+        arith,
+        ap length e.steps,
+        length-append c.args.self.now.steps.items
+            (Cross 1 c.args.number (occurrence_choices os) ∷ []),
+        ap (total_cost rows net n) e.pending,
+        share.same,
+        c.requires.cheap,
+      );
     }
 
 pub returns-clause-number : goal.returns-clause-number
@@ -72,11 +92,23 @@ returns-clause-number c =
     let rows = c.args.costs.now.table in
     let crossing = c.args.crossing.now in
     let os = c.as_slice-occurrences.result.now in
-    let met = c.as_slice-occurrences.ensures.value ∙ c.in_ok-occurrences.ensures ∙ ap₂ (λ (m : Net) (fields : Fields). occurrences m crossing fields) c.net.ensures c.fields.ensures in
-    let is = c.shares-now.ensures ∙ ap₂ (λ (a b : Costs). shares a b c.args.left) (c.one_step_more-here.ensures ∙ ap one_step_more c.occurrence_costs.ensures) c.path_costs-others.ensures in
-    let share = shared t c.requires.prepared.tables c.requires.prepared.runnable p.fields rows c.requires.prepared.filled (length c.args.self.now.steps.items) crossing c.args.rest.now c.args.left os c.shares-now.result c.requires.cheap met is in
+    let met = c.as_slice-occurrences.ensures.value ∙ c.in_ok-occurrences.ensures
+    ∙ ap₂ (λ (m : Net) (fields : Fields). occurrences m crossing fields) c.net.ensures c.fields.ensures in
+    let is = c.shares-now.ensures ∙ ap₂ (λ (a b : Costs). shares a b c.args.left)
+    (c.one_step_more-here.ensures ∙ ap one_step_more c.occurrence_costs.ensures) c.path_costs-others.ensures in
+    let share = shared t c.requires.prepared.tables c.requires.prepared.runnable p.fields rows
+    c.requires.prepared.filled (length c.args.self.now.steps.items) crossing c.args.rest.now c.args.left os
+    c.shares-now.result c.requires.cheap met is in
     let e = c.in_ok-cross.ensures in
-    omega (arith, c.in_ok-finish.ensures.number, ap length e.steps, length-append c.args.self.now.steps.items (Cross 1 c.args.number (occurrence_choices os) ∷ []), ap (total_cost rows net n) e.pending, share.same)
+    omega (
+      arith,
+      c.in_ok-finish.ensures.number,
+      ap length e.steps,
+      length-append c.args.self.now.steps.items
+          (Cross 1 c.args.number (occurrence_choices os) ∷ []),
+      ap (total_cost rows net n) e.pending,
+      share.same,
+    )
 
 pub returns-clause-way : goal.returns-clause-way
 returns-clause-way c classes coming f at way =
@@ -87,14 +119,28 @@ returns-clause-way c classes coming f at way =
     let rows = c.args.costs.now.table in
     let crossing = c.args.crossing.now in
     let os = c.as_slice-occurrences.result.now in
-    let met = c.as_slice-occurrences.ensures.value ∙ c.in_ok-occurrences.ensures ∙ ap₂ (λ (m : Net) (fields : Fields). occurrences m crossing fields) c.net.ensures c.fields.ensures in
-    let is = c.shares-now.ensures ∙ ap₂ (λ (a b : Costs). shares a b c.args.left) (c.one_step_more-here.ensures ∙ ap one_step_more c.occurrence_costs.ensures) c.path_costs-others.ensures in
-    let share = shared t c.requires.prepared.tables c.requires.prepared.runnable p.fields rows c.requires.prepared.filled (length c.args.self.now.steps.items) crossing c.args.rest.now c.args.left os c.shares-now.result c.requires.cheap met is in
+    let met = c.as_slice-occurrences.ensures.value ∙ c.in_ok-occurrences.ensures
+    ∙ ap₂ (λ (m : Net) (fields : Fields). occurrences m crossing fields) c.net.ensures c.fields.ensures in
+    let is = c.shares-now.ensures ∙ ap₂ (λ (a b : Costs). shares a b c.args.left)
+    (c.one_step_more-here.ensures ∙ ap one_step_more c.occurrence_costs.ensures) c.path_costs-others.ensures in
+    let share = shared t c.requires.prepared.tables c.requires.prepared.runnable p.fields rows
+    c.requires.prepared.filled (length c.args.self.now.steps.items) crossing c.args.rest.now c.args.left os
+    c.shares-now.result c.requires.cheap met is in
     let e = c.in_ok-cross.ensures in
     let now = c.shares-now.result.0 in
     let later = c.shares-now.result.1 in
     let new = c.cross.new.self in
-    let last : new.steps.items ≡ c.args.self.now.steps.items ++ Cross 1 c.args.number (occurrence_choices (occurrences net crossing p.fields)) ∷ [] = e.steps ∙ ap (λ (os : List Occurrence). c.args.self.now.steps.items ++ Cross 1 c.args.number (occurrence_choices os) ∷ []) share.met in
-    let pending : new.plan.pending.items ≡ occurrence_pending rows net n (occurrences net crossing p.fields) now = e.pending ∙ ap (λ (os : List Occurrence). occurrence_pending rows net n os now) share.met in
-    let made = crossed net n rows classes p c.requires.prepared.tables.network crossing c.args.number coming f now c.args.self.now.steps.items new.steps.items at share.crosses last way in
-    (both f now, both_assoc f now later ∙ ap (both f) share.fate, c.in_ok-finish.ensures.way classes coming (both f now) (subst (λ (ys : List Pending). UnderWay net n classes p coming (both f now) new.steps.items ys) (sym pending) made))
+    let last : new.steps.items ≡ c.args.self.now.steps.items
+    ++ Cross 1 c.args.number (occurrence_choices (occurrences net crossing p.fields)) ∷ [] = e.steps
+    ∙ ap (λ (os : List Occurrence). c.args.self.now.steps.items ++ Cross 1 c.args.number (occurrence_choices os)
+    ∷ []) share.met in
+    let pending : new.plan.pending.items ≡ occurrence_pending rows net n (occurrences net crossing p.fields) now =
+    e.pending ∙ ap (λ (os : List Occurrence). occurrence_pending rows net n os now) share.met in
+    let made = crossed net n rows classes p c.requires.prepared.tables.network crossing c.args.number coming f now
+    c.args.self.now.steps.items new.steps.items at share.crosses last way in (
+      both f now,
+      both_assoc f now later ∙ ap (both f) share.fate,
+      c.in_ok-finish.ensures.way classes coming (both f now)
+          (subst (λ (ys : List Pending). UnderWay net n classes p coming (both f now) new.steps.items ys) (sym pending)
+          made),
+    )

@@ -9,4 +9,6 @@ use Rattle.fx_store.proofs.bounded.BoundedStoreFlowStore.len.Goals as goal
 pub returns-clause-len : goal.returns-clause-len
 returns-clause-len c =
     let es = c.self.inside.recent.entries in
-    rw (← c.self.view_is) (c.len.ensures.len ∙ sym (len_is es (subst (λ (e : Key → Key → Bool). IsDistinct e (keys_of es)) same_tests c.len.ensures.valid.0)))
+    rw (← c.self.view_is) (c.len.ensures.len
+    ∙ sym (len_is es (subst (λ (e : Key → Key → Bool). IsDistinct e (keys_of es)) same_tests
+    c.len.ensures.valid.0)))

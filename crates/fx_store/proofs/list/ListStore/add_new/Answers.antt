@@ -14,7 +14,8 @@ invariant_of-self-in-Ok c =
     let k = c.args.key in
     let none : counts_at es k ≡ None = ap (λ (xs : List Entry). counts_at xs k) c.self.view_is ∙ c.requires in
     let put = rw c.copy.ensures at c.in_ok-insert.ensures.updates.0 in
-    kept_alone (flows_of es) (flows_of c.insert-2.new.self.entries) k c.args.counts None c.self.inside.order.keys c.insert.new.self.keys
+    kept_alone (flows_of es) (flows_of c.insert-2.new.self.entries) k c.args.counts None c.self.inside.order.keys
+    c.insert.new.self.keys
     (adds_new es c.insert-2.new.self.entries k c.args.counts none c.in-Ok.ensures.updates.0) refl c.self.invariant put
 
 pub invariant_of-self-in-Err : goal.invariant_of-self-in-Err
@@ -25,10 +26,13 @@ invariant_of-self-in-Err c =
     let put = rw c.copy.ensures at c.in_ok-insert.ensures.updates.0 in
     let taken = rw (ap (λ (p : Key × Counts). p.0) c.in-Err.ensures.value_returned) at c.remove.ensures.updates.0 in
     subst (λ (xs : List Entry). AreKeysOf (flows_of xs) c.remove.new.self.keys) (sym c.in-Err.ensures.err)
-    (kept_back (flows_of es) k c.self.inside.order.keys c.insert.new.self.keys c.remove.new.self.keys c.self.invariant (counted k es ∙ none) put taken)
+    (kept_back (flows_of es) k c.self.inside.order.keys c.insert.new.self.keys c.remove.new.self.keys c.self.invariant
+    (counted k es ∙ none) put taken)
 
 pub returns-in-Ok-clause-ok : goal.returns-in-Ok-clause-ok
 returns-in-Ok-clause-ok c =
     let es = c.self.inside.flows.entries in
-    let none : counts_at es c.args.key ≡ None = ap (λ (xs : List Entry). counts_at xs c.args.key) c.self.view_is ∙ c.requires in
-    rw (← c.self.view_is) (adds_new es c.insert-2.new.self.entries c.args.key c.args.counts none c.in-Ok.ensures.updates.0)
+    let none : counts_at es c.args.key ≡ None = ap (λ (xs : List Entry). counts_at xs c.args.key) c.self.view_is
+    ∙ c.requires in
+    rw (← c.self.view_is) (adds_new es c.insert-2.new.self.entries c.args.key c.args.counts none
+    c.in-Ok.ensures.updates.0)

@@ -10,4 +10,6 @@ use Rattle.fx_store.proofs.list.ListStore.new.Goals as goal
 
 pub invariant_of-result : goal.invariant_of-result
 invariant_of-result c q =
-    ap (λ (ks : List Key). list_any (eq_by_cmp key_cmp q) ks) c.new.ensures.empty ∙ sym (ap (λ (es : List Entry). contains_key (flows_of es) q) c.with_hasher.ensures.empty ∙ ap is_some (get-empty {X = Counts} key_cmp q))
+    ap (λ (ks : List Key). list_any (eq_by_cmp key_cmp q) ks) c.new.ensures.empty
+    ∙ sym (ap (λ (es : List Entry). contains_key (flows_of es) q) c.with_hasher.ensures.empty
+    ∙ ap is_some (get-empty {X = Counts} key_cmp q))

@@ -18,13 +18,21 @@ invariant_of-self c =
 
 pub returns-in_err-add_new-in-None-clause-held : goal.returns-in_err-add_new-in-None-clause-held
 returns-in_err-add_new-in-None-clause-held c =
-    rw (← c.self.view_is, ← c.new-key.ensures) (not_counted c.new-key.result c.self.inside.flows.entries (sym c.in-None.ensures.value))
+    rw (← c.self.view_is, ← c.new-key.ensures)
+    (not_counted c.new-key.result c.self.inside.flows.entries (sym c.in-None.ensures.value))
 
 pub returns-clause-ok : goal.returns-clause-ok
 returns-clause-ok c = elim c.match-get_mut.branch [
   | in-Some w ↦
       let es = c.self.inside.flows.entries in
       let more = w.add.ensures ∙ ap (λ (o : Option Counts). with_more o c.args.counts) w.in-Some.ensures.value in
-      rw (w.self-is, ← c.self.view_is, ← c.new-key.ensures) (adds_more es (c.get_mut.follows.lender w.add.result).entries c.new-key.result c.args.counts w.add.result more ((c.get_mut.follows.holds w.add.result).3 (sym (ap is_some w.in-Some.ensures.value))).0)
-  | in-None+in_ok-add_new-in-None w ↦ rw (w.self-is, ← c.self.view_is, ← c.new-key.ensures, ← c.get_mut.follows.holds-at-none) w.in_ok-add_new-in-None.ensures.ok
+      rw (w.self-is, ← c.self.view_is, ← c.new-key.ensures)
+      (adds_more es (c.get_mut.follows.lender w.add.result).entries c.new-key.result c.args.counts w.add.result more
+      ((c.get_mut.follows.holds w.add.result).3 (sym (ap is_some w.in-Some.ensures.value))).0)
+  | in-None+in_ok-add_new-in-None w ↦ rw (
+    w.self-is,
+    ← c.self.view_is,
+    ← c.new-key.ensures,
+    ← c.get_mut.follows.holds-at-none,
+  ) w.in_ok-add_new-in-None.ensures.ok
 ]

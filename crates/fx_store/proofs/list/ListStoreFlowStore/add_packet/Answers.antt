@@ -18,7 +18,8 @@ invariant_of-self c =
 
 pub returns-in_err-add_new-in-None-clause-held : goal.returns-in_err-add_new-in-None-clause-held
 returns-in_err-add_new-in-None-clause-held c =
-    rw (← c.self.view_is, ← c.become_of_packet.ensures) (not_counted c.become_of_packet.new.self c.self.inside.flows.entries (sym c.in-None.ensures.value))
+    rw (← c.self.view_is, ← c.become_of_packet.ensures)
+    (not_counted c.become_of_packet.new.self c.self.inside.flows.entries (sym c.in-None.ensures.value))
 
 pub returns-clause-ok : goal.returns-clause-ok
 returns-clause-ok c = elim c.match-get_mut.branch [
@@ -26,7 +27,15 @@ returns-clause-ok c = elim c.match-get_mut.branch [
       let es = c.self.inside.flows.entries in
       let k = c.become_of_packet.new.self in
       let more = w.add.ensures ∙ ap (λ (o : Option Counts). with_more o c.args.counts) w.in-Some.ensures.value in
-      rw (w.self-is, ← c.self.view_is, ← c.become_of_packet.ensures) (adds_more es (c.get_mut.follows.lender w.add.result).entries k c.args.counts w.add.result more ((c.get_mut.follows.holds w.add.result).3 (sym (ap is_some w.in-Some.ensures.value))).0)
+      rw (w.self-is, ← c.self.view_is, ← c.become_of_packet.ensures)
+      (adds_more es (c.get_mut.follows.lender w.add.result).entries k c.args.counts w.add.result more
+      ((c.get_mut.follows.holds w.add.result).3 (sym (ap is_some w.in-Some.ensures.value))).0)
   | in-None+in_ok-add_new-in-None w ↦
-      rw (w.self-is, ← c.self.view_is, ← c.become_of_packet.ensures, ← w.copy-key.ensures, ← c.get_mut.follows.holds-at-none) w.in_ok-add_new-in-None.ensures.ok
+      rw (
+        w.self-is,
+        ← c.self.view_is,
+        ← c.become_of_packet.ensures,
+        ← w.copy-key.ensures,
+        ← c.get_mut.follows.holds-at-none,
+      ) w.in_ok-add_new-in-None.ensures.ok
 ]

@@ -9,4 +9,5 @@ use Rattle.fx_store.proofs.list.ListStoreFlowStore.len.Goals as goal
 pub returns : goal.returns
 returns c =
     let es = c.self.inside.flows.entries in
-    rw (← c.self.view_is) (c.len.ensures.len ∙ sym (len_is es (subst (λ (e : Key → Key → Bool). IsDistinct e (keys_of es)) same_tests c.len.ensures.unique)))
+    rw (← c.self.view_is) (c.len.ensures.len
+    ∙ sym (len_is es (subst (λ (e : Key → Key → Bool). IsDistinct e (keys_of es)) same_tests c.len.ensures.unique)))

@@ -7,4 +7,5 @@ pub returns : goal.returns
 returns c =
     let places = subst (ArePlacesOfLinks c.self.inside.places) c.self.view_is c.self.invariant in
     c.copied.ensures
-    ∙ (c.get.ensures.value ∙ place_of_start c.self.inside.places c.args.self.now c.in_ok-start.start c.args.device.now c.args.exporting_process.now c.args.destination.now places c.in_ok-start.ensures)
+    ∙ (c.get.ensures.value ∙ place_of_start c.self.inside.places c.args.self.now c.in_ok-start.start c.args.device.now
+    c.args.exporting_process.now c.args.destination.now places c.in_ok-start.ensures)

@@ -6,7 +6,8 @@ use Rattle.fx_wire.proofs.set.SetsIterator.next.Goals as goal
 
 pub returns-then-is_empty-clause-steps : goal.returns-then-is_empty-clause-steps
 returns-then-is_empty-clause-steps c =
-    let none = sym c.self.view_is ∙ ap (λ bs. sets_or_none (sets_of bs)) (no_octets _ _ c.is_empty.ensures c.if-is_empty.true) ∙ ap sets_or_none sets_of-none in
+    let none = sym c.self.view_is ∙ ap (λ bs. sets_or_none (sets_of bs))
+    (no_octets _ _ c.is_empty.ensures c.if-is_empty.true) ∙ ap sets_or_none sets_of-none in
     (none, none)
 
 pub invariant_of-self : goal.invariant_of-self
@@ -16,7 +17,8 @@ invariant_of-self c =
 
 pub unreachable-requires : goal.unreachable-requires
 unreachable-requires c =
-    let r = sets_of-refused c.self.inside.rest.now _ (some_octets _ _ c.is_empty.ensures c.if-is_empty.false) c.in-Err.ensures in
+    let r = sets_of-refused c.self.inside.rest.now _ (some_octets _ _ c.is_empty.ensures c.if-is_empty.false)
+    c.in-Err.ensures in
     let k = sym (ap is_ok r) ∙ c.self.invariant in
     cc k
 
