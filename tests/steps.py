@@ -39,6 +39,7 @@ def of_texts(name, *arguments, **more):
 STEPS = [
     of_texts("definitions", "--compare"),
     of_texts("clauses"),
+    of_texts("line_width"),
     of_texts("crates"),
     of_texts("callers"),
     of_texts("refusals", "--compare"),

@@ -29,8 +29,8 @@ pub record IsMeteredText (tallied : Totals) (other malformed : ℕ) (text : List
   pub unassigned : totals.unassigned ≡ tallied.unassigned
   pub text_is : text ≡ totals_text totals ++ skipped_line other malformed
 
--- ---- a run in a network and traffic over a capture, given the octets that its source has left, if known, and the number of
--- calls made of that source
+-- ---- a run in a network and traffic over a capture, given the octets that its source has left, if known, and the
+-- number of calls made of that source
 
 -- the capture's reader starts after the file header; the run yields these totals and these numbers of skipped frames
 pub record IsRun (network : NetworkDocument) (classes : List Class) (left : Option (List ℕ)) (asked : ℕ)

@@ -98,7 +98,8 @@ numbered_at P xs (suc n) x h e = all_at P xs n x h e
 pub leavings_can_be_sent : (l : Leaver) (held now : List (List Record)) → Leave l held now → AreSent held
     → IsSent l.flow × AreSent now
 leavings_can_be_sent l held now leave sent =
-    let all : AllByRecursion IsSent leave.rs = all_at (AllByRecursion IsSent) held l.holder leave.rs sent leave.there in (
+    let all : AllByRecursion IsSent leave.rs =
+    all_at (AllByRecursion IsSent) held l.holder leave.rs sent leave.there in (
       numbered_at IsSent leave.rs leave.number l.flow all leave.flow_is,
       subst AreSent (sym leave.now_is) (all_set (AllByRecursion IsSent) held l.holder (without leave.rs leave.number)
           sent (all_without IsSent leave.rs leave.number all)),

@@ -28,10 +28,11 @@ uncut_by region other none h =
     elim (is_empty (common region other)) as (λ t. is_empty (common region other) ≡ t
     → cond t Nothing (cond (is_within region other) Whole Part) ≡ Part → ⊥) [
       | true ↦ λ e k. absurd (cc)
-      | false ↦ λ e k. elim (is_within region other) as (λ t. is_within region other ≡ t → cond t Whole Part ≡ Part → ⊥) [
-        | true ↦ λ w m. absurd (cc)
-        | false ↦ λ w m. split e w
-      ] refl k
+      | false ↦ λ e k. elim (is_within region other)
+          as (λ t. is_within region other ≡ t → cond t Whole Part ≡ Part → ⊥) [
+            | true ↦ λ w m. absurd (cc)
+            | false ↦ λ w m. split e w
+          ] refl k
     ] refl h
   where
     split : is_empty (common region other) ≡ false → is_within region other ≡ false → ⊥

@@ -239,7 +239,8 @@ entry_in e fields all h =
     record {
       low = λ axis. subst (λ n. n ≤ field fields axis)
           (sym (value_at (λ axis. if same_axis axis e.axis then entry_low e else 0) axis))
-          (elim (same_axis axis e.axis) as (λ t. same_axis axis e.axis ≡ t → cond t (entry_low e) 0 ≤ field fields axis) [
+          (elim (same_axis axis e.axis)
+          as (λ t. same_axis axis e.axis ≡ t → cond t (entry_low e) 0 ≤ field fields axis) [
             | true ↦ λ same. subst (λ a. entry_low e ≤ field fields a) (sym (axis_is axis e.axis same)) range.0
             | false ↦ λ same. omega arith
           ] refl);

@@ -92,7 +92,8 @@ module _ (named : Axis → Bool) where
       → IfSome (option_and_then region_of (process_named processes name)) (RegionNamesOnly named)
   found_names [] name only = tt
   found_names (p ∷ ps) name only = elim (bytes_eq p.name name)
-      as (λ t. IfSome (option_and_then region_of (if t then Some p else process_named ps name)) (RegionNamesOnly named)) [
+      as (λ t. IfSome (option_and_then region_of (if t then Some p else process_named ps name))
+      (RegionNamesOnly named)) [
         | true ↦ region_names p (all_head (SelectorsNameOnly named) p ps only)
         | false ↦ found_names ps name (all_tail (SelectorsNameOnly named) p ps only)
       ]

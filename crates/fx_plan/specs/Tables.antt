@@ -44,7 +44,8 @@ exporter_of links device process = record {
 abbrev pub exporters_of : List NamedLink → List NetworkDevice → List machine.Exporter
 exporters_of links devices = flat_map (λ x. map (exporter_of links x.name) x.config.exporting_processes) devices
 
--- ---- holders of records: all caches, then all aggregations, with the indices of the exporting processes that they name
+-- ---- holders of records: all caches, then all aggregations, with the indices of the exporting processes that they
+-- name
 
 abbrev pub holder_with : List Label → List ℕ → Layout → List (List ℕ) → machine.Holder
 holder_with exporting device layout names = record { layout = layout; exporters = map (place exporting device) names }

@@ -23,7 +23,8 @@ returns-in_err-has_counters c =
 
 pub returns : goal.returns
 returns c =
-    let has_counters_none = rw (c.as_slice-fields.ensures, c.in_ok-fields.ensures.1) at c.in_ok-has_counters.ensures in (
+    let has_counters_none =
+    rw (c.as_slice-fields.ensures, c.in_ok-fields.ensures.1) at c.in_ok-has_counters.ensures in (
       no_rows _ _ (c.in_ok-object_of.ensures (cache_layout_rows c.args.immediate) refl)
           (none_more _ _ c.in_ok-fields.ensures.0 (none_more _ _ has_counters_none.0 refl)),
       rw (c.layout_of.ensures, c.as_slice-fields.ensures, c.in_ok-fields.ensures.1) refl,

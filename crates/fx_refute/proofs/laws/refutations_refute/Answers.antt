@@ -14,7 +14,8 @@ use Rattle.fx_refute.proofs.laws.refutations_refute.Goals as goal
 
 one_fits : (net : Net) (p : Packet) → p.octets < 2 ^ 64 → SumsFit net.report_layout (p ∷ [])
 one_fits net p small key =
-    elim (same_key (key_of net.report_layout p.fields) key) as (λ b. IfSome (cond b (Some (one_packet p)) None) IsBelow) [
+    elim (same_key (key_of net.report_layout p.fields) key)
+    as (λ b. IfSome (cond b (Some (one_packet p)) None) IsBelow) [
       | true ↦ let one : 1 < 2 ^ 64 = omega arith in (one, small)
       | false ↦ tt
     ]
