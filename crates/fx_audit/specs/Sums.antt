@@ -5,7 +5,7 @@ use Rattle.fx_base.specs.Lines.{Lines}
 use Rattle.fx_collect.specs.Report.{KeysAscend}
 use Rattle.fx_layout.specs.Keys.{Layout}
 use Rattle.fx_plan.specs.Tables.{net_of}
-use Rattle.fx_sums.specs.SumReading.{MayGive, sum_of_texts}
+use Rattle.fx_sums.specs.SumReading.{MayReadTexts, sum_of_texts}
 use Rattle.fx_sums.specs.SumText.{noted_text}
 use Rattle.fx_sums.specs.Sums.{IsSumBut, Sum, no_sum}
 use Rattle.fx_topology.specs.declared.network.NetworkDocument.{NetworkDocument}
@@ -22,7 +22,7 @@ pub record IsTextOfSum (sum : Sum) (text : List ℕ) : Type 0 where
 -- the sum of the texts of totals that a reader's lines hold, under a layout's keys
 pub record IsSummedUnder (layout : Layout) (lines : Lines) (text : List ℕ) : Type 0 where
   pub sum : Sum
-  pub sum_is : MayGive (sum_of_texts (no_sum layout)) lines (Ok sum)
+  pub sum_is : MayReadTexts (sum_of_texts (no_sum layout)) lines (Ok sum)
   pub text_is : IsTextOfSum sum text
 
 -- the same under the report of the network that a document declares
@@ -33,7 +33,7 @@ pub record IsSummed (network_octets : List ℕ) (lines : Lines) (text : List ℕ
 
 -- a line isn't well-formed as a line of totals under a layout's keys
 abbrev pub IsRefusedTotals : Layout → Lines → Fault → Type 0
-IsRefusedTotals layout lines e = MayGive (sum_of_texts (no_sum layout)) lines (Err e)
+IsRefusedTotals layout lines e = MayReadTexts (sum_of_texts (no_sum layout)) lines (Err e)
 
 -- the first refusal of a sum: that of the network's document, otherwise that of a line
 abbrev pub IsRefusedSum : List ℕ → Lines → Fault → Type 0

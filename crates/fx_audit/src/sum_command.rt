@@ -3,7 +3,7 @@ ghost use Rattle.std.specs.Prelude.{◌≡◌, ◌⊎◌, Ok, Err, IfOk, IfErr, 
 ghost use Rattle.fx_base.specs.Device.{IsWriteFault, MayHaveLeft};
 ghost use Rattle.fx_base.specs.Fault.{IsMemory};
 ghost use Rattle.fx_base.specs.Lines.{Fails};
-ghost use Rattle.fx_sums.specs.SumReading.{MayGive, Refuses, sum_of_texts};
+ghost use Rattle.fx_sums.specs.SumReading.{MayReadTexts, RefusesTexts, sum_of_texts};
 ghost use Rattle.fx_sums.specs.Sums.{no_sum};
 ghost use Rattle.fx_checker.specs.Documents.{CannotRead, IfNetworkRefused};
 ghost use Rattle.fx_checker.specs.Outputs.{AnswersWith, FailsQuietly, Prints};
@@ -40,9 +40,9 @@ fn add_lent<R: Source, E: Explainer>(
     texts: &mut LineReader<R>,
     explainer: &mut E,
 ) -> Result<(), Fault>
-    ensures ok { OnOk result (MayGive (sum_of_texts sum.old) texts.old (Ok sum.new)) }
+    ensures ok { OnOk result (MayReadTexts (sum_of_texts sum.old) texts.old (Ok sum.new)) }
     ensures err { IfErr result (λ e. IsMemory e
-        ⊎ Refuses (sum_of_texts sum.old) texts.old texts.new e) }
+        ⊎ RefusesTexts (sum_of_texts sum.old) texts.old texts.new e) }
 {
     let added = sum.add_texts(texts);
     if let Err(fault) = &added {

@@ -16,7 +16,7 @@ use crate::explaining::explain_bytes;
 use crate::files::open;
 use crate::kept::KeptSource;
 use crate::link_files::LinkFiles;
-use crate::notes::Notes;
+use crate::notes::Extras;
 use crate::progress::{ProgressSearch, ProgressSource};
 use crate::seeds::seed_at_random;
 use crate::sentences::Sentences;
@@ -42,7 +42,7 @@ fn open_texts<R: AllocGlobal + Files>(
     network: &str,
     traffic: &str,
     third: &str,
-    notes: &mut Notes<'_>,
+    notes: &mut Extras<'_>,
 ) -> Result<Texts<R::File>, Fault>
     ensures ok { IfOk result (λ texts. IsAtBeginning texts.2) }
     ensures err { IfErr result (λ e. (e ≡ fault_at failed_read places.None)
@@ -62,7 +62,7 @@ fn replay<R: AllocGlobal + Files + RandomSource, S: Sink>(
     network: &str,
     traffic: &str,
     run: &str,
-    notes: &mut Notes<'_>,
+    notes: &mut Extras<'_>,
     sink: &mut S,
 ) -> Result<Answer, Fault>
     ensures answers { AnswersWith S.taken S.failed IsReplayOutput sink.old sink.new result }
@@ -91,7 +91,7 @@ fn collect<R: AllocGlobal + Clock + Eprint + Files + RandomSource, S: Sink>(
     rt: &R,
     network: &str,
     stream: &str,
-    notes: &mut Notes<'_>,
+    notes: &mut Extras<'_>,
     sink: &mut S,
 ) -> Result<Answer, Fault>
     ensures answers { AnswersWith S.taken S.failed IsCollectOutput sink.old sink.new result }
@@ -124,7 +124,7 @@ fn check<R: AllocGlobal + Files, S: Sink>(
     network: &str,
     traffic: &str,
     certificate: &str,
-    notes: &mut Notes<'_>,
+    notes: &mut Extras<'_>,
     sink: &mut S,
 ) -> Result<Answer, Fault>
     ensures answers { AnswersWith S.taken S.failed IsCheckOutput sink.old sink.new result }
@@ -154,7 +154,7 @@ fn confirm<R: AllocGlobal + Files, S: Sink>(
     network: &str,
     traffic: &str,
     refutation: &str,
-    notes: &mut Notes<'_>,
+    notes: &mut Extras<'_>,
     sink: &mut S,
 ) -> Result<Answer, Fault>
     ensures answers { AnswersWith S.taken S.failed IsConfirmOutput sink.old sink.new result }
@@ -184,7 +184,7 @@ fn audit<R: AllocGlobal + Clock + Eprint + Files, S: Sink>(
     network: &str,
     traffic: &str,
     limit: u64,
-    notes: &mut Notes<'_>,
+    notes: &mut Extras<'_>,
     sink: &mut S,
 ) -> Result<Answer, Fault>
     ensures answers { AnswersWith S.taken S.failed (IsAuditOutput limit) sink.old sink.new result }
@@ -248,7 +248,7 @@ fn run_onto_files<R: AllocGlobal + Files, N: Source, T: Source, C: Source, Q: So
     traffic: &mut T,
     capture: &mut C,
     schedule: &mut LineReader<Q>,
-    notes: &mut Notes<'_>,
+    notes: &mut Extras<'_>,
     sink: &mut S,
 ) -> Result<Answer, Fault>
     requires { IsAtBeginning schedule.old }
@@ -305,7 +305,7 @@ fn run_capture<R: AllocGlobal + Clock + Eprint + Files + RandomSource, S: Sink>(
     capture: &str,
     schedule: &str,
     links: Option<&str>,
-    notes: &mut Notes<'_>,
+    notes: &mut Extras<'_>,
     sink: &mut S,
 ) -> Result<Answer, Fault>
     ensures answers { AnswersWith S.taken S.failed IsRunOutput sink.old sink.new result }
@@ -358,7 +358,7 @@ fn lint<R: AllocGlobal + Files, S: Sink>(
     rt: &R,
     network: &str,
     traffic: Option<&str>,
-    notes: &mut Notes<'_>,
+    notes: &mut Extras<'_>,
     sink: &mut S,
 ) -> Result<Answer, Fault>
     ensures answers { AnswersWith S.taken S.failed (IsLintOutput (is_some traffic.entry)) sink.old
@@ -387,7 +387,7 @@ fn sum<R: AllocGlobal + Files + RandomSource, S: Sink>(
     rt: &R,
     network: &str,
     totals: &str,
-    notes: &mut Notes<'_>,
+    notes: &mut Extras<'_>,
     sink: &mut S,
 ) -> Result<Answer, Fault>
     ensures answers { AnswersWith S.taken S.failed IsSumOutput sink.old sink.new result }
@@ -422,7 +422,7 @@ fn sum<R: AllocGlobal + Files + RandomSource, S: Sink>(
 pub(crate) fn answer_call<R: AllocGlobal + Clock + Eprint + Files + RandomSource, S: Sink>(
     rt: &R,
     call: &Call,
-    notes: &mut Notes<'_>,
+    notes: &mut Extras<'_>,
     sink: &mut S,
 ) -> Result<Answer, Fault>
     ensures answers { AnswersWith S.taken S.failed (IsCallText call.now) sink.old sink.new result }

@@ -3,7 +3,7 @@ ghost use Rattle.fx_checker.specs.Outputs.{AnswersWith};
 ghost use Rattle.fx_cli.specs.Drawing.{IsDrawingText};
 
 use crate::files::open;
-use crate::notes::Notes;
+use crate::notes::Extras;
 use crate::sentences::{Progressed, Sentences};
 use fx_audit::{Answer, check_explained, confirm_explained, lint_both_explained, lint_explained};
 use fx_base::{Fault, LineReader, Octets, Outside, Sink, Source, read_whole, refusals};
@@ -15,7 +15,7 @@ use std::rt::Files;
 fn open_given<R: Files>(
     rt: &R,
     path: Option<&str>,
-    notes: &mut Notes<'_>,
+    notes: &mut Extras<'_>,
 ) -> Result<Option<Outside<R::File>>, Fault> {
     match path {
         Some(path) => Ok(Some(open(rt, path, notes)?)),
@@ -113,7 +113,7 @@ pub(crate) fn draw<R: AllocGlobal + Files, S: Sink>(
     traffic: Option<&str>,
     answer: Option<&str>,
     class: Option<&str>,
-    notes: &mut Notes<'_>,
+    notes: &mut Extras<'_>,
     sink: &mut S,
 ) -> Result<Answer, Fault>
     ensures { AnswersWith S.taken S.failed IsDrawingText sink.old sink.new result }

@@ -2,7 +2,7 @@
 
 use crate::file_words::{put_bundled_name, put_file_words, put_text_name};
 use crate::gathering::Gathered;
-use crate::notes::Notes;
+use crate::notes::Extras;
 use fx_audit::{Answer, Command};
 use fx_base::{Fault, Place, refusals};
 use fx_command_line::Call;
@@ -97,7 +97,7 @@ pub(crate) fn asked_of(call: Option<&Call>, command: Option<Command>) -> Asked {
 pub(crate) fn explanation_of<R: AllocGlobal + Files>(
     rt: &R,
     call: Option<&Call>,
-    notes: &mut Notes<'_>,
+    notes: &mut Extras<'_>,
     outcome: &Result<Answer, Fault>,
 ) -> Vec<u8> {
     let mut words = Gathered::new(rt.alloc());
@@ -116,7 +116,7 @@ pub(crate) fn explanation_of<R: AllocGlobal + Files>(
 }
 
 /// Writes what a refusal of this number means, and what to do. A JSON object has this as a member of its own.
-fn put_reason_words(number: u16, notes: &Notes<'_>, words: &mut Gathered) {
+fn put_reason_words(number: u16, notes: &Extras<'_>, words: &mut Gathered) {
     if !notes.sentences.gathers_facts() {
         let written = put_reason(words.sink(), number);
         words.note(written);
@@ -124,7 +124,7 @@ fn put_reason_words(number: u16, notes: &Notes<'_>, words: &mut Gathered) {
 }
 
 /// Writes what an answer of yes says.
-fn put_yes_words(asked: Asked, notes: &mut Notes<'_>, words: &mut Gathered) {
+fn put_yes_words(asked: Asked, notes: &mut Extras<'_>, words: &mut Gathered) {
     let sentences = &mut notes.sentences;
     match asked {
         Asked::Check | Asked::Audit => {
@@ -152,7 +152,7 @@ fn put_yes_words(asked: Asked, notes: &mut Notes<'_>, words: &mut Gathered) {
 fn put_no_words<R: AllocGlobal + Files>(
     rt: &R,
     asked: Asked,
-    notes: &mut Notes<'_>,
+    notes: &mut Extras<'_>,
     words: &mut Gathered,
 ) {
     if matches!(asked, Asked::Check | Asked::Confirm) {
@@ -179,7 +179,7 @@ fn put_no_words<R: AllocGlobal + Files>(
 }
 
 /// Writes what a refusal is about: a place of a document, a line or a step of a text, or what is in a stream.
-fn put_refused_words(asked: Asked, notes: &mut Notes<'_>, fault: &Fault, words: &mut Gathered) {
+fn put_refused_words(asked: Asked, notes: &mut Extras<'_>, fault: &Fault, words: &mut Gathered) {
     // A line that is too long can't be printed, and a failed read is no place.
     if fault.number >= refusals::WANT_OF_MEMORY {
         return;

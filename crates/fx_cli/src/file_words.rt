@@ -1,7 +1,7 @@
 //! Sentences that name the file that an answer is about.
 
 use crate::gathering::Gathered;
-use crate::notes::Notes;
+use crate::notes::Extras;
 use crate::sentences::Progressed;
 use fx_base::{Fault, Place, refusals};
 use std::fs;
@@ -48,7 +48,7 @@ fn put_file_name<R: Files>(rt: &R, file: &str, words: &mut Gathered) {
 /// opened, made or read. A document that is refused is named by the explanation of its content instead.
 pub(crate) fn put_file_words<R: Files>(
     rt: &R,
-    notes: &Notes<'_>,
+    notes: &Extras<'_>,
     fault: &Fault,
     words: &mut Gathered,
 ) {
@@ -75,7 +75,7 @@ pub(crate) fn put_file_words<R: Files>(
 }
 
 /// Returns the name of the file whose last read failed: a document, or the file that is read after the documents.
-fn unread_file<'a>(notes: &Notes<'a>) -> &'a str {
+fn unread_file<'a>(notes: &Extras<'a>) -> &'a str {
     let names = &notes.sentences.names;
     match notes.sentences.progressed {
         Progressed::Begun => "",
@@ -87,7 +87,7 @@ fn unread_file<'a>(notes: &Notes<'a>) -> &'a str {
 }
 
 /// Writes the name of the file that contains the last text, or that the text is in a bundle.
-pub(crate) fn put_text_name<R: Files>(rt: &R, notes: &Notes<'_>, words: &mut Gathered) {
+pub(crate) fn put_text_name<R: Files>(rt: &R, notes: &Extras<'_>, words: &mut Gathered) {
     match notes.sentences.command {
         None => put_file_name(rt, notes.sentences.names.last, words),
         Some(_) => words.text(IN_BUNDLE),
@@ -95,7 +95,7 @@ pub(crate) fn put_text_name<R: Files>(rt: &R, notes: &Notes<'_>, words: &mut Gat
 }
 
 /// Writes that the last text is in a bundle, if it is. If it is in a file, its name is already written.
-pub(crate) fn put_bundled_name(notes: &Notes<'_>, words: &mut Gathered) {
+pub(crate) fn put_bundled_name(notes: &Extras<'_>, words: &mut Gathered) {
     if notes.sentences.command.is_some() {
         words.text(IN_BUNDLE);
     }

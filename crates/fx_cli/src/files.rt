@@ -4,7 +4,7 @@ ghost use Rattle.fx_base.specs.Fault.{fault_at};
 ghost use Rattle.fx_base.specs.Refusals.{failed_read, failed_write};
 ghost use Rattle.fx_base.specs.declared.fault.Place.TheVariants as places;
 
-use crate::notes::{FailedFile, Notes};
+use crate::notes::{Extras, FailedFile};
 use fx_base::{Fault, Outside, refusals};
 use std::fs;
 use std::rt::Files;
@@ -12,7 +12,7 @@ use std::rt::Files;
 /// Opens a file for reading from its beginning.
 ///
 /// Fails with 901, at no place, if it can't be opened, and notes which file it is and why.
-pub fn open<R: Files>(rt: &R, path: &str, notes: &mut Notes<'_>) -> Result<Outside<R::File>, Fault>
+pub fn open<R: Files>(rt: &R, path: &str, notes: &mut Extras<'_>) -> Result<Outside<R::File>, Fault>
     ensures { IfErr result (λ e. e ≡ fault_at failed_read places.None) }
 {
     match fs::open(rt, path) {

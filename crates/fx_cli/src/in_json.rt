@@ -14,7 +14,7 @@ use crate::argument_errors::finish_arguments;
 use crate::commands::answer_call;
 use crate::explained_answer::{asked_of, explanation_of};
 use crate::file_names::{BUNDLE, names_of};
-use crate::notes::Notes;
+use crate::notes::Extras;
 use crate::running::answer_input;
 use crate::sentences::{Wanted, wanted_of};
 use fx_audit::Answer;
@@ -58,7 +58,7 @@ fn refusal_in<'a>(
 fn put_object<R: AllocGlobal + Files, S: Sink>(
     rt: &R,
     call: Option<&Call>,
-    notes: &mut Notes<'_>,
+    notes: &mut Extras<'_>,
     outcome: &Result<Answer, Fault>,
     code: u8,
     text: &[u8],
@@ -109,7 +109,7 @@ fn put_object<R: AllocGlobal + Files, S: Sink>(
 fn put_buffered<R: AllocGlobal + Files, S: Sink>(
     rt: &R,
     call: Option<&Call>,
-    notes: &mut Notes<'_>,
+    notes: &mut Extras<'_>,
     outcome: &Result<Answer, Fault>,
     text: &mut TextBuffer,
     sink: &mut S,
@@ -138,7 +138,7 @@ fn input_in_json<R: AllocGlobal + Files + Input + RandomSource, S: Sink>(rt: &R,
         sink.new result }
     ensures exit { IsExitStatus result }
 {
-    let mut notes = Notes::new(rt.alloc(), Wanted::Answer, BUNDLE, false);
+    let mut notes = Extras::new(rt.alloc(), Wanted::Answer, BUNDLE, false);
     notes.sentences.gather_facts();
     let mut text = TextBuffer::new(rt.alloc());
     let answer = answer_input(rt, &mut notes, &mut text);
@@ -156,7 +156,7 @@ fn call_in_json<R: AllocGlobal + Clock + Eprint + Files + RandomSource, S: Sink>
         sink.old sink.new result }
     ensures exit { IsExitStatus result }
 {
-    let mut notes = Notes::new(rt.alloc(), wanted_of(call), names_of(call), progress);
+    let mut notes = Extras::new(rt.alloc(), wanted_of(call), names_of(call), progress);
     notes.sentences.gather_facts();
     let mut text = TextBuffer::new(rt.alloc());
     let answer = answer_call(rt, call, &mut notes, &mut text);

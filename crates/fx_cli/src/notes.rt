@@ -70,7 +70,7 @@ impl FailedFile {
 }
 
 /// What a command is asked to print besides its answer.
-pub struct Notes<'a> {
+pub struct Extras<'a> {
     alloc: Global,
     progress: bool,
     /// The file that couldn't be opened, made or written.
@@ -79,7 +79,7 @@ pub struct Notes<'a> {
     pub(crate) sentences: Sentences<'a>,
 }
 
-impl Drop for Notes<'_> {
+impl Drop for Extras<'_> {
     /// Drops its parts here, so that each drop elsewhere is one call.
     fn drop(self) {
         let Self {
@@ -108,16 +108,16 @@ fn sentence(alloc: Global, path: &str, error: io::Error) -> Result<String, Alloc
     format!(in alloc; "{name}: {error}{hint}")
 }
 
-impl<'a> Notes<'a> {
+impl<'a> Extras<'a> {
     /// Returns empty notes for a command over files of these names. Progress is printed only if `progress` is true.
     pub(crate) fn new(
         alloc: Global,
         wanted: Wanted,
         names: FileNames<'a>,
         progress: bool,
-    ) -> Notes<'a> {
+    ) -> Extras<'a> {
         let sentences = Sentences::new(alloc, wanted, names);
-        Notes {
+        Extras {
             alloc,
             progress,
             failed_file: FailedFile::new(alloc, sentences.are_wanted()),

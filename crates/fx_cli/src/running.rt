@@ -18,7 +18,7 @@ use crate::commands::answer_call;
 use crate::explained_answer::explanation_of;
 use crate::file_names::{BUNDLE, names_of};
 use crate::in_json::answer_in_json;
-use crate::notes::Notes;
+use crate::notes::Extras;
 use crate::option_flag::{take_flag, take_format};
 use crate::seeds::seed_at_random;
 use crate::sentences::{Wanted, wanted_of};
@@ -35,7 +35,7 @@ use std::rt::{Clock, Env, Files};
 /// Answers the bundle on standard input.
 pub(crate) fn answer_input<R: AllocGlobal + Input + RandomSource, S: Sink>(
     rt: &R,
-    notes: &mut Notes<'_>,
+    notes: &mut Extras<'_>,
     sink: &mut S,
 ) -> Result<Answer, Fault>
     ensures answers { AnswersWith S.taken S.failed IsBundleOutput sink.old sink.new result }
@@ -57,7 +57,7 @@ fn finish_input<R: AllocGlobal + Input + RandomSource, S: Sink>(rt: &R, sink: &m
         (HasFailedToWrite S.taken S.failed sink.new) result }
     ensures exit { IsExitStatus result }
 {
-    let mut notes = Notes::new(rt.alloc(), Wanted::Nothing, BUNDLE, false);
+    let mut notes = Extras::new(rt.alloc(), Wanted::Nothing, BUNDLE, false);
     let answer = answer_input(rt, &mut notes, sink);
     finish(&answer, sink)
 }
@@ -75,7 +75,7 @@ fn finish_call<R: AllocGlobal + Clock + Eprint + Files + RandomSource, S: Sink>(
         (HasFailedToWrite S.taken S.failed sink.new) result }
     ensures exit { IsExitStatus result }
 {
-    let mut notes = Notes::new(rt.alloc(), Wanted::Nothing, names_of(call), progress);
+    let mut notes = Extras::new(rt.alloc(), Wanted::Nothing, names_of(call), progress);
     let answer = answer_call(rt, call, &mut notes, sink);
     finish(&answer, sink)
 }
@@ -119,7 +119,7 @@ fn explain_input<R: AllocGlobal + Files + Input + RandomSource, S: Sink>(rt: &R,
         (HasFailedExplained S.taken S.failed sink.new) result }
     ensures exit { IsExitStatus result }
 {
-    let mut notes = Notes::new(rt.alloc(), Wanted::Answer, BUNDLE, false);
+    let mut notes = Extras::new(rt.alloc(), Wanted::Answer, BUNDLE, false);
     let answer = answer_input(rt, &mut notes, sink);
     let explanation = explanation_of(rt, None, &mut notes, &answer);
     finish_with(&answer, explanation.as_slice(), sink)
@@ -138,7 +138,7 @@ fn explain_call<R: AllocGlobal + Clock + Eprint + Files + RandomSource, S: Sink>
         (HasFailedExplained S.taken S.failed sink.new) result }
     ensures exit { IsExitStatus result }
 {
-    let mut notes = Notes::new(rt.alloc(), wanted_of(call), names_of(call), progress);
+    let mut notes = Extras::new(rt.alloc(), wanted_of(call), names_of(call), progress);
     let answer = answer_call(rt, call, &mut notes, sink);
     let explanation = explanation_of(rt, Some(call), &mut notes, &answer);
     finish_with(&answer, explanation.as_slice(), sink)

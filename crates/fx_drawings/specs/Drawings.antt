@@ -8,9 +8,9 @@ use Rattle.fx_base.specs.Fault.{shown}
 abbrev pub is_plain : ℕ → Bool
 is_plain b = b == 10 || shown b == b
 
-abbrev pub IsPlainText : List ℕ → Type 0
-IsPlainText text = list_all is_plain text ≡ true
+abbrev pub IsPlainDrawing : List ℕ → Type 0
+IsPlainDrawing text = list_all is_plain text ≡ true
 
 -- such a text follows what was written before
 abbrev pub WritesDrawing : Option (List ℕ) → Option (List ℕ) → Type 0
-WritesDrawing old new = (text : List ℕ) × IsPlainText text × Writes old new text
+WritesDrawing old new = (text : List ℕ) × IsPlainDrawing text × Writes old new text

@@ -2,10 +2,10 @@
 ghost use Rattle.std.specs.Prelude.{IfErr};
 ghost use Rattle.fx_base.specs.Fault.{IsMemory};
 
-use crate::documents::Documents;
+use crate::documents::DrawnDocuments;
 use crate::dot::Dot;
 use crate::lines::next_line;
-use crate::marks::{Mark, draw_metering, metering_cache};
+use crate::marks::{EdgeMark, draw_metering, metering_cache};
 use crate::nodes;
 use crate::traffic::Classes;
 use crate::ways::Ways;
@@ -16,7 +16,7 @@ use std::alloc::{AllocError, Global};
 
 /// A place where, by a leaf, the packets of a path are counted.
 #[derive(Clone, Copy, PartialEq, Eq, Drop)]
-struct Place {
+struct CountingPlace {
     class: u64,
     path: u64,
     crossing: u64,
@@ -26,16 +26,16 @@ struct Place {
 
 /// The places in a certificate's leaves, in order, each once per path.
 #[derive(Drop)]
-struct Places {
+struct CountingPlaces {
     class: u64,
     path: u64,
-    places: Vec<Place>,
+    places: Vec<CountingPlace>,
     /// The index of the current path's first place.
     begun: usize,
 }
 
 /// Returns whether a place is among these, from index `begun` on.
-fn is_among(places: &[Place], begun: usize, place: &Place) -> bool {
+fn is_among(places: &[CountingPlace], begun: usize, place: &CountingPlace) -> bool {
     for at in begun..places.len() {
         if places[at] == *place {
             return true;
@@ -44,10 +44,10 @@ fn is_among(places: &[Place], begun: usize, place: &Place) -> bool {
     false
 }
 
-impl Places {
+impl CountingPlaces {
     /// Adds the place of a leaf, unless the current path has it.
     fn leaf(&mut self, crossing: u64, point: u64, process: u64) -> Result<(), AllocError> {
-        let place = Place {
+        let place = CountingPlace {
             class: self.class,
             path: self.path,
             crossing,
@@ -80,11 +80,11 @@ impl Places {
 }
 
 /// Returns the places in the leaves of a certificate's text.
-fn places_of(alloc: Global, certificate: &[u8]) -> Result<Places, Fault>
+fn places_of(alloc: Global, certificate: &[u8]) -> Result<CountingPlaces, Fault>
     ensures { IfErr result IsMemory }
 {
     let mut lines = LineReader::new(alloc, Octets::new(certificate))?;
-    let mut places = Places {
+    let mut places = CountingPlaces {
         class: 0,
         path: 0,
         places: Vec::new(alloc),
@@ -101,9 +101,9 @@ fn places_of(alloc: Global, certificate: &[u8]) -> Result<Places, Fault>
 /// Draws where the packets of a path are counted, and the ways of their records.
 fn draw_place(
     dot: &mut Dot,
-    documents: &Documents,
+    documents: &DrawnDocuments,
     targets: &[Target<'_>],
-    place: &Place,
+    place: &CountingPlace,
     ways: &mut Ways,
 ) -> Result<(), AllocError> {
     for target in targets {
@@ -120,8 +120,8 @@ fn draw_place(
 /// Draws the ways of records from the cache at a place.
 fn draw_ways(
     dot: &mut Dot,
-    documents: &Documents,
-    place: &Place,
+    documents: &DrawnDocuments,
+    place: &CountingPlace,
     number: u64,
     ways: &mut Ways,
 ) -> Result<(), AllocError> {
@@ -141,11 +141,11 @@ fn draw_ways(
 }
 
 /// Draws where the packets of a path are counted within a device.
-fn draw_counted(dot: &mut Dot, documents: &Documents, place: &Place, device: u64) {
+fn draw_counted(dot: &mut Dot, documents: &DrawnDocuments, place: &CountingPlace, device: u64) {
     let Some(config) = documents.plan.device(device) else {
         return;
     };
-    let mark = Mark {
+    let mark = EdgeMark {
         colour: "darkgreen",
         word: "counted at crossing ",
         number: place.crossing,
@@ -167,7 +167,7 @@ fn draw_counted(dot: &mut Dot, documents: &Documents, place: &Place, device: u64
 pub(crate) fn draw_certificate(
     alloc: Global,
     dot: &mut Dot,
-    documents: &Documents,
+    documents: &DrawnDocuments,
     targets: &[Target<'_>],
     classes: Classes,
     certificate: &[u8],

@@ -7,7 +7,7 @@ use std::alloc::Global;
 
 /// The content of the two documents.
 #[derive(Drop)]
-pub(crate) struct Documents {
+pub(crate) struct DrawnDocuments {
     /// The network.
     pub(crate) plan: Plan,
     /// The traffic.
@@ -34,10 +34,14 @@ pub(crate) fn read_json(alloc: Global, octets: &[u8]) -> Result<Value, Fault> {
 /// Returns the content of both documents, given the network.
 ///
 /// Fails with 101, and as [`read_traffic`] does.
-pub(crate) fn with_traffic(alloc: Global, plan: Plan, traffic: &[u8]) -> Result<Documents, Fault> {
+pub(crate) fn with_traffic(
+    alloc: Global,
+    plan: Plan,
+    traffic: &[u8],
+) -> Result<DrawnDocuments, Fault> {
     let classes = read_json(alloc, traffic)?;
     let traffic = read_traffic(alloc, &classes, &plan)?;
-    Ok(Documents {
+    Ok(DrawnDocuments {
         plan,
         traffic,
         classes,
@@ -55,7 +59,11 @@ fn name_of_class(traffic: &Value, number: u64) -> Option<&str> {
 /// Returns the 1-based number of the class with this name.
 ///
 /// Fails with 107 at `/classes` if there is none, and with 900 if out of memory.
-pub(crate) fn class_number(alloc: Global, documents: &Documents, name: &str) -> Result<u64, Fault> {
+pub(crate) fn class_number(
+    alloc: Global,
+    documents: &DrawnDocuments,
+    name: &str,
+) -> Result<u64, Fault> {
     for place in 0..documents.traffic.classes().as_slice().len() {
         let number = place as u64 + 1;
         if class_name(documents, number) == name {
@@ -67,6 +75,6 @@ pub(crate) fn class_number(alloc: Global, documents: &Documents, name: &str) -> 
 }
 
 /// Returns the name of the class with this 1-based number, or an empty text.
-pub(crate) fn class_name(documents: &Documents, number: u64) -> &str {
+pub(crate) fn class_name(documents: &DrawnDocuments, number: u64) -> &str {
     name_of_class(&documents.classes, number).unwrap_or("")
 }

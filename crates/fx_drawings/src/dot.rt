@@ -1,7 +1,7 @@
 //! Text in the DOT language of Graphviz that is collected before any of it is written.
 ghost use Rattle.std.specs.Prelude.{◌≡◌, true, IfOk};
 ghost use Rattle.fx_base.specs.Fault.{shown};
-ghost use Rattle.fx_drawings.specs.Drawings.{IsPlainText, is_plain};
+ghost use Rattle.fx_drawings.specs.Drawings.{IsPlainDrawing, is_plain};
 
 use crate::folding::Folding;
 use crate::nodes::Node;
@@ -22,13 +22,13 @@ pub(crate) struct Dot {
 
 impl Model for Dot {
     ghost use Rattle.std.specs.Prelude.{List, ℕ};
-    ghost use Rattle.fx_drawings.specs.Drawings.{IsPlainText};
+    ghost use Rattle.fx_drawings.specs.Drawings.{IsPlainDrawing};
 
     ghost Value = { List ℕ };
 
     ghost view = { λ d. d.octets.items };
 
-    ghost invariant = { λ d. IsPlainText d.octets.items };
+    ghost invariant = { λ d. IsPlainDrawing d.octets.items };
 }
 
 /// Returns the octet as it is drawn: `?` for a control character.
@@ -77,7 +77,7 @@ impl Dot {
     ///
     /// Fails if an allocation failed while they were added.
     pub(crate) fn octets(&self) -> Result<&[u8], AllocError>
-        ensures plain { IfOk result (λ octets. IsPlainText octets.now) }
+        ensures plain { IfOk result (λ octets. IsPlainDrawing octets.now) }
     {
         if self.is_short {
             return Err(AllocError);

@@ -5,7 +5,7 @@ ghost use Rattle.fx_drawings.specs.Drawings.{WritesDrawing};
 
 use crate::certificates::draw_certificate;
 use crate::devices::draw_device;
-use crate::documents::{Documents, class_number, read_json, with_traffic};
+use crate::documents::{DrawnDocuments, class_number, read_json, with_traffic};
 use crate::dot::Dot;
 use crate::edges::draw_edges;
 use crate::folding::{Folding, fold};
@@ -48,7 +48,7 @@ fn drawing_of_network(alloc: Global, plan: &Plan) -> Result<Dot, AllocError> {
 /// themselves.
 fn drawing_of_traffic(
     alloc: Global,
-    documents: &Documents,
+    documents: &DrawnDocuments,
     targets: &[Target<'_>],
     classes: Classes,
     apart: &[u64],
@@ -62,7 +62,7 @@ fn drawing_of_traffic(
 /// Checks a certificate, and returns its drawing.
 fn drawing_of_certificate(
     alloc: Global,
-    documents: &Documents,
+    documents: &DrawnDocuments,
     targets: &[Target<'_>],
     classes: Classes,
     certificate: &[u8],
@@ -77,7 +77,7 @@ fn drawing_of_certificate(
 /// Confirms a refutation, and returns the drawing of its run and the result.
 fn drawing_of_run(
     alloc: Global,
-    documents: &Documents,
+    documents: &DrawnDocuments,
     targets: &[Target<'_>],
     classes: Classes,
     refutation: &Refutation,
@@ -94,7 +94,7 @@ fn drawing_of_run(
 /// Reads and confirms a refutation, and returns its drawing.
 fn drawing_of_refutation(
     alloc: Global,
-    documents: &Documents,
+    documents: &DrawnDocuments,
     targets: &[Target<'_>],
     classes: Classes,
     text: &[u8],
@@ -105,7 +105,11 @@ fn drawing_of_refutation(
 }
 
 /// Returns the classes whose paths are drawn: that of this name, or all if none is given.
-fn classes_of(alloc: Global, documents: &Documents, name: Option<&str>) -> Result<Classes, Fault> {
+fn classes_of(
+    alloc: Global,
+    documents: &DrawnDocuments,
+    name: Option<&str>,
+) -> Result<Classes, Fault> {
     match name {
         Some(name) => Ok(Classes::One(class_number(alloc, documents, name)?)),
         None => Ok(Classes::All),
@@ -116,7 +120,7 @@ fn classes_of(alloc: Global, documents: &Documents, name: Option<&str>) -> Resul
 /// Draws the paths of the class of this name alone, if one is given.
 fn drawing_over(
     alloc: Global,
-    documents: &Documents,
+    documents: &DrawnDocuments,
     said: Option<&[u8]>,
     class: Option<&str>,
 ) -> Result<Dot, Fault> {

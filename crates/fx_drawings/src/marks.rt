@@ -8,7 +8,7 @@ use fx_walk::place_of;
 
 /// The mark of an edge.
 #[derive(Clone, Copy, Drop)]
-pub(crate) struct Mark {
+pub(crate) struct EdgeMark {
     /// The Graphviz name of its colour.
     pub(crate) colour: &'static str,
     /// The beginning of the edge's label.
@@ -18,7 +18,7 @@ pub(crate) struct Mark {
 }
 
 /// Draws a marked edge, with the mark's word and number.
-pub(crate) fn draw_mark(dot: &mut Dot, mark: Mark, from: Node, to: Node) {
+pub(crate) fn draw_mark(dot: &mut Dot, mark: EdgeMark, from: Node, to: Node) {
     dot.code_node("  ", from);
     dot.code_node(" -> ", to);
     dot.code(" [color=");
@@ -45,7 +45,7 @@ pub(crate) fn metering_cache(device: &Device, point: u64, process: u64) -> Optio
 /// Draws marked edges from packets through an observation point and a selection process to its cache.
 pub(crate) fn draw_metering(
     dot: &mut Dot,
-    mark: Mark,
+    mark: EdgeMark,
     packets: Node,
     number: u64,
     device: &Device,

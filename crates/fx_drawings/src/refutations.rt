@@ -3,10 +3,10 @@ ghost use Rattle.std.specs.Prelude.{IfErr};
 ghost use Rattle.fx_base.specs.Fault.{IsMemory};
 ghost use Rattle.fx_collect.specs.Report.{KeysAscend};
 
-use crate::documents::Documents;
+use crate::documents::DrawnDocuments;
 use crate::dot::Dot;
 use crate::edges::{end_of, number_of, report_of, target_of};
-use crate::marks::{Mark, draw_mark, draw_metering};
+use crate::marks::{EdgeMark, draw_mark, draw_metering};
 use crate::nodes::{self, Node};
 use fx_base::{Fault, Name, Room, entry_numbered};
 use fx_collect::Totals;
@@ -19,7 +19,7 @@ use fx_topology::NetworkDevice;
 use std::alloc::{AllocError, Global};
 
 /// Returns the number of the device at which a step is made, if there is one.
-fn device_of_step(documents: &Documents, packet: &Packet, step: &Step) -> Option<u64> {
+fn device_of_step(documents: &DrawnDocuments, packet: &Packet, step: &Step) -> Option<u64> {
     match step {
         Step::Cross { crossing, .. } => {
             let crossings = documents.traffic.classes().path_of(packet);
@@ -42,7 +42,7 @@ fn device_of_step(documents: &Documents, packet: &Packet, step: &Step) -> Option
 /// Fails if out of memory.
 pub(crate) fn devices_of_run(
     alloc: Global,
-    documents: &Documents,
+    documents: &DrawnDocuments,
     refutation: &Refutation,
 ) -> Result<Vec<u64>, AllocError> {
     let mut devices = Vec::new(alloc);
@@ -55,8 +55,8 @@ pub(crate) fn devices_of_run(
 }
 
 /// Returns the mark of the step with this 1-based number.
-fn step_mark(number: u64) -> Mark {
-    Mark {
+fn step_mark(number: u64) -> EdgeMark {
+    EdgeMark {
         colour: "darkorange",
         word: "step ",
         number,
@@ -67,10 +67,10 @@ fn step_mark(number: u64) -> Mark {
 fn draw_crossing(
     alloc: Global,
     dot: &mut Dot,
-    documents: &Documents,
+    documents: &DrawnDocuments,
     packet: &Packet,
     number: u64,
-    mark: Mark,
+    mark: EdgeMark,
 ) -> Result<(), AllocError> {
     let crossings = documents.traffic.classes().path_of(packet);
     let Some(crossing) = entry_numbered(crossings, number) else {
@@ -105,7 +105,7 @@ fn draw_export(
     exporter: u64,
     process: &ExportingProcess,
     chosen: Option<u64>,
-    mark: Mark,
+    mark: EdgeMark,
 ) -> Result<(), AllocError> {
     let from = nodes::exporter(number, exporter);
     let destinations = process.destinations.as_slice();
@@ -130,7 +130,7 @@ fn draw_exports(
     from: Node,
     names: &[Name],
     choices: &[Option<u64>],
-    mark: Mark,
+    mark: EdgeMark,
 ) -> Result<(), AllocError> {
     let processes = device.config.exporting_processes.as_slice();
     let mut made: usize = 0;
@@ -156,7 +156,7 @@ fn draw_expiry(
     plan: &Plan,
     holder: HolderName,
     choices: &[Option<u64>],
-    mark: Mark,
+    mark: EdgeMark,
 ) -> Result<(), AllocError> {
     let number = match holder {
         HolderName::Cache { device, .. } => device,
@@ -200,7 +200,7 @@ fn draw_expired_aggregation(
     process: u64,
     aggregation: u64,
     choices: &[Option<u64>],
-    mark: Mark,
+    mark: EdgeMark,
 ) -> Result<(), AllocError> {
     let processes = device.config.collecting_processes.as_slice();
     let Some(collector) = entry_numbered(processes, process) else {
@@ -221,7 +221,7 @@ fn draw_arrival(
     plan: &Plan,
     link: u64,
     choices: &[Option<u64>],
-    mark: Mark,
+    mark: EdgeMark,
 ) -> Result<(), AllocError> {
     let Some(link) = entry_numbered(plan.network().links.as_slice(), link) else {
         return Ok(());
@@ -251,7 +251,7 @@ fn draw_arrival(
 fn draw_step(
     alloc: Global,
     dot: &mut Dot,
-    documents: &Documents,
+    documents: &DrawnDocuments,
     packet: &Packet,
     step: &Step,
     number: u64,
@@ -324,7 +324,7 @@ pub(crate) fn draw_outcome(
 pub(crate) fn draw_refutation(
     alloc: Global,
     dot: &mut Dot,
-    documents: &Documents,
+    documents: &DrawnDocuments,
     refutation: &Refutation,
 ) -> Result<(), AllocError> {
     let steps = refutation.steps();

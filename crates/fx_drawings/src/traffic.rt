@@ -1,5 +1,5 @@
 //! Drawing the packets of each class, and what observes them on their paths.
-use crate::documents::{Documents, class_name};
+use crate::documents::{DrawnDocuments, class_name};
 use crate::dot::Dot;
 use crate::nodes::{self, Node};
 use fx_plan::Plan;
@@ -7,7 +7,7 @@ use fx_tables::Crossing;
 use fx_traffic::Target;
 
 /// Draws the packets of a class that take a path.
-fn draw_packets(dot: &mut Dot, documents: &Documents, target: &Target<'_>) {
+fn draw_packets(dot: &mut Dot, documents: &DrawnDocuments, target: &Target<'_>) {
     let exempt = if target.exempt {
         "\\nexempt: never to be counted"
     } else {
@@ -85,7 +85,7 @@ fn draw_seeing(dot: &mut Dot, plan: &Plan, from: Node, number: u64, crossing: &C
 
 /// Draws a path of a class: its packets, with the crossings that nothing observes, and each crossing with what observes
 /// it.
-fn draw_path(dot: &mut Dot, documents: &Documents, target: &Target<'_>) {
+fn draw_path(dot: &mut Dot, documents: &DrawnDocuments, target: &Target<'_>) {
     draw_packets(dot, documents, target);
     let from = nodes::packets(target.class, target.path);
     for place in 0..target.crossings.len() {
@@ -127,7 +127,7 @@ impl Classes {
 /// Draws all paths of these classes.
 pub(crate) fn draw_traffic(
     dot: &mut Dot,
-    documents: &Documents,
+    documents: &DrawnDocuments,
     targets: &[Target<'_>],
     classes: Classes,
 ) {

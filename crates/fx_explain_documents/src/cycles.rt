@@ -47,7 +47,7 @@ fn goes_on(devices: &[NetworkDevice], link: &NamedLink, next: &NamedLink) -> boo
 
 /// The state of a link in the search.
 #[derive(Clone, Copy)]
-enum Mark {
+enum VisitState {
     /// Not visited.
     New,
     /// On the way that is being followed.
@@ -62,7 +62,7 @@ struct Search<'a> {
     devices: &'a [NetworkDevice],
     links: &'a [NamedLink],
     /// The state of each link.
-    marks: Vec<Mark>,
+    marks: Vec<VisitState>,
     /// The indices of links, each of which may lead to the next.
     way: Vec<usize>,
 }
@@ -72,7 +72,7 @@ impl<'a> Search<'a> {
     fn new(alloc: Global, network: &'a NetworkDocument) -> Result<Search<'a>, AllocError> {
         let links = network.links.as_slice();
         let mut marks = Vec::new(alloc);
-        marks.resize(links.len(), Mark::New)?;
+        marks.resize(links.len(), VisitState::New)?;
         Ok(Search {
             devices: network.devices.as_slice(),
             links,
@@ -82,15 +82,15 @@ impl<'a> Search<'a> {
     }
 
     /// Returns the state of the link at an index.
-    fn mark(&self, place: usize) -> Mark {
+    fn mark(&self, place: usize) -> VisitState {
         match self.marks.as_slice().get(place) {
             Some(mark) => *mark,
-            None => Mark::Done,
+            None => VisitState::Done,
         }
     }
 
     /// Sets the state of the link at an index.
-    fn set(&mut self, place: usize, mark: Mark) {
+    fn set(&mut self, place: usize, mark: VisitState) {
         if let Some(entry) = self.marks.get_mut(place) {
             *entry = mark;
         }
@@ -101,7 +101,9 @@ impl<'a> Search<'a> {
     fn next(&self, place: usize) -> Option<usize> {
         let link = entry_at(self.links, place)?;
         for next in 0..self.links.len() {
-            if self.mark(next) != Mark::Done && goes_on(self.devices, link, &self.links[next]) {
+            if self.mark(next) != VisitState::Done
+                && goes_on(self.devices, link, &self.links[next])
+            {
                 return Some(next);
             }
         }
@@ -110,14 +112,14 @@ impl<'a> Search<'a> {
 
     /// Appends the link at an index to the way.
     fn enter(&mut self, place: usize) -> Result<(), AllocError> {
-        self.set(place, Mark::OnWay);
+        self.set(place, VisitState::OnWay);
         self.way.push(place)?;
         Ok(())
     }
 
     /// Removes the last link, which leads to no cycle, from the way.
     fn leave(&mut self, place: usize) {
-        self.set(place, Mark::Done);
+        self.set(place, VisitState::Done);
         let _left = self.way.pop();
     }
 
@@ -128,7 +130,7 @@ impl<'a> Search<'a> {
             self.leave(place);
             return Ok(None);
         };
-        if self.mark(next) == Mark::OnWay {
+        if self.mark(next) == VisitState::OnWay {
             return Ok(Some(next));
         }
         self.enter(next)?;
@@ -154,7 +156,7 @@ impl<'a> Search<'a> {
     /// Returns the index of the link that begins a cycle, if there is one; the way then ends with that cycle.
     fn run(&mut self) -> Result<Option<usize>, AllocError> {
         for start in 0..self.links.len() {
-            if self.mark(start) == Mark::New {
+            if self.mark(start) == VisitState::New {
                 let found = self.follow(start)?;
                 if found.is_some() {
                     return Ok(found);

@@ -43,18 +43,18 @@ fn write_names(out: &mut Explanation, network: &Value, value: &Value, pointer: &
 
 /// A refused document.
 #[derive(Clone, Copy, Drop)]
-enum Refused<'a> {
+enum RefusedDocument<'a> {
     /// A network document.
     Network(&'a Value),
     /// A traffic declaration for this network.
     Traffic(&'a Value, &'a Plan),
 }
 
-impl<'a> Refused<'a> {
+impl<'a> RefusedDocument<'a> {
     /// Returns the document's value.
     fn document(&self) -> &'a Value {
         match self {
-            Refused::Network(value) | Refused::Traffic(value, _) => value,
+            RefusedDocument::Network(value) | RefusedDocument::Traffic(value, _) => value,
         }
     }
 }
@@ -108,7 +108,7 @@ fn write_value_at(out: &mut Explanation, at: &ValueAt<'_>, number: u16) {
 }
 
 /// Explains a refusal at a pointer.
-fn write_at(out: &mut Explanation, refused: &Refused<'_>, pointer: &str, number: u16) {
+fn write_at(out: &mut Explanation, refused: &RefusedDocument<'_>, pointer: &str, number: u16) {
     let document = refused.document();
     let Some(value) = document.pointer(pointer) else {
         return;
@@ -117,7 +117,7 @@ fn write_at(out: &mut Explanation, refused: &Refused<'_>, pointer: &str, number:
         document,
         pointer,
         value,
-        is_network: matches!(refused, Refused::Network(_)),
+        is_network: matches!(refused, RefusedDocument::Network(_)),
     };
     match number {
         refusals::UNKNOWN_MEMBER => {
@@ -139,14 +139,14 @@ fn write_at(out: &mut Explanation, refused: &Refused<'_>, pointer: &str, number:
 /// Explains which names at a pointer refer to nothing.
 fn write_names_at(
     out: &mut Explanation,
-    refused: &Refused<'_>,
+    refused: &RefusedDocument<'_>,
     value: &Value,
     pointer: &str,
     number: u16,
 ) {
     match refused {
-        Refused::Network(network) => write_names(out, network, value, pointer, number),
-        Refused::Traffic(_, plan) => {
+        RefusedDocument::Network(network) => write_names(out, network, value, pointer, number),
+        RefusedDocument::Traffic(_, plan) => {
             if let Some(name) = value.as_str() {
                 write_unknown_device(out, plan.network().devices.as_slice(), name);
             }
@@ -155,9 +155,10 @@ fn write_names_at(
 }
 
 /// Explains a refusal of a document that is a JSON text.
-fn write_refused(out: &mut Explanation, refused: &Refused<'_>, fault: &Fault) {
+fn write_refused(out: &mut Explanation, refused: &RefusedDocument<'_>, fault: &Fault) {
     match (&fault.place, refused) {
-        (Place::Text(text), Refused::Network(network)) if fault.number == refusals::LINK_CYCLE => {
+        (Place::Text(text), RefusedDocument::Network(network))
+            if fault.number == refusals::LINK_CYCLE => {
             write_cycle(out, network, text.as_str());
             write_cycle_of(out, network);
         }
@@ -191,7 +192,7 @@ pub fn put_refused_network<S: Sink>(
 {
     let mut out = Explanation::new(alloc);
     match value_of_document(&mut out, octets) {
-        Some(value) => write_refused(&mut out, &Refused::Network(&value), fault),
+        Some(value) => write_refused(&mut out, &RefusedDocument::Network(&value), fault),
         None => write_json(&mut out, octets, true),
     }
     put_text(sink, out.octets()?)
@@ -215,7 +216,7 @@ pub fn put_refused_traffic<S: Sink>(
 {
     let mut out = Explanation::new(alloc);
     match value_of_document(&mut out, octets) {
-        Some(value) => write_refused(&mut out, &Refused::Traffic(&value, plan), fault),
+        Some(value) => write_refused(&mut out, &RefusedDocument::Traffic(&value, plan), fault),
         None => write_json(&mut out, octets, false),
     }
     put_text(sink, out.octets()?)

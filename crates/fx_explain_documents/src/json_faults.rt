@@ -13,7 +13,7 @@ fn ends_value(octet: u8) -> bool {
 
 /// The state of a JSON text before a position.
 #[derive(Clone, Copy, Drop)]
-struct Before {
+struct OpenBefore {
     /// The last octet that isn't white space, or 0 if there is none.
     last: u8,
     /// The number of open objects and lists.
@@ -23,8 +23,8 @@ struct Before {
 }
 
 /// Returns what these octets leave open.
-fn before_end(octets: &[u8]) -> Before {
-    let mut before = Before {
+fn before_end(octets: &[u8]) -> OpenBefore {
+    let mut before = OpenBefore {
         last: 0,
         depth: 0,
         in_string: false,
@@ -116,7 +116,7 @@ fn octet_words(octets: &[u8], last: u8) -> Option<&'static str> {
 }
 
 /// Adds that a text ends too early, with this still open.
-fn write_open(out: &mut Explanation, open: &Before) {
+fn write_open(out: &mut Explanation, open: &OpenBefore) {
     if open.last == 0 {
         out.sentence("the file has nothing but white space");
         return;

@@ -7,7 +7,7 @@ ghost use Rattle.fx_explanation.specs.Explanations.{WritesExplanation};
 use crate::due_items::{write_after_end, write_between, write_due};
 use crate::following::write_following;
 use crate::leaves::write_leaf;
-use crate::line_forms::{Kind, axis_named};
+use crate::line_forms::{LineText, axis_named};
 use crate::lines::write_line;
 use crate::watching::write_watching;
 use crate::wrong_lines::{write_wrong_header, write_wrong_line};
@@ -151,7 +151,7 @@ fn write_form(out: &mut Explanation, due: &Due<'_>, line: &Line<'_>, fault: u16)
     if let Due::Header = due {
         write_wrong_header(out, "once-certificate", " where no class is exempt", line);
     } else if fault == refusals::CERTIFICATE_LINE {
-        let _otherwise = write_wrong_line(out, Kind::Certificate, line);
+        let _otherwise = write_wrong_line(out, LineText::Certificate, line);
         if let Some((axis, at)) = split_at_value(line.bytes) {
             write_split_line(out, axis, at);
         }

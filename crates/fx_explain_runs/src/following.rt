@@ -1,6 +1,6 @@
 //! The fate of records downstream of the devices at which a path's packets are metered.
 use crate::holders::leads_to_report;
-use crate::matches::{Taken, write_untaken};
+use crate::matches::{ArrivingRecords, write_untaken};
 use crate::missing_fields::Arriving;
 use fx_base::{Name, entry_at, entry_numbered};
 use fx_boxes::Region;
@@ -18,7 +18,7 @@ const SHOWN: usize = 64;
 /// The ways by which records reach different collecting processes, or reach them with different keys, up to the maximum
 /// that is written.
 #[derive(Drop)]
-struct Found<'a> {
+struct Ways<'a> {
     plan: &'a Plan,
     /// The indices of their links.
     places: [usize; SHOWN],
@@ -41,7 +41,7 @@ fn is_same_key(plan: &Plan, one: HolderName, other: HolderName) -> bool {
     }
 }
 
-impl Found<'_> {
+impl Ways<'_> {
     /// Returns whether the way at an index leads to the collecting process of a link.
     fn ends_at(&self, place: usize, link: &NamedLink) -> bool {
         let links = self.plan.network().links.as_slice();
@@ -85,12 +85,7 @@ impl Found<'_> {
 }
 
 /// Adds the links by which exporting processes of a device send the records of a cache or an aggregation.
-fn add_links(
-    found: &mut Found<'_>,
-    device: &NetworkDevice,
-    exporters: &[Name],
-    holder: HolderName,
-) {
+fn add_links(found: &mut Ways<'_>, device: &NetworkDevice, exporters: &[Name], holder: HolderName) {
     let links = found.plan.network().links.as_slice();
     for place in 0..links.len() {
         let link = &links[place];
@@ -127,7 +122,7 @@ fn is_metered(plan: &Plan, region: &Region, crossing: &Crossing, cache: HolderNa
 }
 
 /// Adds the links by which the caches of a crossing's device that meter packets of a region there send records.
-fn add_first(found: &mut Found<'_>, region: &Region, crossing: &Crossing) {
+fn add_first(found: &mut Ways<'_>, region: &Region, crossing: &Crossing) {
     let plan = found.plan;
     let devices = plan.network().devices.as_slice();
     let Some(device) = entry_numbered(devices, crossing.device) else {
@@ -149,7 +144,7 @@ fn add_first(found: &mut Found<'_>, region: &Region, crossing: &Crossing) {
 /// Adds the links by which a collecting process forwards records, including those of its aggregations. The indices of
 /// its device and of itself count from 0.
 fn add_onward(
-    found: &mut Found<'_>,
+    found: &mut Ways<'_>,
     device: &NetworkDevice,
     process: &CollectingProcess,
     places: (usize, usize),
@@ -238,7 +233,7 @@ fn write_lacking<'x>(
         arriving.write_unassigned_of(out, holder);
     }
     if let Some(handled) = entry_at(net.processes(), end) {
-        let taken = Taken {
+        let taken = ArrivingRecords {
             region,
             arriving,
             holder,
@@ -253,7 +248,7 @@ fn write_lacking<'x>(
 /// adds the ways by which they are forwarded.
 fn write_way(
     out: &mut Explanation,
-    found: &mut Found<'_>,
+    found: &mut Ways<'_>,
     region: &Region,
     place: usize,
     next: usize,
@@ -296,7 +291,7 @@ pub(crate) fn write_following(
         device: 0,
         cache: 0,
     };
-    let mut found = Found {
+    let mut found = Ways {
         plan,
         places: [0; SHOWN],
         holders: [nothing; SHOWN],

@@ -5,7 +5,7 @@ use fx_run_text::TextVersion;
 
 /// The kind of a text of lines.
 #[derive(Clone, Copy)]
-pub(crate) enum Kind {
+pub(crate) enum LineText {
     Certificate,
     /// A run or a refutation.
     Run(TextVersion),
@@ -20,9 +20,9 @@ const PACKET_TWO: &str =
     "packet CLASS PATH SOURCE DESTINATION PROTOCOL SPORT DPORT TOS VERSION SOURCE6 DESTINATION6 OCTETS";
 
 /// Returns the forms of the lines after the first.
-pub(crate) fn forms_of(kind: Kind) -> [&'static str; 6] {
+pub(crate) fn forms_of(kind: LineText) -> [&'static str; 6] {
     match kind {
-        Kind::Certificate => [
+        LineText::Certificate => [
             "class CLASS path PATH",
             "S AXIS AT",
             "L CROSSING POINT PROCESS",
@@ -30,7 +30,7 @@ pub(crate) fn forms_of(kind: Kind) -> [&'static str; 6] {
             "end",
             "",
         ],
-        Kind::Run(version) => [
+        LineText::Run(version) => [
             match version {
                 TextVersion::One => PACKET_ONE,
                 TextVersion::Two => PACKET_TWO,
@@ -41,7 +41,7 @@ pub(crate) fn forms_of(kind: Kind) -> [&'static str; 6] {
             "arrive LINK POSITION CHOICES",
             "end",
         ],
-        Kind::Schedule => [
+        LineText::Schedule => [
             "next",
             "next CLASS PATH",
             "expire DEVICE CACHE",
@@ -53,10 +53,10 @@ pub(crate) fn forms_of(kind: Kind) -> [&'static str; 6] {
 }
 
 /// Returns whether a line is a packet's line of another version than its text.
-pub(crate) fn is_of_other_version(kind: Kind, line: &[u8]) -> bool {
+pub(crate) fn is_of_other_version(kind: LineText, line: &[u8]) -> bool {
     match kind {
-        Kind::Run(TextVersion::One) => fit_of(PACKET_TWO, line).is_whole(),
-        Kind::Run(TextVersion::Two) => fit_of(PACKET_ONE, line).is_whole(),
+        LineText::Run(TextVersion::One) => fit_of(PACKET_TWO, line).is_whole(),
+        LineText::Run(TextVersion::Two) => fit_of(PACKET_ONE, line).is_whole(),
         _ => false,
     }
 }

@@ -9,7 +9,7 @@ use fx_topology::NetworkDevice;
 
 /// Records of a region's packets that reach a collecting process.
 #[derive(Drop)]
-pub(crate) struct Taken<'a> {
+pub(crate) struct ArrivingRecords<'a> {
     pub(crate) region: &'a Region,
     pub(crate) arriving: Arriving<'a>,
     /// The cache or the aggregation that they left last.
@@ -31,7 +31,7 @@ fn hold_words(region: &Region, property: &PropertyMatch) -> Option<&'static str>
     }
 }
 
-impl Taken<'_> {
+impl ArrivingRecords<'_> {
     /// Writes an aggregation of the collecting process.
     fn write_name(&self, out: &mut Explanation, aggregation: &Aggregation) {
         out.text_quoted("aggregation ", aggregation.name.as_str());
@@ -83,7 +83,7 @@ impl Taken<'_> {
 /// Writes which aggregations of a collecting process don't accept all records that arrive there, and why.
 pub(crate) fn write_untaken(
     out: &mut Explanation,
-    taken: &Taken<'_>,
+    taken: &ArrivingRecords<'_>,
     entries: &[AggregationEntry],
 ) {
     let aggregations = taken.process.aggregations.as_slice();

@@ -13,35 +13,35 @@ const FEW: usize = 20;
 
 /// A place where records wait.
 #[derive(Clone, Copy, PartialEq, Eq)]
-enum Waiting {
+enum RecordPlace {
     /// A cache or an aggregation.
     Holder(HolderName),
     /// The link with this 1-based number.
     Link(u64),
 }
 
-impl Waiting {
+impl RecordPlace {
     /// Returns where a step takes a record from, and its position there.
-    fn of(step: &Step) -> Option<(Waiting, u64)> {
+    fn of(step: &Step) -> Option<(RecordPlace, u64)> {
         match step {
             Step::Cross { .. } => None,
             Step::Expire {
                 holder,
                 position,
                 ..
-            } => Some((Waiting::Holder(*holder), *position)),
-            Step::Arrive { link, position, .. } => Some((Waiting::Link(*link), *position)),
+            } => Some((RecordPlace::Holder(*holder), *position)),
+            Step::Arrive { link, position, .. } => Some((RecordPlace::Link(*link), *position)),
         }
     }
 
     /// Returns how many records wait there.
     fn count(self, state: &State<'_>) -> u64 {
         match self {
-            Waiting::Holder(holder) => {
+            RecordPlace::Holder(holder) => {
                 let place = state.net().holder_place(holder);
                 state.records_held(place.unwrap_or(usize::MAX))
             }
-            Waiting::Link(link) => state.records_on(link.saturating_sub(1) as usize),
+            RecordPlace::Link(link) => state.records_on(link.saturating_sub(1) as usize),
         }
     }
 }
@@ -73,8 +73,8 @@ fn makes(step: &Step, packet: u64, crossing: u64) -> bool {
 }
 
 /// Returns whether a step takes a record from there.
-fn takes(step: &Step, waiting: Waiting) -> bool {
-    match Waiting::of(step) {
+fn takes(step: &Step, waiting: RecordPlace) -> bool {
+    match RecordPlace::of(step) {
         Some((taken, _)) => taken == waiting,
         None => false,
     }
@@ -104,13 +104,13 @@ aggregations that takes the record in"
 
 /// The choices that holders take for records, one for each holding.
 #[derive(Drop)]
-struct Taking<'a, 'b> {
+struct HolderChoices<'a, 'b> {
     state: &'a State<'b>,
     acts: &'a StepActs<'a>,
     choices: &'a [Option<u64>],
 }
 
-impl Taking<'_, '_> {
+impl HolderChoices<'_, '_> {
     /// Returns whether the holding at a 0-based index has the key of the record at a 1-based position of its holder,
     /// which was held before the step or is new by an earlier choice.
     fn has_key_at(&self, place: usize, position: u64) -> bool {
@@ -221,7 +221,7 @@ impl Unmade<'_, '_> {
     }
 
     /// Writes the line of the last earlier step that takes a record from there, if known.
-    fn write_taken(&self, out: &mut Explanation, waiting: Waiting) {
+    fn write_taken(&self, out: &mut Explanation, waiting: RecordPlace) {
         for after in 0..self.before.len() {
             let place = self.before.len() - 1 - after;
             if takes(&self.before[place], waiting) {
@@ -233,7 +233,7 @@ impl Unmade<'_, '_> {
     }
 
     /// Writes at which positions records are.
-    fn write_positions(&self, out: &mut Explanation, waiting: Waiting, position: u64) {
+    fn write_positions(&self, out: &mut Explanation, waiting: RecordPlace, position: u64) {
         let count = waiting.count(self.state);
         if count == 0 {
             out.text("before this step no record is there");
@@ -266,7 +266,7 @@ impl Unmade<'_, '_> {
             write_wrong_choice(out, choosers, place, choices);
             return;
         }
-        let taking = Taking {
+        let taking = HolderChoices {
             state: self.state,
             acts: choosers.acts,
             choices: choices.get(used..).unwrap_or(&[]),
@@ -303,7 +303,7 @@ impl Unmade<'_, '_> {
             ) => self.write_made(out, *packet, *crossing),
             (_, refusals::WRONG_CHOICES) => self.write_choices(out),
             (step, refusals::NO_RECORD_THERE) => {
-                if let Some((waiting, position)) = Waiting::of(step) {
+                if let Some((waiting, position)) = RecordPlace::of(step) {
                     self.write_positions(out, waiting, position);
                 }
             }

@@ -2,7 +2,7 @@
 ghost use Rattle.std.specs.Prelude.{◌≡◌};
 ghost use Rattle.fx_explain_runs.specs.declared.run_forms.LineBefore.TheVariants.{Header};
 
-use crate::line_forms::Kind;
+use crate::line_forms::LineText;
 use crate::lines::write_line;
 use crate::wrong_lines::{write_wrong_header, write_wrong_line};
 use fx_base::{Line, refusals};
@@ -75,7 +75,7 @@ pub(crate) fn write_form(
 ) {
     write_line(out, line);
     if number == refusals::SCHEDULE_OR_BUNDLE {
-        let _otherwise = write_wrong_line(out, Kind::Schedule, line);
+        let _otherwise = write_wrong_line(out, LineText::Schedule, line);
         return;
     }
     let is_refutation = number == refusals::REFUTATION_FORM;
@@ -86,7 +86,7 @@ pub(crate) fn write_form(
             "once-run"
         };
         write_wrong_header(out, name, "", line);
-    } else if write_wrong_line(out, Kind::Run(version), line) {
+    } else if write_wrong_line(out, LineText::Run(version), line) {
         out.sentence(due_words(before, is_refutation));
     }
 }

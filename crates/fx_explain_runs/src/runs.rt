@@ -28,17 +28,17 @@ fn is_form(number: u16) -> bool {
 
 /// A line of a text that was searched by its number.
 #[derive(Drop)]
-struct Found {
+struct FoundLine {
     version: TextVersion,
     before: LineBefore,
     is_there: bool,
 }
 
 /// Advances to the line with this number, or to the end of the text.
-fn find_line(lines: &mut LineReader<Octets<'_>>, number: u64) -> Result<Found, Fault>
+fn find_line(lines: &mut LineReader<Octets<'_>>, number: u64) -> Result<FoundLine, Fault>
     ensures { IfErr result IsUnexplained }
 {
-    let mut found = Found {
+    let mut found = FoundLine {
         version: TextVersion::Two,
         before: LineBefore::Nothing,
         is_there: false,
@@ -58,7 +58,7 @@ fn find_line(lines: &mut LineReader<Octets<'_>>, number: u64) -> Result<Found, F
 }
 
 /// Explains a refusal with this number at a line that was searched.
-fn write_found(out: &mut Explanation, found: &Found, line: &Line<'_>, number: u16) {
+fn write_found(out: &mut Explanation, found: &FoundLine, line: &Line<'_>, number: u16) {
     match (is_form(number), found.is_there) {
         (true, true) => write_form(out, found.version, line, number, found.before),
         (true, false) => write_end(out, number, found.before),

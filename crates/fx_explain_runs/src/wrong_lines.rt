@@ -1,5 +1,7 @@
 //! Which word of a line is wrong, and which form the line should have.
-use crate::line_forms::{Fit, Kind, axis_of, fit_of, forms_of, is_literal, is_of_other_version};
+use crate::line_forms::{
+    Fit, LineText, axis_of, fit_of, forms_of, is_literal, is_of_other_version,
+};
 use fx_base::Line;
 use fx_elements::{Axis, is_word, read_u64};
 use fx_explanation::{Explanation, are_digits, foreign_words};
@@ -158,10 +160,10 @@ fn write_all_forms(out: &mut Explanation, forms: &[&'static str]) {
 }
 
 /// Returns what is wrong with a well-formed line.
-fn misplaced_words(kind: Kind, line: &Line<'_>) -> &'static str {
+fn misplaced_words(kind: LineText, line: &Line<'_>) -> &'static str {
     match kind {
         _ if !line.ended => "no line feed ends the line",
-        Kind::Run(_) => {
+        LineText::Run(_) => {
             "the line is well-formed but misplaced: after the first line come packets (one in a refutation), then steps (at most 1,000,000 in a refutation), then end, and nothing after it"
         }
         _ => "the line is well-formed but misplaced",
@@ -170,7 +172,7 @@ fn misplaced_words(kind: Kind, line: &Line<'_>) -> &'static str {
 
 /// Writes the first wrong word of a line, and which form the line should have. Returns whether it may be another kind
 /// of line that is expected, which is so if no word after the first is wrong.
-pub(crate) fn write_wrong_line(out: &mut Explanation, kind: Kind, line: &Line<'_>) -> bool {
+pub(crate) fn write_wrong_line(out: &mut Explanation, kind: LineText, line: &Line<'_>) -> bool {
     let forms = forms_of(kind);
     let fit = nearest(&forms, line.bytes);
     if fit.is_whole() {

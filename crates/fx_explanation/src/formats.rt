@@ -26,30 +26,30 @@ pub fn is_pcapng(octets: &[u8]) -> bool {
 
 /// The first octets of a file format, and its description.
 #[derive(Clone, Copy)]
-struct Format {
+struct KnownFormat {
     begins: &'static [u8],
     words: &'static str,
 }
 
 /// Messages of other flow protocols, with their descriptions.
-const FLOWS: &[Format] = &[
-    Format {
+const FLOWS: &[KnownFormat] = &[
+    KnownFormat {
         begins: b"\x00\x05",
         words: "This is version 5: a datagram of NetFlow 5 instead of IPFIX. Have the exporter send IPFIX (version 10).",
     },
-    Format {
+    KnownFormat {
         begins: b"\x00\x09",
         words: "This is version 9: a datagram of NetFlow 9 instead of IPFIX. Have the exporter send IPFIX (version 10).",
     },
-    Format {
+    KnownFormat {
         begins: b"\x00\x00\x00\x05",
         words: "These octets begin a datagram of sFlow 5 instead of IPFIX. Have the exporter send IPFIX (version 10).",
     },
-    Format {
+    KnownFormat {
         begins: b"\x0c\xa5",
         words: NFDUMP,
     },
-    Format {
+    KnownFormat {
         begins: b"\xa5\x0c",
         words: NFDUMP,
     },
@@ -60,27 +60,27 @@ const NFDUMP: &str =
     "These octets begin a file of nfdump, which nfcapd wrote, and not what the exporter sent. Capture that: docs/GUIDE.md says how to take the messages out.";
 
 /// Compressed files.
-const PACKED: &[Format] = &[
-    Format {
+const PACKED: &[KnownFormat] = &[
+    KnownFormat {
         begins: b"\x1f\x8b",
         words: "These octets begin a file of gzip. Unpack it first.",
     },
-    Format {
+    KnownFormat {
         begins: b"\xfd7zXZ\x00",
         words: "These octets begin a file of xz. Unpack it first.",
     },
-    Format {
+    KnownFormat {
         begins: b"\x28\xb5\x2f\xfd",
         words: "These octets begin a file of zstd. Unpack it first.",
     },
-    Format {
+    KnownFormat {
         begins: b"BZh",
         words: "These octets begin a file of bzip2. Unpack it first.",
     },
 ];
 
 /// Returns the description of the first of these formats whose first octets these are.
-fn words_of(formats: &[Format], octets: &[u8]) -> Option<&'static str> {
+fn words_of(formats: &[KnownFormat], octets: &[u8]) -> Option<&'static str> {
     for format in formats {
         if octets.starts_with(format.begins) {
             return Some(format.words);

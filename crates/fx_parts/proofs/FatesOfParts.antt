@@ -20,7 +20,7 @@ use Rattle.fx_leaf.specs.declared.verdict.Fate.TheVariants.{Never, Once, Unassig
 use Rattle.fx_leaf.specs.Fates.{AreFates, FateAt, all_happen, one_happens, process_fate, destination_fate, send_fate, held_fate, act_fate, coming_fate, fate, acts_along, packet_fate}
 use Rattle.fx_leaf.proofs.Ranks.{agrees, only}
 use Rattle.fx_leaf.proofs.Trees.{map_append'}
-use Rattle.fx_parts.specs.Meaning.{Sending, Holding, Taking, Handling, Metering, lead, sending_of, holding_of, taking_of, handling_of, metering_of, meterings_of, meterings_at, meterings, taken_by}
+use Rattle.fx_parts.specs.Meaning.{Sending, Holding, AggregationHandling, Handling, Metering, lead, sending_of, holding_of, taking_of, handling_of, metering_of, meterings_of, meterings_at, meterings, taken_by}
 use Rattle.fx_parts.specs.Parts.{lead_in, sending_in, holding_in, taking_in, handling_in, metering_in, IsPart, MetersTheSame, TakesInTheSame}
 
 -- ---- lists
@@ -61,11 +61,11 @@ sending_fate at key s = cond s.parallel (all_happen (map (process_fate at key) s
 abbrev holding_fate : FateAt → Key → Holding → Fate
 holding_fate at key h = all_happen (map (sending_fate at key) h.sendings)
 
-abbrev passes : Key → Taking → Bool
+abbrev passes : Key → AggregationHandling → Bool
 passes key t = refines key.layout t.holding.layout && list_all
     (λ e. reads key.layout e.axis e.bits && bits_on key e.axis e.bits == e.value) t.matches
 
-abbrev taking_fate : FateAt → Key → Taking → Fate
+abbrev taking_fate : FateAt → Key → AggregationHandling → Fate
 taking_fate at key t = holding_fate at (project key t.holding.layout) t.holding
 
 abbrev handling_fates : FateAt → Key → Handling → List Fate

@@ -14,7 +14,7 @@ use Rattle.fx_leaf.specs.Overlaps.{region_overlap, selection_overlap, match_fiel
 use Rattle.fx_leaf.specs.Verdicts.{Verdict, VerdictAt, SelectionVerdict, verdict_of_both, verdict_of_all, verdict_of_one, overlap_verdict, process_verdict, destination_verdict, send_verdict, sent_verdict, holder_verdict, layout_reads, taken_verdict, tally_verdict, handled_verdict, coming_verdict, verdict_within, verdict, selection_verdicts, point_verdicts, crossing_verdicts, path_verdicts, path_verdict}
 use Rattle.fx_leaf.proofs.Trees.{map_append'}
 use Rattle.fx_leaf.proofs.VerdictsWhereUncut.{coming_same, verdict_agrees}
-use Rattle.fx_parts.specs.Meaning.{Sending, Holding, Taking, Handling, Metering, lead, sending_of, holding_of, taking_of, handling_of, metering_of, meterings_of, meterings_at, meterings}
+use Rattle.fx_parts.specs.Meaning.{Sending, Holding, AggregationHandling, Handling, Metering, lead, sending_of, holding_of, taking_of, handling_of, metering_of, meterings_of, meterings_at, meterings}
 use Rattle.fx_parts.specs.Parts.{lead_in, sending_in, taking_in, handling_in, metering_in, IsPart, MetersTheSame}
 use Rattle.fx_parts.proofs.FatesOfParts.{maps, test_of, not_tested, not_there}
 
@@ -27,7 +27,7 @@ sending_verdict at layout s = cond s.parallel (verdict_of_all (map (process_verd
 abbrev holding_verdict : VerdictAt → Holding → Verdict
 holding_verdict at h = verdict_of_all (map (sending_verdict at h.layout) h.sendings)
 
-abbrev taking_verdict : VerdictAt → Bounds → Layout → Taking → Verdict
+abbrev taking_verdict : VerdictAt → Bounds → Layout → AggregationHandling → Verdict
 taking_verdict at region layout t =
     cond (refines layout t.holding.layout && list_all (λ e. reads layout e.axis e.bits) t.matches)
     (overlap_verdict (region_overlap region (match_fields t.matches)) (holding_verdict at t.holding)) (Some Never)
@@ -164,7 +164,7 @@ module _ (at : VerdictAt) (places : List ℕ) (region : Bounds) where
       ap verdict_of_all (maps (sending_verdict at layout) (sending_in places)
       (sending_verdict (verdicts_at at places) layout) ss (sending_same layout))
 
-  taking_same : (layout : Layout) (t : Taking) → taking_verdict at region layout (taking_in places t)
+  taking_same : (layout : Layout) (t : AggregationHandling) → taking_verdict at region layout (taking_in places t)
       ≡ taking_verdict (verdicts_at at places) region layout t
   taking_same layout t =
       ap (λ v. cond (refines layout t.holding.layout && list_all (λ e. reads layout e.axis e.bits) t.matches)

@@ -23,14 +23,14 @@ pub record Holding : Type 0 where
   pub sendings : List Sending
 
 -- an aggregation: its match, and the holder of its records
-pub record Taking : Type 0 where
+pub record AggregationHandling : Type 0 where
   pub matches : List MatchEntry
   pub holding : Holding
 
 -- a collecting process: what its exporting processes do, and its aggregations
 pub record Handling : Type 0 where
   pub sendings : List Sending
-  pub takings : List Taking
+  pub takings : List AggregationHandling
 
 -- a selection process that has a cache: what it selects, and its cache
 pub record Metering : Type 0 where
@@ -49,7 +49,7 @@ sending_of net exporter = record { parallel = exporter.parallel; leads = map (le
 abbrev pub holding_of : Net → Option Holder → Holding
 holding_of net holder = record { layout = layout_of holder; sendings = map (sending_of net) (exporters_of net holder) }
 
-abbrev pub taking_of : Net → AggregationEntry → Taking
+abbrev pub taking_of : Net → AggregationEntry → AggregationHandling
 taking_of net aggregation = record {
   matches = aggregation.matches;
   holding =

@@ -8,7 +8,7 @@ use Rattle.fx_tables.specs.Network.{Net}
 use Rattle.fx_tables.specs.Classes.{Class}
 use Rattle.fx_tables.specs.Ranks.{IsNetwork}
 use Rattle.fx_check.specs.Declarations.{IsCertified}
-use Rattle.fx_parts.specs.Meaning.{Sending, Holding, Taking, Handling, Metering, handling_of, meterings, taken_by}
+use Rattle.fx_parts.specs.Meaning.{Sending, Holding, AggregationHandling, Handling, Metering, handling_of, meterings, taken_by}
 
 -- ---- collecting processes by their places in the whole
 
@@ -23,7 +23,7 @@ sending_in places s = record { parallel = s.parallel; leads = map (lead_in place
 abbrev pub holding_in : List ℕ → Holding → Holding
 holding_in places h = record { layout = h.layout; sendings = map (sending_in places) h.sendings }
 
-abbrev pub taking_in : List ℕ → Taking → Taking
+abbrev pub taking_in : List ℕ → AggregationHandling → AggregationHandling
 taking_in places t = record { matches = t.matches; holding = holding_in places t.holding }
 
 abbrev pub handling_in : List ℕ → Handling → Handling

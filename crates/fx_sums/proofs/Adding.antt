@@ -8,7 +8,7 @@ use Rattle.fx_collect.specs.Totals.{Totals, with_unassigned}
 use Rattle.fx_sums.specs.declared.notes.Notes.{Notes}
 use Rattle.fx_sums.specs.Sums.{Sum, plus_notes}
 use Rattle.fx_sums.specs.SumLines.{number_behind}
-use Rattle.fx_sums.specs.SumReading.{◌>>=◌, Rest, Next, in_line, tallied, totals_with, notes_of, sum_with, MayGive, Gives, GivesText, Refuses, GoesOnFrom}
+use Rattle.fx_sums.specs.SumReading.{◌>>=◌, Rest, Next, in_line, tallied, totals_with, notes_of, sum_with, MayReadTexts, Gives, GivesText, RefusesTexts, GoesOnFrom}
 use Rattle.fx_sums.proofs.Tallying.{refuses_then, refuses_first}
 
 abbrev unassigned_in : Rest → Result (ℕ × Rest) Fault
@@ -18,14 +18,14 @@ module _ (layout : Layout) (keys : ℕ) (t : Totals) where
   abbrev with_rest : Totals × Rest → Result (Totals × Rest) Fault
   with_rest s = unassigned_in s.1 >>= λ u. Ok (with_unassigned s.0 u.0, u.1)
 
-  pub records_refused : (old new : Lines) (e : Fault) → Refuses (tallied layout keys None t) old new e
-      → Refuses (totals_with layout keys t) old new e
+  pub records_refused : (old new : Lines) (e : Fault) → RefusesTexts (tallied layout keys None t) old new e
+      → RefusesTexts (totals_with layout keys t) old new e
   unfolding totals_with
   records_refused old new e h = refuses_first (tallied layout keys None t) with_rest old new e h
 
   module _ (old mid : Lines) (s : Totals) (records : Gives (tallied layout keys None t) old mid s) where
     pub unassigned_refused : (new : Lines) (e : Fault) → mid.stopped ≡ None → GoesOnToLines old mid
-        → Refuses unassigned_in mid new e → Refuses (totals_with layout keys t) old new e
+        → RefusesTexts unassigned_in mid new e → RefusesTexts (totals_with layout keys t) old new e
     unfolding totals_with
     unassigned_refused new e going on h =
         refuses_then (tallied layout keys None t) with_rest old mid new s records e going on
@@ -53,23 +53,24 @@ module _ (keys : ℕ) (s : Sum) (layout : Layout) (t : Totals) (notes : Notes)
   sum_is rest =
       ap (λ (l : Layout). totals_with l keys t rest >>= with_notes) own ∙ ap (λ (u : Sum). sum_with keys u rest) view
 
-  to_sum : (e : Fault) → Refuses (λ rest. totals_with layout keys t rest >>= with_notes) old new e
-      → Refuses (sum_with keys s) old new e
+  to_sum : (e : Fault) → RefusesTexts (λ rest. totals_with layout keys t rest >>= with_notes) old new e
+      → RefusesTexts (sum_with keys s) old new e
   to_sum e (inl fails) = inl fails
   to_sum e (inr (text, left, is)) = inr (text, left, sym (sum_is (old.number, text_lines text)) ∙ is)
 
-  pub totals_refused : (e : Fault) → Refuses (totals_with layout keys t) old new e → Refuses (sum_with keys s) old new e
+  pub totals_refused : (e : Fault) → RefusesTexts (totals_with layout keys t) old new e
+      → RefusesTexts (sum_with keys s) old new e
   totals_refused e h = to_sum e (refuses_first (totals_with layout keys t) with_notes old new e h)
 
   module _ (mid : Lines) (t' : Totals) (totals : Gives (totals_with layout keys t) old mid t') where
-    pub notes_refused : (e : Fault) → mid.stopped ≡ None → GoesOnToLines old mid → Refuses notes_of mid new e
-        → Refuses (sum_with keys s) old new e
+    pub notes_refused : (e : Fault) → mid.stopped ≡ None → GoesOnToLines old mid → RefusesTexts notes_of mid new e
+        → RefusesTexts (sum_with keys s) old new e
     notes_refused e going on h =
         to_sum e (refuses_then (totals_with layout keys t) with_notes old mid new t' totals e going on
         (refuses_first notes_of _ mid new e h))
 
-    one_added : (more notes' : Notes) (next : Next) → MayGive notes_of mid (Ok (more, next)) → notes'
-        ≡ plus_notes notes more → MayGive (sum_with keys s) old (Ok (record { totals = t'; notes = notes' }, next))
+    one_added : (more notes' : Notes) (next : Next) → MayReadTexts notes_of mid (Ok (more, next)) → notes'
+        ≡ plus_notes notes more → MayReadTexts (sum_with keys s) old (Ok (record { totals = t'; notes = notes' }, next))
     one_added more notes' next (text, left, is) same =
         let a = totals text left in
         (a.0, a.1, sym (sum_is (old.number, text_lines a.0)) ∙ rw (a.2, is, same) refl)

@@ -10,7 +10,7 @@ use Rattle.fx_sums.specs.declared.line_behind.LineBehind.TheVariants as behind
 use Rattle.fx_sums.specs.declared.notes.Notes.{Notes}
 use Rattle.fx_sums.specs.Sums.{Sum, no_notes}
 use Rattle.fx_sums.specs.SumLines.{number_behind, record_behind, line_behind, are_whole}
-use Rattle.fx_sums.specs.SumReading.{◌>>=◌, TextLine, Rest, Next, bytes_of, formed, next_line, in_line, tallied, totals_with, on_or_next, notes_first, notes_of, sum_with, texts_up_to}
+use Rattle.fx_sums.specs.SumReading.{◌>>=◌, SumLine, Rest, Next, bytes_of, formed, next_line, in_line, tallied, totals_with, on_or_next, notes_first, notes_of, sum_with, texts_up_to}
 
 abbrev done : {A : Type 0} → A → Result A Fault
 done x = Ok x
@@ -64,7 +64,7 @@ totals_fewer layout keys t rest r e =
     let same : length u.1.1 ≡ length r.1.1 = ap (λ (r : Totals × Rest). length r.1.1) (ok_is eu) in
     omega (arith, here, there, same)))
 
-notes_fewer : (ls : List TextLine) (k : ℕ) (n : Notes) (r : Notes × Next) → notes_first n k ls ≡ Ok r → lines_behind r.1
+notes_fewer : (ls : List SumLine) (k : ℕ) (n : Notes) (r : Notes × Next) → notes_first n k ls ≡ Ok r → lines_behind r.1
     ≤ length ls
 notes_fewer [] k n r e =
     elim (chosen (are_whole n) (Ok (n, None)) _ (Ok r) e) [

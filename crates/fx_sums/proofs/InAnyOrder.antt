@@ -10,12 +10,12 @@ use Rattle.fx_layout.specs.Keys.{Layout, Key}
 use Rattle.fx_machine.specs.Sums.{total_at}
 use Rattle.fx_collect.specs.Totals.{with_records}
 use Rattle.fx_sums.specs.declared.notes.Notes.{Notes}
-use Rattle.fx_sums.specs.Sums.{Sum, joined, plus, plus_all, plus_notes, AreAlike}
+use Rattle.fx_sums.specs.Sums.{Sum, joined, plus, plus_all, plus_notes, AreSameSums}
 use Rattle.fx_sums.proofs.SumsOfParts.{shares, reported, lost, left_out, layouts_kept, exchanged}
 
 -- alike, and under the same keys
 abbrev AreSame : Sum → Sum → Type 0
-AreSame s t = AreAlike s t × (s.totals.layout ≡ t.totals.layout)
+AreSame s t = AreSameSums s t × (s.totals.layout ≡ t.totals.layout)
 
 as_is : (s : Sum) → AreSame s s
 as_is s = ((((λ key. refl), refl), refl), refl)
@@ -90,7 +90,7 @@ swapped : (s : Sum) (ts : List Sum) (i j : ℕ) → i < length ts → j < length
 swapped s ts i j p q = subst (λ (us : List Sum). AreSame (plus_all s ts) (plus_all s us)) (swap_is ts i j s p q)
     (any_exchanged ts s s i j p q)
 
-pub in_any_order : (s : Sum) (ts us : List Sum) → IsPermutation ts us → AreAlike (plus_all s ts) (plus_all s us)
+pub in_any_order : (s : Sum) (ts us : List Sum) → IsPermutation ts us → AreSameSums (plus_all s ts) (plus_all s us)
 in_any_order s ts us order =
     (IsPermutation-keeps ts (λ (l : List Sum). AreSame (plus_all s ts) (plus_all s l)) (as_is (plus_all s ts))
     (λ l i j p q h. follows (plus_all s ts) (plus_all s l) (plus_all s (swap l i j)) h (swapped s l i j p q)) us

@@ -11,7 +11,7 @@ use Rattle.fx_base.specs.Fault.{fault_at}
 use Rattle.fx_base.specs.Lines.{Lines, AtLine, AtTextEnd, text_lines, next_number, line_len, first_line, line_ends, after_line, AdvancesToLine, RefusesText, StopsText, Fails}
 use Rattle.fx_base.proofs.GoingOn.{something_follows, something_left, may_follow, nothing_left, to_line}
 use Rattle.fx_base.proofs.TextLines.{lines_first}
-use Rattle.fx_sums.specs.SumReading.{TextLine, missing, wrong, bytes_of, next_line, in_line, MayGive, Gives, Refuses, MayMeet, GoesOnToLine, IsAtEnd}
+use Rattle.fx_sums.specs.SumReading.{SumLine, missing, wrong, bytes_of, next_line, in_line, MayReadTexts, Gives, RefusesTexts, MayMeet, GoesOnToLine, IsAtEnd}
 
 -- ---- going on
 
@@ -19,7 +19,7 @@ line_len_le : (text : List ℕ) → line_len text ≤ length text
 line_len_le text = prefix_len-le-length (λ b. not (b == 10)) text
 
 -- a text whose first line is too long
-long_first : (text : List ℕ) → 4096 < line_len text → (l : TextLine) × (ls : List TextLine) × (text_lines text ≡ l ∷ ls)
+long_first : (text : List ℕ) → 4096 < line_len text → (l : SumLine) × (ls : List SumLine) × (text_lines text ≡ l ∷ ls)
     × (nat_lt 4096 (length l.0) ≡ true)
 long_first text long =
     let le : line_len text ≤ length text = line_len_le text in
@@ -104,17 +104,17 @@ pub gives_line : (old new : Lines) → GoesOnToLine old new → Gives next_line 
 gives_line old new on rest left =
     let at = on.meets rest left in
     let m = at.2 in
-    (at.0, at.1, ap (λ (ls : List TextLine). next_line (old.number, ls)) m.2 ∙ line_is m.0 m.1 m.3.0 m.3.1) where
-      line_is : (l : TextLine) (ls : List TextLine) → bytes_of new.number l ≡ Ok new.line → ls ≡ text_lines rest
+    (at.0, at.1, ap (λ (ls : List SumLine). next_line (old.number, ls)) m.2 ∙ line_is m.0 m.1 m.3.0 m.3.1) where
+      line_is : (l : SumLine) (ls : List SumLine) → bytes_of new.number l ≡ Ok new.line → ls ≡ text_lines rest
           → next_line (old.number, l ∷ ls) ≡ Ok (new.line, (new.number, text_lines rest))
       line_is l ls said same = rw (← on.number, said, same) refl
 
-pub refuses_line : (old new : Lines) (e : Fault) → Fails old new e ⊎ MeetsFault old e → Refuses next_line old new e
+pub refuses_line : (old new : Lines) (e : Fault) → Fails old new e ⊎ MeetsFault old e → RefusesTexts next_line old new e
 refuses_line old new e (inl f) = inl f
 refuses_line old new e (inr (text, left, (l, ls, is, said))) =
-    inr (text, left, ap (λ (ls : List TextLine). next_line (old.number, ls)) is ∙ rw said refl)
+    inr (text, left, ap (λ (ls : List SumLine). next_line (old.number, ls)) is ∙ rw said refl)
 
-pub misses_line : (old new : Lines) → IsAtEnd old new → MayGive next_line old (Err (missing new.number))
+pub misses_line : (old new : Lines) → IsAtEnd old new → MayReadTexts next_line old (Err (missing new.number))
 misses_line old new at =
     let k : old.number ≡ new.number = sym at.number in
     (at.ends.0, at.ends.1, rw (at.ends.2, k) refl)
@@ -127,12 +127,13 @@ module _ {A : Type 0} (read : List ℕ → Option A) (old new : Lines) where
       let g = gives_line old new on rest left in
       (g.0, g.1, rw (g.2, is) refl)
 
-  pub wrong_in_line : GoesOnToLine old new → read new.line ≡ None → MayGive (in_line read) old (Err (wrong new.number))
+  pub wrong_in_line : GoesOnToLine old new → read new.line ≡ None
+      → MayReadTexts (in_line read) old (Err (wrong new.number))
   wrong_in_line on is =
       let some = something_left new.left in
       let g = gives_line old new on some.0 some.1 in
       (g.0, g.1, rw (g.2, is) refl)
 
-  pub refuses_in_line : (e : Fault) → Refuses next_line old new e → Refuses (in_line read) old new e
+  pub refuses_in_line : (e : Fault) → RefusesTexts next_line old new e → RefusesTexts (in_line read) old new e
   refuses_in_line e (inl f) = inl f
   refuses_in_line e (inr (text, left, is)) = inr (text, left, rw is refl)

@@ -8,7 +8,7 @@ use Rattle.fx_sums.specs.declared.notes.Notes.{Notes}
 use Rattle.fx_sums.specs.declared.line_behind.LineBehind.TheVariants as behind
 use Rattle.fx_sums.specs.Sums.{no_notes}
 use Rattle.fx_sums.specs.SumLines.{line_behind, are_whole}
-use Rattle.fx_sums.specs.SumReading.{TextLine, missing, wrong, bytes_of, notes_first, notes_of, MayGive, GivesText, Refuses, GoesOnFrom, GoesOnToLine, GoesOnOrEnds, IsAtEnd}
+use Rattle.fx_sums.specs.SumReading.{SumLine, missing, wrong, bytes_of, notes_first, notes_of, MayReadTexts, GivesText, RefusesTexts, GoesOnFrom, GoesOnToLine, GoesOnOrEnds, IsAtEnd}
 use Rattle.fx_sums.proofs.Lines.{MeetsFault}
 use Rattle.fx_sums.proofs.Tallying.{fails_behind}
 
@@ -39,19 +39,19 @@ module _ (first now : Lines) (notes : Notes) (on : NotesOn first now notes) wher
       let m = meets.2 in
       let all = on meets.0 meets.1 in
       (all.0, all.1, all.2 ∙ ap (notes_first notes now.number) m.2 ∙ behind_it m.0 m.1 m.3.0 m.3.1) where
-        behind_it : (l : TextLine) (ls : List TextLine) → bytes_of new.number l ≡ Ok new.line → ls ≡ text_lines rest
+        behind_it : (l : SumLine) (ls : List SumLine) → bytes_of new.number l ≡ Ok new.line → ls ≡ text_lines rest
             → notes_first notes now.number (l ∷ ls) ≡ notes_first more new.number (text_lines rest)
         behind_it l ls said same = rw (← line.number, said, is, same) refl
 
   pub notes_wrong : (new : Lines) → GoesOnToLine now new → line_behind notes new.line ≡ None
-      → MayGive notes_of first (Err (wrong new.number))
+      → MayReadTexts notes_of first (Err (wrong new.number))
   notes_wrong new line is =
       let some = something_left new.left in
       let meets = line.meets some.0 some.1 in
       let m = meets.2 in
       let all = on meets.0 meets.1 in
       (all.0, all.1, all.2 ∙ ap (notes_first notes now.number) m.2 ∙ behind_it m.0 m.1 m.3.0) where
-        behind_it : (l : TextLine) (ls : List TextLine) → bytes_of new.number l ≡ Ok new.line
+        behind_it : (l : SumLine) (ls : List SumLine) → bytes_of new.number l ≡ Ok new.line
             → notes_first notes now.number (l ∷ ls) ≡ Err (wrong new.number)
         behind_it l ls said = rw (← line.number, said, is) refl
 
@@ -60,30 +60,31 @@ module _ (first now : Lines) (notes : Notes) (on : NotesOn first now notes) wher
       → GivesText notes_of first new notes (Some keys)
   notes_next new keys line since fewer is = (goes_on_from first now new since fewer line, read) where
     read : (rest : List ℕ) → MayBeLeft new.left rest
-        → MayGive notes_of first (Ok (notes, Some (keys, (new.number, text_lines rest))))
+        → MayReadTexts notes_of first (Ok (notes, Some (keys, (new.number, text_lines rest))))
     read rest left =
         let meets = line.meets rest left in
         let m = meets.2 in
         let all = on meets.0 meets.1 in
         (all.0, all.1, all.2 ∙ ap (notes_first notes now.number) m.2 ∙ next m.0 m.1 m.3.0 m.3.1) where
-          next : (l : TextLine) (ls : List TextLine) → bytes_of new.number l ≡ Ok new.line → ls ≡ text_lines rest
+          next : (l : SumLine) (ls : List SumLine) → bytes_of new.number l ≡ Ok new.line → ls ≡ text_lines rest
               → notes_first notes now.number (l ∷ ls) ≡ Ok (notes, Some (keys, (new.number, text_lines rest)))
           next l ls said same = rw (← line.number, said, is, same) refl
 
   pub notes_refused : (new : Lines) (e : Fault) → now.stopped ≡ None → GoesOnToLines first now → Fails now new e
-      ⊎ MeetsFault now e → Refuses notes_of first new e
+      ⊎ MeetsFault now e → RefusesTexts notes_of first new e
   notes_refused new e going since (inl fails) = inl (fails_behind first now new e going since fails)
   notes_refused new e going since (inr (text, left, (l, ls, is, said))) =
       let all = on text left in
       inr (all.0, all.1, all.2 ∙ ap (notes_first notes now.number) is ∙ rw said refl)
 
-  pub notes_all : (new : Lines) → IsAtEnd now new → are_whole notes ≡ true → MayGive notes_of first (Ok (notes, None))
+  pub notes_all : (new : Lines) → IsAtEnd now new → are_whole notes ≡ true
+      → MayReadTexts notes_of first (Ok (notes, None))
   notes_all new at whole =
       let all = on at.ends.0 at.ends.1 in
       (all.0, all.1, all.2 ∙ rw (at.ends.2, whole) refl)
 
   pub notes_missing : (new : Lines) → IsAtEnd now new → are_whole notes ≡ false
-      → MayGive notes_of first (Err (missing new.number))
+      → MayReadTexts notes_of first (Err (missing new.number))
   notes_missing new at whole =
       let all = on at.ends.0 at.ends.1 in
       (all.0, all.1, all.2 ∙ rw (at.ends.2, whole, ← at.number) refl)

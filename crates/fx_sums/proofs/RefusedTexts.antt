@@ -8,7 +8,7 @@ use Rattle.fx_base.specs.declared.fault.Fault.{Fault}
 use Rattle.fx_layout.specs.Keys.{Layout}
 use Rattle.fx_collect.specs.Totals.{Totals, with_record}
 use Rattle.fx_sums.specs.SumLines.{are_whole, line_behind, number_behind, record_behind}
-use Rattle.fx_sums.specs.SumReading.{◌>>=◌, Next, Rest, TextLine, bytes_of, formed, in_line, next_line, notes_first, notes_of, on_or_next, sum_of_texts, sum_with, tallied, texts_up_to, totals_with}
+use Rattle.fx_sums.specs.SumReading.{◌>>=◌, Next, Rest, SumLine, bytes_of, formed, in_line, next_line, notes_first, notes_of, on_or_next, sum_of_texts, sum_with, tallied, texts_up_to, totals_with}
 use Rattle.fx_sums.specs.Sums.{Sum, no_notes}
 use Rattle.fx_sums.specs.declared.line_behind.LineBehind.{LineBehind}
 use Rattle.fx_sums.specs.declared.line_behind.LineBehind.TheVariants as behind
@@ -33,7 +33,7 @@ then_reported (Err e) f one all = one
 
 -- ---- lines
 
-bytes_reported : (n : ℕ) (l : TextLine) → HasTextFault (bytes_of n l)
+bytes_reported : (n : ℕ) (l : SumLine) → HasTextFault (bytes_of n l)
 bytes_reported n l = either_reported (nat_lt line_length_limit (length l.0)) _ _ (inr refl)
     (either_reported l.1 _ _ tt (inl refl))
 
@@ -72,7 +72,7 @@ said_reported : (on : Notes → Result (Notes × Next) Fault) (notes : Notes) (r
 said_reported on notes rest (behind.Notes more) all = all more
 said_reported on notes rest (behind.Keys keys) all = tt
 
-notes_reported : (notes : Notes) (n : ℕ) (ls : List TextLine) → HasTextFault (notes_first notes n ls)
+notes_reported : (notes : Notes) (n : ℕ) (ls : List SumLine) → HasTextFault (notes_first notes n ls)
 notes_reported notes n [] = either_reported (are_whole notes) _ _ (tt) (inl refl)
 notes_reported notes n (l ∷ ls) =
     then_reported (bytes_of (next_number n) l) _ (bytes_reported (next_number n) l)

@@ -12,7 +12,7 @@ use Rattle.fx_collect.specs.Totals.{Totals, IsTable, nothing, with_record, with_
 use Rattle.fx_collect.proofs.TotalsOfTotals.{table_added, restated}
 use Rattle.fx_sums.specs.declared.notes.Notes.{Notes}
 use Rattle.fx_sums.specs.declared.notes.SkippedFrames.{SkippedFrames}
-use Rattle.fx_sums.specs.Sums.{Sum, joined, plus, plus_totals, plus_numbers, plus_frames, plus_notes, HaveSameTotals, AreAlike}
+use Rattle.fx_sums.specs.Sums.{Sum, joined, plus, plus_totals, plus_numbers, plus_frames, plus_notes, HaveSameTotals, AreSameSums}
 use Rattle.fx_sums.proofs.Tallying.{layout_kept}
 
 -- ---- counts
@@ -313,7 +313,7 @@ notes_exchanged m n o =
     )
     refl
 
-pub exchanged : (s t u : Sum) → AreAlike (plus (plus s t) u) (plus (plus s u) t)
+pub exchanged : (s t u : Sum) → AreSameSums (plus (plus s t) u) (plus (plus s u) t)
 exchanged s t u = (
   (
     totals,

@@ -9,7 +9,7 @@ use Rattle.fx_tables.specs.declared.record.Record.{Record}
 use Rattle.fx_machine.specs.States.{add_at}
 use Rattle.fx_collect.specs.Totals.{Totals, with_record, with_unassigned}
 use Rattle.fx_sums.specs.SumLines.{record_behind}
-use Rattle.fx_sums.specs.SumReading.{◌>>=◌, Rest, in_line, tallied, MayGive, Gives, Refuses}
+use Rattle.fx_sums.specs.SumReading.{◌>>=◌, Rest, in_line, tallied, MayReadTexts, Gives, RefusesTexts}
 
 pub fails_behind : (first old new : Lines) (e : Fault) → old.stopped ≡ None → GoesOnToLines first old → Fails old new e
     → Fails first new e
@@ -49,8 +49,9 @@ module _ (layout : Layout) (count : ℕ) (before : Totals) (first now : Lines) (
       (all.0, all.1, all.2 ∙ ap (λ (n : ℕ). tallied layout n last t (now.number, text_lines rest)) none)
 
   pub tallies_wrong : (new : Lines) (more : ℕ) (e : Fault) → TalliesOn layout count before first now more last t → 0
-      < more → now.stopped ≡ None → GoesOnToLines first now → Refuses (in_line (record_behind layout last)) now new e
-      → Refuses (tallied layout count None before) first new e
+      < more → now.stopped ≡ None → GoesOnToLines first now
+      → RefusesTexts (in_line (record_behind layout last)) now new e
+      → RefusesTexts (tallied layout count None before) first new e
   tallies_wrong new more e on some going since (inl fails) = inl (fails_behind first now new e going since fails)
   tallies_wrong new more e on some going since (inr (text, left, is)) =
       let all = on text left in
@@ -77,18 +78,18 @@ layout_kept t r =
 module _ {A B : Type 0} (first : Rest → Result (A × Rest) Fault) (next : A × Rest → Result B Fault)
     (old mid new : Lines) (x : A) (reads : Gives first old mid x) where
   -- what comes of what is behind comes of both
-  pub gives_then : (result : Result B Fault) → MayGive (λ rest. next (x, rest)) mid result
-      → MayGive (λ rest. first rest >>= next) old result
+  pub gives_then : (result : Result B Fault) → MayReadTexts (λ rest. next (x, rest)) mid result
+      → MayReadTexts (λ rest. first rest >>= next) old result
   gives_then result (text, left, is) =
       let before = reads text left in
       (before.0, before.1, rw before.2 is)
 
   pub refuses_then : (e : Fault) → mid.stopped ≡ None → GoesOnToLines old mid
-      → Refuses (λ rest. next (x, rest)) mid new e → Refuses (λ rest. first rest >>= next) old new e
+      → RefusesTexts (λ rest. next (x, rest)) mid new e → RefusesTexts (λ rest. first rest >>= next) old new e
   refuses_then e going on (inl fails) = inl (fails_behind old mid new e going on fails)
   refuses_then e going on (inr m) = inr (gives_then (Err e) m)
 
 pub refuses_first : {A B : Type 0} (first : Rest → Result A Fault) (next : A → Result B Fault) (old new : Lines)
-    (e : Fault) → Refuses first old new e → Refuses (λ rest. first rest >>= next) old new e
+    (e : Fault) → RefusesTexts first old new e → RefusesTexts (λ rest. first rest >>= next) old new e
 refuses_first first next old new e (inl fails) = inl fails
 refuses_first first next old new e (inr (text, left, is)) = inr (text, left, rw is refl)

@@ -21,7 +21,7 @@ use Rattle.fx_sums.specs.declared.line_behind.LineBehind.TheVariants as behind
 use Rattle.fx_sums.specs.Sums.{Sum, plus, plus_all, plus_notes, no_notes}
 use Rattle.fx_sums.specs.SumText.{complete_text, frames_text, number_text, notes_text, noted_text, noted_texts, KeysAscendBehind, IsRecordUnder, AreNotes, IsNoted}
 use Rattle.fx_sums.specs.SumLines.{number_behind, record_behind, note_of, with_note, notes_with, are_whole, notes_or_keys, line_behind}
-use Rattle.fx_sums.specs.SumReading.{TextLine, Rest, Next, bytes_of, formed, next_line, in_line, tallied, totals_with, on_or_next, notes_first, notes_of, sum_with, texts_up_to, sum_of_texts}
+use Rattle.fx_sums.specs.SumReading.{SumLine, Rest, Next, bytes_of, formed, next_line, in_line, tallied, totals_with, on_or_next, notes_first, notes_of, sum_with, texts_up_to, sum_of_texts}
 use Rattle.fx_sums.proofs.Fewer.{ok_is, by_ok}
 use Rattle.fx_sums.proofs.SumsOfParts.{layouts_kept}
 use Rattle.fx_sums.proofs.LinesFound.{IsNumber, number_line_found, record_found, behind_found, note_text, IsNote, note_found}
@@ -29,13 +29,13 @@ use Rattle.fx_sums.proofs.LinesFound.{IsNumber, number_line_found, record_found,
 -- ---- the text of lines
 
 -- a line, with its line feed where it has one
-abbrev pub line_text : TextLine → List ℕ
+abbrev pub line_text : SumLine → List ℕ
 line_text l = l.0 ++ cond l.1 (10 ∷ []) []
 
-abbrev pub text_of : List TextLine → List ℕ
+abbrev pub text_of : List SumLine → List ℕ
 text_of ls = flat_map line_text ls
 
-begun : (b : ℕ) (ls : List TextLine) → text_of (begin_line b ls) ≡ b ∷ text_of ls
+begun : (b : ℕ) (ls : List SumLine) → text_of (begin_line b ls) ≡ b ∷ text_of ls
 begun b [] = refl
 begun b (l ∷ ls) = refl
 
@@ -49,7 +49,7 @@ text_back (b ∷ bs) = by_feed (eqb b 10) refl (text_back bs) where
 
 -- ---- a line
 
-bytes_found : (n : ℕ) (l : TextLine) (line : List ℕ) → bytes_of n l ≡ Ok line → line_text l ≡ line ++ 10 ∷ []
+bytes_found : (n : ℕ) (l : SumLine) (line : List ℕ) → bytes_of n l ≡ Ok line → line_text l ≡ line ++ 10 ∷ []
 bytes_found n l line e =
     elim (chosen (nat_lt 4096 (length l.0)) _ _ (Ok line) e) [
       | inl h ↦ absurd cc
@@ -60,10 +60,10 @@ bytes_found n l line e =
     ]
 
 -- the text of a line, and that of the lines behind it
-abbrev IsLineBefore : List TextLine → List ℕ → List TextLine → Type 0
+abbrev IsLineBefore : List SumLine → List ℕ → List SumLine → Type 0
 IsLineBefore ls line rest = text_of ls ≡ (line ++ 10 ∷ []) ++ text_of rest
 
-next_found : (n : ℕ) (ls : List TextLine) (q : List ℕ × Rest) → next_line (n, ls) ≡ Ok q → IsLineBefore ls q.0 q.1.1
+next_found : (n : ℕ) (ls : List SumLine) (q : List ℕ × Rest) → next_line (n, ls) ≡ Ok q → IsLineBefore ls q.0 q.1.1
 next_found n [] q e = absurd cc
 next_found n (l ∷ ls) q e =
     by_ok (bytes_of (next_number n) l) _ q e (λ line pl el.
@@ -87,7 +87,7 @@ line_found read (n, ls) r e =
 
 -- ---- totals
 
-record Tallied (layout : Layout) (count : ℕ) (last : Option (List ℕ)) (t : Totals) (ls : List TextLine)
+record Tallied (layout : Layout) (count : ℕ) (last : Option (List ℕ)) (t : Totals) (ls : List SumLine)
     (r : Totals × Rest) : Type 0 where
   rs : List Record
   many : length rs ≡ count
@@ -119,7 +119,7 @@ tallied_found layout (suc count) last t rest r is e =
     })
 
 -- the totals that were read
-record TotalsRead (layout : Layout) (keys : ℕ) (t : Totals) (ls : List TextLine) (r : Totals × Rest) : Type 0 where
+record TotalsRead (layout : Layout) (keys : ℕ) (t : Totals) (ls : List SumLine) (r : Totals × Rest) : Type 0 where
   rs : List Record
   unassigned : ℕ
   many : length rs ≡ keys
@@ -318,7 +318,7 @@ IsNext (Some next) = IsNumber next.0
 abbrev NotesAre : Notes → List ℕ → Notes × Next → Type 0
 NotesAre n text r = (notes_text r.0 ++ next_text r.1 ≡ notes_text n ++ text) × AreNotes r.0 × IsNext r.1
 
-notes_found : (ls : List TextLine) (k : ℕ) (n : Notes) (r : Notes × Next) → SoFar n → notes_first n k ls ≡ Ok r
+notes_found : (ls : List SumLine) (k : ℕ) (n : Notes) (r : Notes × Next) → SoFar n → notes_first n k ls ≡ Ok r
     → NotesAre n (text_of ls) r
 notes_found [] k n r so e =
     elim (chosen (are_whole n) (Ok (n, None)) _ (Ok r) e) [
@@ -353,7 +353,7 @@ notes_found (l ∷ ls) k n r so e =
 
 -- ---- a text
 
-record TextRead (keys : ℕ) (s : Sum) (ls : List TextLine) (r : Sum × Next) : Type 0 where
+record TextRead (keys : ℕ) (s : Sum) (ls : List SumLine) (r : Sum × Next) : Type 0 where
   t : Sum
   text : number_line (codes "keys ") keys ++ text_of ls ≡ noted_text t ++ next_text r.1
   noted : IsNoted s.totals.layout t

@@ -5,7 +5,7 @@ use Rattle.fx_base.specs.Device.{MayBeLeft, MayHaveLeft}
 use Rattle.fx_base.specs.Lines.{Lines, GoesOnToLines, text_lines}
 use Rattle.fx_sums.specs.Sums.{Sum}
 use Rattle.fx_sums.specs.SumLines.{number_behind}
-use Rattle.fx_sums.specs.SumReading.{◌>>=◌, Rest, Next, in_line, sum_with, texts_up_to, sum_of_texts, MayGive, Gives, GivesText, Refuses}
+use Rattle.fx_sums.specs.SumReading.{◌>>=◌, Rest, Next, in_line, sum_with, texts_up_to, sum_of_texts, MayReadTexts, Gives, GivesText, RefusesTexts}
 use Rattle.fx_sums.proofs.Fewer.{one_fewer, text_fewer}
 use Rattle.fx_sums.proofs.Tallying.{fails_behind}
 
@@ -33,14 +33,15 @@ module _ (before : Sum) (first : Lines) where
       (keys, (now.number, text_lines rest)) a.2 in
       (a.0, a.1, (length (text_lines a.0), fewer, rw a.2 refl))
 
-  pub texts_none : (new : Lines) (e : Fault) → Refuses keys_in first new e → Refuses (sum_of_texts before) first new e
+  pub texts_none : (new : Lines) (e : Fault) → RefusesTexts keys_in first new e
+      → RefusesTexts (sum_of_texts before) first new e
   unfolding sum_of_texts
   texts_none new e (inl fails) = inl fails
   texts_none new e (inr (text, left, is)) = inr (text, left, rw is refl)
 
   module _ (now : Lines) (keys : ℕ) (s : Sum) (on : TextsOn before first now keys s) where
     -- one text of those that are left
-    one : {result : Result (Sum × Next) Fault} → MayGive (sum_with keys s) now result
+    one : {result : Result (Sum × Next) Fault} → MayReadTexts (sum_with keys s) now result
         → MayHaveLeft first.left (λ text. (fewer : ℕ) × (rest : List ℕ) × (length (text_lines rest) < suc fewer)
         × (sum_with keys s (now.number, text_lines rest) ≡ result)
         × (sum_of_texts before (first.number, text_lines text) ≡ (result >>= λ r. texts_up_to r.0 r.1 fewer)))
@@ -72,10 +73,10 @@ module _ (before : Sum) (first : Lines) where
         (a.0, a.1, (a.2.0, omega (arith, fewer, some), a.2.4))
 
     pub texts_all : (new : Lines) (s' : Sum) → GivesText (sum_with keys s) now new s' None
-        → MayGive (sum_of_texts before) first (Ok s')
+        → MayReadTexts (sum_of_texts before) first (Ok s')
     texts_all new s' h = let a = one h in (a.0, a.1, a.2.4)
 
     pub texts_refused : (new : Lines) (e : Fault) → now.stopped ≡ None → GoesOnToLines first now
-        → Refuses (sum_with keys s) now new e → Refuses (sum_of_texts before) first new e
+        → RefusesTexts (sum_with keys s) now new e → RefusesTexts (sum_of_texts before) first new e
     texts_refused new e going since (inl fails) = inl (fails_behind first now new e going since fails)
     texts_refused new e going since (inr may) = let a = one may in inr (a.0, a.1, a.2.4)

@@ -15,7 +15,7 @@ use Rattle.fx_sums.specs.declared.note.Note.TheVariants.{Complete, Frames, Gaps,
 use Rattle.fx_sums.specs.Sums.{Sum, plus, plus_all, no_notes}
 use Rattle.fx_sums.specs.SumText.{complete_text, frames_text, number_text, notes_text, noted_text, noted_texts, KeysAscendBehind, IsRecordUnder, AreNotes, IsNoted, HasShortLines}
 use Rattle.fx_sums.specs.SumLines.{number_behind, record_of, record_behind, with_note, notes_with, are_whole, line_behind}
-use Rattle.fx_sums.specs.SumReading.{TextLine, Next, bytes_of, in_line, tallied, totals_with, notes_first, sum_with, texts_up_to, sum_of_texts}
+use Rattle.fx_sums.specs.SumReading.{SumLine, Next, bytes_of, in_line, tallied, totals_with, notes_first, sum_with, texts_up_to, sum_of_texts}
 use Rattle.fx_sums.proofs.LinesFound.{IsNumber, IsNote, note_text, note_line, record_text}
 use Rattle.fx_sums.proofs.LinesRead.{written, number_read, number_line_plain, key_line, key_plain, record_read, behind_read, note_bytes, note_plain, note_no_keys, note_read}
 use Rattle.fx_sums.proofs.Fewer.{lines_behind, one_fewer, text_fewer}
@@ -29,7 +29,7 @@ first_line_is : (line rest : List ℕ) → Avoids 10 line → text_lines ((line 
 first_line_is [] rest h = refl
 first_line_is (b ∷ bs) rest h = rw (ne_eqb b 10 h.0, first_line_is bs rest h.1) refl
 
-abbrev Fits : List TextLine → Type 0
+abbrev Fits : List SumLine → Type 0
 Fits ls = AllByRecursion (λ l. length l.0 ≤ 4096) ls
 
 module _ (line rest : List ℕ) (plain : Avoids 10 line) (short : HasShortLines ((line ++ 10 ∷ []) ++ rest)) where
@@ -103,7 +103,7 @@ one_note n note m k rest is fits short =
     let bytes = bytes_read line rest plain fine (next_number k) in (
       next_number k,
       ap (λ (x : List ℕ). notes_first n k (text_lines x)) text
-          ∙ ap (λ (ls : List TextLine). notes_first n k ls) (first_line_is line rest plain)
+          ∙ ap (λ (ls : List SumLine). notes_first n k ls) (first_line_is line rest plain)
           ∙ rw (bytes, note_no_keys note is, note_read note is, fits) refl,
       short_behind line rest plain fine,
     )
@@ -218,7 +218,7 @@ module _ (t : Sum) (rest : List ℕ) (few : IsNumber (length t.totals.entries))
   next_read m j whole =
       let bytes = bytes_read (first_of t) (body_of t ++ rest) first_plain fine (next_number j) in
       ap (λ (x : List ℕ). notes_first m j (text_lines x)) (parts_of t rest)
-      ∙ ap (λ (ls : List TextLine). notes_first m j ls) (first_line_is (first_of t) (body_of t ++ rest) first_plain)
+      ∙ ap (λ (ls : List SumLine). notes_first m j ls) (first_line_is (first_of t) (body_of t ++ rest) first_plain)
       ∙ rw (bytes, first_says, whole) refl
 
 abbrev AreNoted : Layout → List Sum → Type 0

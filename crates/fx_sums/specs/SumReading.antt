@@ -23,12 +23,12 @@ abbrev pub ◌>>=◌ : {A B : Type 0} → Result A Fault → (A → Result B Fau
 -- ---- lines
 
 -- a line, and whether a line feed ended it
-abbrev pub TextLine : Type 0
-TextLine = List ℕ × Bool
+abbrev pub SumLine : Type 0
+SumLine = List ℕ × Bool
 
 -- the number of the previous line, and the lines still to be read
 abbrev pub Rest : Type 0
-Rest = ℕ × List TextLine
+Rest = ℕ × List SumLine
 
 -- the fault if the line after line n is missing
 abbrev pub missing : ℕ → Fault
@@ -39,7 +39,7 @@ abbrev pub wrong : ℕ → Fault
 wrong n = fault_at totals_form (places.Line n)
 
 -- the bytes of line n, which is within the limit and ended by a line feed
-abbrev pub bytes_of : ℕ → TextLine → Result (List ℕ) Fault
+abbrev pub bytes_of : ℕ → SumLine → Result (List ℕ) Fault
 bytes_of n l = if nat_lt line_length_limit (length l.0) then Err (fault_at long_line (places.Line n)) else if l.1
     then Ok l.0 else Err (wrong n)
 
@@ -86,7 +86,7 @@ on_or_next on notes rest (behind.Notes more) = on more
 on_or_next on notes rest (behind.Keys keys) = Ok (notes, Some (keys, rest))
 
 -- these notes and those up to the end of the text
-abbrev pub notes_first : Notes → ℕ → List TextLine → Result (Notes × Next) Fault
+abbrev pub notes_first : Notes → ℕ → List SumLine → Result (Notes × Next) Fault
 notes_first notes n [] = if are_whole notes then Ok (notes, None) else Err (missing n)
 notes_first notes n (l ∷ ls) = do
   line ← bytes_of (next_number n) l
@@ -127,30 +127,30 @@ pub record GoesOnFrom (old new : Lines) : Type 0 where
   pub smaller : line_budget new < line_budget old
 
 -- this is the result of reading what the reader may have left
-abbrev pub MayGive : {A : Type 0} → (Rest → Result A Fault) → Lines → Result A Fault → Type 0
-MayGive read lines result = MayHaveLeft lines.left (λ text. read (lines.number, text_lines text) ≡ result)
+abbrev pub MayReadTexts : {A : Type 0} → (Rest → Result A Fault) → Lines → Result A Fault → Type 0
+MayReadTexts read lines result = MayHaveLeft lines.left (λ text. read (lines.number, text_lines text) ≡ result)
 
 -- whatever is left now, this is what was read from what may have been left before
 abbrev pub Gives : {A : Type 0} → (Rest → Result (A × Rest) Fault) → Lines → Lines → A → Type 0
 Gives read old new x = (rest : List ℕ) → MayBeLeft new.left rest
-    → MayGive read old (Ok (x, (new.number, text_lines rest)))
+    → MayReadTexts read old (Ok (x, (new.number, text_lines rest)))
 
 -- the reader fails as a reader of lines does, or with the fault of this reading
-abbrev pub Refuses : {A : Type 0} → (Rest → Result A Fault) → Lines → Lines → Fault → Type 0
-Refuses read old new e = Fails old new e ⊎ MayGive read old (Err e)
+abbrev pub RefusesTexts : {A : Type 0} → (Rest → Result A Fault) → Lines → Lines → Fault → Type 0
+RefusesTexts read old new e = Fails old new e ⊎ MayReadTexts read old (Err e)
 
 -- the result ends a text, and the reader is where the text ends: at the end, or after the next text's first line
 abbrev pub GivesText : {A : Type 0} → (Rest → Result (A × Next) Fault) → Lines → Lines → A → Option ℕ → Type 0
-GivesText read old new x None = MayGive read old (Ok (x, None))
+GivesText read old new x None = MayReadTexts read old (Ok (x, None))
 GivesText read old new x (Some keys) =
     GoesOnFrom old new
     × ((rest : List ℕ) → MayBeLeft new.left rest
-    → MayGive read old (Ok (x, Some (keys, (new.number, text_lines rest)))))
+    → MayReadTexts read old (Ok (x, Some (keys, (new.number, text_lines rest)))))
 
 -- a line is left, and the property holds for it and the lines after it
-abbrev pub MayMeet : Lines → (TextLine → List TextLine → Type 0) → Type 0
+abbrev pub MayMeet : Lines → (SumLine → List SumLine → Type 0) → Type 0
 MayMeet lines P = MayHaveLeft lines.left
-    (λ text. (l : TextLine) × (ls : List TextLine) × (text_lines text ≡ l ∷ ls) × P l ls)
+    (λ text. (l : SumLine) × (ls : List SumLine) × (text_lines text ≡ l ∷ ls) × P l ls)
 
 -- the reader advances to a line that a line feed ends
 pub record GoesOnToLine (old new : Lines) : Type 0 where

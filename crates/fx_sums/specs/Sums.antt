@@ -63,5 +63,5 @@ plus_all s (t ∷ ts) = plus_all (plus s t) ts
 abbrev pub HaveSameTotals : Totals → Totals → Type 0
 HaveSameTotals t u = ((key : Key) → total_at t.entries key ≡ total_at u.entries key) × (t.unassigned ≡ u.unassigned)
 
-abbrev pub AreAlike : Sum → Sum → Type 0
-AreAlike s t = HaveSameTotals s.totals t.totals × (s.notes ≡ t.notes)
+abbrev pub AreSameSums : Sum → Sum → Type 0
+AreSameSums s t = HaveSameTotals s.totals t.totals × (s.notes ≡ t.notes)

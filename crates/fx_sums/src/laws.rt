@@ -7,7 +7,7 @@ ghost use Rattle.fx_base.specs.declared.fault.Fault as faults;
 ghost use Rattle.fx_layout.specs.Keys.{Layout, IsLayout};
 ghost use Rattle.fx_tables.specs.declared.record.Record.{Record};
 ghost use Rattle.fx_collect.specs.Totals.{nothing, with_records};
-ghost use Rattle.fx_sums.specs.Sums.{Sum, plus, plus_all, plus_totals, AreAlike, HaveSameTotals};
+ghost use Rattle.fx_sums.specs.Sums.{Sum, plus, plus_all, plus_totals, AreSameSums, HaveSameTotals};
 ghost use Rattle.fx_sums.specs.SumText.{noted_texts, IsNoted, HasShortLines};
 ghost use Rattle.fx_sums.specs.SumReading.{Rest, texts_up_to, sum_of_texts};
 
@@ -17,9 +17,9 @@ pub fn sums_of_parts()
     ensures together { (layout : Layout) (a b : List Record) → IsLayout layout → HaveSameTotals
         (plus_totals (with_records (nothing layout) a) (with_records (nothing layout) b))
         (with_records (nothing layout) (a ++ b)) }
-    ensures exchanged { (s t u : Sum) → AreAlike (plus (plus s t) u) (plus (plus s u) t) }
+    ensures exchanged { (s t u : Sum) → AreSameSums (plus (plus s t) u) (plus (plus s u) t) }
     ensures in_any_order { (s : Sum) (ts us : List Sum) → IsPermutation ts us
-        → AreAlike (plus_all s ts) (plus_all s us) }
+        → AreSameSums (plus_all s ts) (plus_all s us) }
 {}
 
 /// States that texts of totals and notes under the keys of a sum's layout, in ascending order, one after another, are

@@ -5,7 +5,7 @@ ghost use Rattle.fx_base.specs.Fault.{IsMemory};
 ghost use Rattle.fx_collect.specs.Report.{KeysAscend};
 ghost use Rattle.fx_sums.specs.Sums.{no_sum, IsSumBut};
 ghost use Rattle.fx_sums.specs.SumText.{noted_text};
-ghost use Rattle.fx_sums.specs.SumReading.{sum_with, sum_of_texts, MayGive, GivesText, Refuses};
+ghost use Rattle.fx_sums.specs.SumReading.{sum_with, sum_of_texts, MayReadTexts, GivesText, RefusesTexts};
 
 use crate::notes::Notes;
 use crate::notes_put::put_notes;
@@ -62,7 +62,7 @@ impl Sum {
         requires { lines.old.stopped ≡ None }
         ensures ok { IfOk result (GivesText (sum_with keys self.old) lines.old lines.new self.new) }
         ensures err { IfErr result (λ e. IsMemory e
-            ⊎ Refuses (sum_with keys self.old) lines.old lines.new e) }
+            ⊎ RefusesTexts (sum_with keys self.old) lines.old lines.new e) }
     {
         add_totals(&mut self.totals, &self.layout, lines, keys)?;
         let (notes, next) = read_notes(lines)?;
@@ -87,9 +87,9 @@ impl Sum {
     /// does, at its place (901, 903), and with 900, at no place, if out of memory. After a fault the sum must not be
     /// used.
     pub fn add_texts<R: Source>(&mut self, lines: &mut LineReader<R>) -> Result<(), Fault>
-        ensures ok { OnOk result (MayGive (sum_of_texts self.old) lines.old (Ok self.new)) }
+        ensures ok { OnOk result (MayReadTexts (sum_of_texts self.old) lines.old (Ok self.new)) }
         ensures err { IfErr result (λ e. IsMemory e
-            ⊎ Refuses (sum_of_texts self.old) lines.old lines.new e) }
+            ⊎ RefusesTexts (sum_of_texts self.old) lines.old lines.new e) }
     {
         let mut keys = read_number(lines, b"keys")?;
         'texts: loop {

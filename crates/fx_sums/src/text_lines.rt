@@ -3,7 +3,7 @@ ghost use Rattle.std.specs.Prelude.{◌≡◌, ◌⊎◌, ◌≤◌, ◌<◌, No
 ghost use Rattle.fx_base.specs.Fault.{IsMemory};
 ghost use Rattle.fx_base.specs.Lines.{GoesOnToLines, line_budget};
 ghost use Rattle.fx_sums.specs.SumLines.{number_behind, record_behind};
-ghost use Rattle.fx_sums.specs.SumReading.{next_line, in_line, tallied, totals_with, notes_of, missing, wrong, Gives, GivesText, Refuses, GoesOnFrom, GoesOnToLine, GoesOnOrEnds};
+ghost use Rattle.fx_sums.specs.SumReading.{next_line, in_line, tallied, totals_with, notes_of, missing, wrong, Gives, GivesText, RefusesTexts, GoesOnFrom, GoesOnToLine, GoesOnOrEnds};
 
 use crate::line_behind::{LineBehind, read_line_behind};
 use crate::note::read_number_line;
@@ -45,7 +45,7 @@ fn wrong_line<R: Source>(lines: &LineReader<R>) -> Fault
 /// Advances to the next line, which must exist.
 fn go_on<R: Source>(lines: &mut LineReader<R>) -> Result<(), Fault>
     ensures ok { OnOk result (GoesOnToLine lines.old lines.new) }
-    ensures err { IfErr result (Refuses next_line lines.old lines.new) }
+    ensures err { IfErr result (RefusesTexts next_line lines.old lines.new) }
 {
     if !go_on_or_end(lines)? {
         return Err(missing_line(lines));
@@ -58,7 +58,8 @@ pub(crate) fn read_number<R: Source>(lines: &mut LineReader<R>, word: &[u8]) -> 
     ensures on { OnOk result (GoesOnToLine lines.old lines.new) }
     ensures ok { IfOk result (λ n.
         Gives (in_line (number_behind word.now)) lines.old lines.new n) }
-    ensures err { IfErr result (Refuses (in_line (number_behind word.now)) lines.old lines.new) }
+    ensures err { IfErr result (RefusesTexts (in_line (number_behind word.now)) lines.old
+        lines.new) }
 {
     go_on(lines)?;
     match read_number_line(word, lines.line().bytes) {
@@ -76,7 +77,7 @@ fn read_record<R: Source>(
     ensures on { OnOk result (GoesOnToLine lines.old lines.new) }
     ensures ok { IfOk result (λ entry. Gives (in_line (record_behind layout.now
         (option_map (λ k. k.values) last.now))) lines.old lines.new entry) }
-    ensures err { IfErr result (Refuses (in_line (record_behind layout.now
+    ensures err { IfErr result (RefusesTexts (in_line (record_behind layout.now
         (option_map (λ k. k.values) last.now))) lines.old lines.new) }
 {
     go_on(lines)?;
@@ -101,7 +102,7 @@ fn tally_records<R: Source>(
     ensures ok { OnOk result (Gives (tallied layout.now count None totals.old) lines.old lines.new
         totals.new) }
     ensures err { IfErr result (λ e. IsMemory e
-        ⊎ Refuses (tallied layout.now count None totals.old) lines.old lines.new e) }
+        ⊎ RefusesTexts (tallied layout.now count None totals.old) lines.old lines.new e) }
 {
     let mut last = None;
     let mut left = count;
@@ -129,7 +130,7 @@ pub(crate) fn add_totals<R: Source>(
     ensures ok { OnOk result (Gives (totals_with layout.now keys totals.old) lines.old lines.new
         totals.new) }
     ensures err { IfErr result (λ e. IsMemory e
-        ⊎ Refuses (totals_with layout.now keys totals.old) lines.old lines.new e) }
+        ⊎ RefusesTexts (totals_with layout.now keys totals.old) lines.old lines.new e) }
 {
     tally_records(totals, layout, lines, keys)?;
     let unassigned = read_number(lines, b"unassigned")?;
@@ -143,7 +144,7 @@ pub(crate) fn read_notes<R: Source>(
 ) -> Result<(Notes, Option<u64>), Fault>
     requires { lines.old.stopped ≡ None }
     ensures ok { IfOk result (λ r. GivesText notes_of lines.old lines.new r.0 r.1) }
-    ensures err { IfErr result (Refuses notes_of lines.old lines.new) }
+    ensures err { IfErr result (RefusesTexts notes_of lines.old lines.new) }
 {
     let mut notes = Notes::new();
     'notes: loop {
