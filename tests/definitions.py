@@ -92,7 +92,7 @@ INTRODUCTION = """# The definitions to believe, by command
 
 `python3 tests/definitions.py` writes this file, and the gate compares it. Don't change it by hand.
 
-A contract says no more than its definitions, so whoever relies on a command has to read them and believe that they say what they should. Each list begins with the names that the contract's `ensures` clauses use and follows every name to its own definition, and so on; an unused import adds nothing. A list leaves out what lists above it have. Definitions in no list are means of proof, or serve contracts of other functions.
+A contract says no more than its definitions, so whoever relies on a command has to read and believe them. Each list begins with the names that the contract's `ensures` clauses use and follows every name to its own definition, and so on; an unused import adds nothing. A list leaves out what lists above it have. Definitions in no list are means of proof, or serve contracts of other functions.
 
 `fx_layout/Keys` is `crates/fx_layout/specs/Keys.antt`. `(2/7)` after it means 2 definitions of 7 lines, with their types and without comments and empty lines. Types and constants of Rust that the definitions name are listed by crate and file, and not counted; their fields and values are in `crates/NAME/src`. How a contract sees its arguments (`ghost view`) isn't followed: the types of the definitions that take them show it. Names of libraries come last; the kit says what they mean.
 """

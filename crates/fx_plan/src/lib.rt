@@ -14,6 +14,9 @@ mod points;
 mod processes;
 mod ranks;
 
-pub use fx_topology::{LinkTable, NamedLink, NetworkDevice, NetworkDocument, Report, read_network};
+pub use fx_topology::{
+    LinkTable, NamedLink, NetworkDevice, NetworkDocument, Report, Sizes, read_network,
+    read_network_within,
+};
 pub use laws::{documents_name_axes, plans_have_complete_runs};
-pub use plan::{Plan, read_plan};
+pub use plan::{Plan, net_of, read_plan};

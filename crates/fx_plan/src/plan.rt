@@ -95,8 +95,10 @@ fn net_labelled(
     ))
 }
 
-/// Returns the network that a document describes.
-fn net_of(alloc: Global, network: &NetworkDocument) -> Result<Net, AllocError>
+/// Returns the network that a document describes, of any size. It may have cycles, and more layouts than a [`Plan`].
+///
+/// Fails if out of memory.
+pub fn net_of(alloc: Global, network: &NetworkDocument) -> Result<Net, AllocError>
     ensures { IfOk result (λ net. net ≡ tables.net_of network.now) }
 {
     let collecting = labels_of::<CollectingProcess>(alloc, network.devices.as_slice())?;

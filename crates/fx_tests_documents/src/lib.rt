@@ -57,3 +57,5 @@ mod selectors;
 mod traffic;
 #[cfg(test)]
 mod traffic_refusals;
+#[cfg(test)]
+mod whole;

@@ -9,7 +9,6 @@ use Rattle.fx_walk.specs.Lists.{is_among, list_faults}
 use Rattle.fx_walk.specs.Scalars.{name_faults, text_of}
 use Rattle.fx_config.specs.declared.ipfix.Device.{Device}
 use Rattle.fx_config.specs.declared.exporting_process.ExportingProcess.{ExportingProcess}
-use Rattle.fx_topology.specs.Limits.{link_limit}
 use Rattle.fx_topology.specs.declared.link.NamedLink.{NamedLink}
 use Rattle.fx_topology.specs.declared.network_device.NetworkDevice.{NetworkDevice}
 use Rattle.fx_base.specs.Refusals.{linked_twice, unknown_link_end}
@@ -85,9 +84,9 @@ links_faults devices earlier up i [] = []
 links_faults devices earlier up i (d ∷ ds) = link_faults devices earlier (nth up i) d
     ++ links_faults devices (earlier ++ link_of d ∷ []) up (i + 1) ds
 
--- the list of links, which may be empty but is required
-abbrev pub links_row : List NetworkDevice → Row
-links_row devices = required_row (codes "links") (list_faults 0 link_limit (λ up ds. links_faults devices [] up 0 ds))
+-- the list of at most so many links, which may be empty but is required
+abbrev pub links_row : ℕ → List NetworkDevice → Row
+links_row most devices = required_row (codes "links") (list_faults 0 most (λ up ds. links_faults devices [] up 0 ds))
 
 -- whether a link leads from this destination of an exporting process of a device
 abbrev pub leads_from : List ℕ → List ℕ → List ℕ → NamedLink → Bool

@@ -8,7 +8,8 @@ use Rattle.fx_config.specs.declared.ipfix.Device.{Device}
 use Rattle.fx_walk.specs.Pointer.{below}
 use Rattle.fx_walk.specs.Walk.{FoundFault, Row, object_faults, required_row, then_check, fault_if, member_of}
 use Rattle.fx_walk.specs.Lists.{items_of}
-use Rattle.fx_topology.specs.Limits.{device_limit, process_limit}
+use Rattle.fx_topology.specs.Limits.{command_sizes}
+use Rattle.fx_topology.specs.declared.limits.Sizes.{Sizes}
 use Rattle.fx_topology.specs.declared.network.NetworkDocument.{NetworkDocument}
 use Rattle.fx_topology.specs.declared.network_device.NetworkDevice.{NetworkDevice}
 use Rattle.fx_walk.specs.RequiredLists.{required_entries}
@@ -20,18 +21,25 @@ abbrev pub devices_of : Data → List NetworkDevice
 devices_of d = map network_device_of (items_of (member_of (codes "devices") d))
 
 -- links and the report refer to the devices by name
-abbrev pub network_rows : List NetworkDevice → List Row
-network_rows devices =
-    required_entries device_limit (codes "devices") network_device_faults (λ d. (network_device_of d).name)
-    ∷ then_check (λ up d. fault_if (nat_lt process_limit (process_count devices)) too_many_entries
+abbrev pub network_rows_within : Sizes → List NetworkDevice → List Row
+network_rows_within sizes devices =
+    required_entries sizes.devices (codes "devices") network_device_faults (λ d. (network_device_of d).name)
+    ∷ then_check (λ up d. fault_if (nat_lt sizes.processes (process_count devices)) too_many_entries
     (below up (codes "devices")))
-    ∷ links_row devices
+    ∷ links_row sizes.links devices
     ∷ required_row (codes "report") (report_faults devices)
     ∷ []
+
+abbrev pub network_rows : List NetworkDevice → List Row
+network_rows = network_rows_within command_sizes
 
 -- the names of its devices
 abbrev pub device_names : NetworkDocument → List (List ℕ)
 device_names network = map (λ device. device.name) network.devices
+
+-- the faults of a document of a network of at most these sizes
+abbrev pub network_faults_within : Sizes → List ℕ → Data → List FoundFault
+network_faults_within sizes up d = object_faults (network_rows_within sizes (devices_of d)) up d
 
 abbrev pub network_faults : List ℕ → Data → List FoundFault
 network_faults up d = object_faults (network_rows (devices_of d)) up d

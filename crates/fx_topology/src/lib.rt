@@ -12,8 +12,9 @@ mod network_device;
 mod process_count;
 mod report;
 
+pub use limits::Sizes;
 pub use link::NamedLink;
 pub use link_table::LinkTable;
-pub use network::{NetworkDocument, read_network};
+pub use network::{NetworkDocument, read_network, read_network_within};
 pub use network_device::NetworkDevice;
 pub use report::Report;

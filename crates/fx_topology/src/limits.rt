@@ -1,13 +1,22 @@
 //! Limits on the size of a network document.
 
-/// The maximum number of devices.
-pub const DEVICES: usize = 64;
+/// How many devices, links and collecting processes a network document may have.
+#[derive(Clone, Copy, Debug)]
+pub struct Sizes {
+    /// The maximum number of devices.
+    pub devices: usize,
+    /// The maximum number of links.
+    pub links: usize,
+    /// The maximum number of collecting processes, over all devices.
+    pub processes: usize,
+}
 
-/// The maximum number of links.
-pub const LINKS: usize = 1024;
-
-/// The maximum number of collecting processes, over all devices.
-pub const PROCESSES: usize = 256;
+/// The sizes of the documents of commands.
+pub(crate) const COMMAND_SIZES: Sizes = Sizes {
+    devices: 64,
+    links: 1024,
+    processes: 256,
+};
 
 /// The maximum number of fields in the report's key.
 pub const KEY_FIELDS: usize = 32;

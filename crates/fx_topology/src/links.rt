@@ -8,7 +8,6 @@ ghost use Rattle.fx_topology.specs.Links.{has_ends, name_rows, starts_there, lin
 ghost use Rattle.fx_base.specs.Refusals.{linked_twice, unknown_link_end};
 
 use crate::ends::has_ends;
-use crate::limits::LINKS;
 use crate::link::NamedLink;
 use crate::link_table::LinkTable;
 use crate::network_device::NetworkDevice;
@@ -121,20 +120,21 @@ fn links_of(
     Ok(links)
 }
 
-/// Reads the network's links. Fails with 103, at the object, if it has no list of links.
+/// Reads the network's links, of which there may be `most`. Fails with 103, at the object, if it has no list of links.
 pub fn links_member(
     alloc: Global,
     path: &DocumentPath<'_>,
     object: &Value,
     devices: &[NetworkDevice],
+    most: usize,
 ) -> Result<LinkTable, Fault>
-    ensures { Reads ((links_row devices.now).faults (pointer path.now) (view object.now))
+    ensures { Reads ((links_row most devices.now).faults (pointer path.now) (view object.now))
         (map link_of (items_of (member_of (codes "links") (view object.now)))) result }
 {
     match object.get("links") {
         Some(value) => {
             let path = DocumentPath::Member(path, "links");
-            let items = items_in(alloc, &path, value, 0, LINKS)?;
+            let items = items_in(alloc, &path, value, 0, most)?;
             links_of(alloc, &path, items, devices)
         }
         None => Err(refusal(alloc, refusals::MISSING_MEMBER, path)),

@@ -1,17 +1,18 @@
 //! The document of a whole network.
 ghost use Rattle.std.specs.Prelude.{[]};
 ghost use Rattle.serde_json.specs.View.{view};
+ghost use Rattle.fx_walk.specs.Pointer.{pointer};
 ghost use Rattle.fx_walk.specs.Walk.{Reads};
-ghost use Rattle.fx_topology.specs.Networks.{network_faults, network_of};
+ghost use Rattle.fx_topology.specs.Networks.{network_faults, network_faults_within, network_of};
 
-use crate::limits::DEVICES;
+use crate::limits::{COMMAND_SIZES, Sizes};
 use crate::link_table::LinkTable;
 use crate::links::links_member;
 use crate::network_device::{NetworkDevice, NetworkDeviceReader};
 use crate::process_count::processes_are_few;
 use crate::report::{Report, report_member};
 use fx_base::Fault;
-use fx_walk::{DocumentPath, FromValue, Sequence, object_of, required_entries};
+use fx_walk::{DocumentPath, Sequence, object_of, required_entries};
 use serde_json::Value;
 use std::alloc::Global;
 
@@ -39,35 +40,45 @@ impl Drop for NetworkDocument {
     }
 }
 
-/// A reader of network documents.
-pub(crate) struct NetworkDocumentReader;
+/// Reads the document at the path of a network of at most these sizes.
+fn network_at(
+    alloc: Global,
+    path: &DocumentPath<'_>,
+    value: &Value,
+    sizes: Sizes,
+) -> Result<NetworkDocument, Fault>
+    ensures { Reads (network_faults_within sizes (pointer path.now) (view value.now))
+        (network_of (view value.now)) result }
+{
+    object_of(alloc, path, value, &["devices", "links", "report"])?;
+    let devices = required_entries::<NetworkDeviceReader>(
+        alloc,
+        path,
+        value,
+        "devices",
+        sizes.devices,
+    )?;
+    let known = devices.as_slice();
+    processes_are_few(alloc, path, known, sizes.processes)?;
+    let links = links_member(alloc, path, value, known, sizes.links)?;
+    let report = report_member(alloc, path, value, known)?;
+    Ok(NetworkDocument {
+        devices,
+        links,
+        report,
+    })
+}
 
-impl FromValue for NetworkDocumentReader {
-    type Read = NetworkDocument;
-
-    ghost faults = { network_faults };
-
-    ghost meaning = { network_of };
-
-    fn from_value(
-        alloc: Global,
-        path: &DocumentPath<'_>,
-        value: &Value,
-    ) -> Result<NetworkDocument, Fault> {
-        object_of(alloc, path, value, &["devices", "links", "report"])?;
-        let devices = required_entries::<NetworkDeviceReader>(
-            alloc, path, value, "devices", DEVICES,
-        )?;
-        let known = devices.as_slice();
-        processes_are_few(alloc, path, known)?;
-        let links = links_member(alloc, path, value, known)?;
-        let report = report_member(alloc, path, value, known)?;
-        Ok(NetworkDocument {
-            devices,
-            links,
-            report,
-        })
-    }
+/// Reads a document of a network of at most these sizes, as [`read_network`] does.
+pub fn read_network_within(
+    alloc: Global,
+    value: &Value,
+    sizes: Sizes,
+) -> Result<NetworkDocument, Fault>
+    ensures { Reads (network_faults_within sizes [] (view value.now)) (network_of (view value.now))
+        result }
+{
+    network_at(alloc, &DocumentPath::Root, value, sizes)
 }
 
 /// Reads a network document. Fails with the first fault in the order of the walk, at its JSON Pointer in the document.
@@ -82,5 +93,5 @@ impl FromValue for NetworkDocumentReader {
 pub fn read_network(alloc: Global, value: &Value) -> Result<NetworkDocument, Fault>
     ensures { Reads (network_faults [] (view value.now)) (network_of (view value.now)) result }
 {
-    NetworkDocumentReader::from_value(alloc, &DocumentPath::Root, value)
+    read_network_within(alloc, value, COMMAND_SIZES)
 }

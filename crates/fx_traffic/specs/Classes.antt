@@ -43,16 +43,27 @@ class_of devices d = record {
   exempt = is_some (get (codes "exempt") d);
 }
 
--- ---- the document; crates above use only these two functions
+-- ---- the document; crates above use only these three functions
 
-abbrev pub list_of_classes_faults : List (List ℕ) → List ℕ → Data → List FoundFault
-list_of_classes_faults devices = list_faults 0 class_limit
+-- a list of at most so many classes
+abbrev pub classes_faults_within : ℕ → List (List ℕ) → List ℕ → Data → List FoundFault
+classes_faults_within most devices = list_faults 0 most
     (λ up ds. entries_faults (class_faults devices) class_name [] up 0 ds)
 
-abbrev pub traffic_rows : List (List ℕ) → List Row
-traffic_rows devices =
-    required_row (codes "classes") (list_of_classes_faults devices)
+abbrev pub list_of_classes_faults : List (List ℕ) → List ℕ → Data → List FoundFault
+list_of_classes_faults = classes_faults_within class_limit
+
+abbrev pub traffic_rows_within : ℕ → List (List ℕ) → List Row
+traffic_rows_within most devices =
+    required_row (codes "classes") (classes_faults_within most devices)
     ∷ []
+
+abbrev pub traffic_rows : List (List ℕ) → List Row
+traffic_rows = traffic_rows_within class_limit
+
+-- the faults of a declaration of at most so many classes
+unfoldable pub traffic_faults_within : ℕ → List (List ℕ) → List ℕ → Data → List FoundFault
+traffic_faults_within most devices up d = object_faults (traffic_rows_within most devices) up d
 
 unfoldable pub traffic_faults : List (List ℕ) → List ℕ → Data → List FoundFault
 traffic_faults devices up d = object_faults (traffic_rows devices) up d

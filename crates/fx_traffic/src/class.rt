@@ -7,9 +7,8 @@ ghost use Rattle.fx_walk.specs.Walk.{Reads, required_row, optional, member_of};
 ghost use Rattle.fx_walk.specs.Lists.{entries_faults, items_of};
 ghost use Rattle.fx_traffic.specs.Crossings.{path_of};
 ghost use Rattle.fx_traffic.specs.Regions.{region_faults, region_given};
-ghost use Rattle.fx_traffic.specs.Classes.{class_faults, exempt_faults, class_name, class_of, list_of_classes_faults, paths_faults};
+ghost use Rattle.fx_traffic.specs.Classes.{class_faults, exempt_faults, class_name, class_of, classes_faults_within, paths_faults};
 
-use crate::limits::CLASSES;
 use crate::path::read_paths;
 use crate::region::{read_region, whole};
 use fx_base::{Fault, refusals};
@@ -120,14 +119,15 @@ fn classes_of<T: Named>(
     Ok(Sequence::from_vec(classes))
 }
 
-/// Reads the list of classes.
+/// Reads the list of at most `most` classes.
 pub fn read_list<T: Named>(
     alloc: Global,
     path: &DocumentPath<'_>,
     value: &Value,
     devices: &[T],
+    most: usize,
 ) -> Result<Sequence<Class>, Fault>
-    ensures { Reads (list_of_classes_faults (map T.name devices.now) (pointer path.now)
+    ensures { Reads (classes_faults_within most (map T.name devices.now) (pointer path.now)
         (view value.now)) (map (class_of (map T.name devices.now)) (items_of (view value.now)))
         result }
 {
@@ -136,7 +136,7 @@ pub fn read_list<T: Named>(
         path,
         value,
         0,
-        CLASSES,
+        most,
         refusals::NO_PATH,
         refusals::TOO_MUCH_TRAFFIC,
     )?;

@@ -12,4 +12,4 @@ mod text;
 mod traffic;
 
 pub use targets::Target;
-pub use traffic::{Traffic, read_traffic};
+pub use traffic::{Traffic, read_traffic, read_traffic_within};

@@ -5,11 +5,12 @@ ghost use Rattle.fx_walk.specs.Pointer.{pointer};
 ghost use Rattle.fx_walk.specs.Walk.{Reads, required_row, member_of};
 ghost use Rattle.fx_walk.specs.Lists.{items_of};
 ghost use Rattle.fx_topology.specs.Networks.{device_names};
-ghost use Rattle.fx_traffic.specs.Classes.{class_of, list_of_classes_faults, traffic_faults, traffic_of};
+ghost use Rattle.fx_traffic.specs.Classes.{class_of, classes_faults_within, traffic_faults, traffic_faults_within, traffic_of};
 
 use crate::class::read_list;
+use crate::limits::CLASSES;
 use fx_base::{Fault, entry_numbered, refusals};
-use fx_plan::Plan;
+use fx_plan::{NetworkDocument, Plan};
 use fx_tables::{Class, Classes};
 use fx_walk::{DocumentPath, Named, Sequence, object_of, refusal};
 use serde_json::Value;
@@ -72,9 +73,10 @@ fn classes_member<T: Named>(
     path: &DocumentPath<'_>,
     object: &Value,
     devices: &[T],
+    most: usize,
 ) -> Result<Sequence<Class>, Fault>
     ensures { Reads ((required_row (codes "classes")
-        (list_of_classes_faults (map T.name devices.now))).faults (pointer path.now)
+        (classes_faults_within most (map T.name devices.now))).faults (pointer path.now)
         (view object.now)) (map (class_of (map T.name devices.now))
         (items_of (member_of (codes "classes") (view object.now)))) result }
 {
@@ -84,23 +86,26 @@ fn classes_member<T: Named>(
             &DocumentPath::Member(path, "classes"),
             value,
             devices,
+            most,
         ),
         None => Err(refusal(alloc, refusals::MISSING_MEMBER, path)),
     }
 }
 
-/// Reads the declaration at the path.
+/// Reads the declaration at the path of at most `most` classes.
 fn traffic_at<T: Named>(
     alloc: Global,
     path: &DocumentPath<'_>,
     value: &Value,
     devices: &[T],
+    most: usize,
 ) -> Result<Traffic, Fault>
-    ensures { Reads (traffic_faults (map T.name devices.now) (pointer path.now) (view value.now))
+    ensures { Reads (traffic_faults_within most (map T.name devices.now) (pointer path.now)
+        (view value.now))
         (traffic_of (map T.name devices.now) (view value.now)) result }
 {
     object_of(alloc, path, value, &["classes"])?;
-    let classes = classes_member(alloc, path, value, devices)?;
+    let classes = classes_member(alloc, path, value, devices, most)?;
     let names = names_of(alloc, value)?;
     Ok(Traffic {
         classes: Classes::new(classes.into_vec()),
@@ -108,16 +113,17 @@ fn traffic_at<T: Named>(
     })
 }
 
-/// Reads the declaration of the traffic that crosses these devices.
+/// Reads the declaration of at most `most` classes of the traffic that crosses these devices.
 pub(crate) fn read_classes<T: Named>(
     alloc: Global,
     value: &Value,
     devices: &[T],
+    most: usize,
 ) -> Result<Traffic, Fault>
-    ensures { Reads (traffic_faults (map T.name devices.now) [] (view value.now))
+    ensures { Reads (traffic_faults_within most (map T.name devices.now) [] (view value.now))
         (traffic_of (map T.name devices.now) (view value.now)) result }
 {
-    traffic_at(alloc, &DocumentPath::Root, value, devices)
+    traffic_at(alloc, &DocumentPath::Root, value, devices, most)
 }
 
 /// Reads the declaration of the traffic that crosses a network. Fails with the first fault in the order of the walk, at
@@ -132,5 +138,19 @@ pub fn read_traffic(alloc: Global, value: &Value, plan: &Plan) -> Result<Traffic
     ensures { Reads (traffic_faults (device_names plan.now) [] (view value.now))
         (traffic_of (device_names plan.now) (view value.now)) result }
 {
-    read_classes(alloc, value, plan.network().devices.as_slice())
+    read_classes(alloc, value, plan.network().devices.as_slice(), CLASSES)
+}
+
+/// Reads the declaration of at most `most` classes of the traffic that crosses a network of any size, as
+/// [`read_traffic`] does.
+pub fn read_traffic_within(
+    alloc: Global,
+    value: &Value,
+    network: &NetworkDocument,
+    most: usize,
+) -> Result<Traffic, Fault>
+    ensures { Reads (traffic_faults_within most (device_names network.now) [] (view value.now))
+        (traffic_of (device_names network.now) (view value.now)) result }
+{
+    read_classes(alloc, value, network.devices.as_slice(), most)
 }

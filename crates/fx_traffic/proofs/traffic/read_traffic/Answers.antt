@@ -1,5 +1,6 @@
-use Rattle.std.proofs.Common.{arith, rules}
+use Rattle.fx_traffic.specs.Classes.{traffic_faults, traffic_faults_within}
 use Rattle.fx_traffic.proofs.traffic.read_traffic.Goals as goal
 
 pub returns : goal.returns
-returns c = first_of (grind arith, search rules)
+unfolding traffic_faults traffic_faults_within
+returns c = c.read_classes.ensures
