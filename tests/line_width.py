@@ -86,17 +86,27 @@ def may_be_long(line: str) -> bool:
     return line.lstrip().startswith(("use ", "pub use ", "ghost use ")) or '"' in line
 
 
+def comment(lines: List[str], begin: int) -> int:
+    """Returns the index after the paragraph of a comment of a proof that begins at this one: `begin` if none does."""
+    found, end = re.match(r"( *-- )(?! |---)", lines[begin]), begin
+    while found and end < len(lines) and lines[end].startswith(found[1]) and not lines[end].startswith((f"{found[1]} ", f"{found[1]}---")):
+        end += 1
+    return end
+
+
 def proof_lines(lines: List[str]) -> Iterator[str]:
-    for line in lines:
-        if len(line) <= WIDTH or may_be_long(line):
-            yield line
-        elif line.lstrip().startswith("-- "):
+    at = 0
+    while at < len(lines):
+        line, end = lines[at], comment(lines, at)
+        part = lines[at:end]
+        if any(len(it) > WIDTH for it in part):
             front = line[: line.index("-- ") + 3]
-            yield from filled(line.strip()[3:], front)
-        elif " -- " in line:
-            yield line
+            yield from filled(" ".join(it[len(front) :].strip() for it in part), front)
+        elif part or len(line) <= WIDTH or may_be_long(line) or " -- " in line:
+            yield from part or [line]
         else:
             yield from proof_line(line)
+        at = max(end, at + 1)
 
 
 def paragraph(lines: List[str], begin: int) -> int:

@@ -1,6 +1,5 @@
 -- What results from replaying a run, and what is printed: the collector's totals in its last state, and whether the run
--- is
--- complete.
+-- is complete.
 use Rattle.std.specs.Prelude.{◌≡◌, ℕ, ◌↔◌, ◌⊎◌, All, Ok, Err, Bool, true, false, List, [], ◌∷◌, ◌++◌, codes, IsTrue, IsPermutation}
 use Rattle.fx_layout.specs.Keys.{Layout}
 use Rattle.fx_base.specs.declared.fault.Fault.{Fault}

@@ -21,8 +21,7 @@ use Rattle.fx_check.specs.declared.line_fault.LineFault.TheVariants as faults
 -- ---- goals
 
 -- what must still follow: the first line and then all of these targets, the line of a target, the tree of a region at
--- this
--- depth in this version, or the last line
+-- this depth in this version, or the last line
 pub data Goal : Type 0 where
   header : List Target → Goal
   opening : Target → Goal

@@ -49,8 +49,7 @@ pub data StopsAt (judge : Judge) (made : ℕ) (gs : List Goal) (now new : Lines)
       → StopsAt judge made gs now new e
 
 -- a checker that began at the line after `first` stops with the reader at `new`: its remaining goals are those that it
--- had
--- when it requested the line at which it stopped
+-- had when it requested the line at which it stopped
 pub record IsStop (first new : Lines) (c : CheckerState) (e : Fault) : Type 0 where
   pub now : Lines
   pub before : Continues (judge_of c.net) first (whole c.targets) now c.made c.goals

@@ -47,8 +47,7 @@ IsRefusedText network classes lines e =
     (first_refusal (judge_of (net_of network)) lines.number 0 (whole (targets_of classes)) (text_lines text)))
 
 -- each packet is counted exactly once, and also once modulo 2 to the 64, however large the sums are; the certificate
--- shows
--- it, and no line of it is refused
+-- shows it, and no line of it is refused
 pub record IsYes (network : NetworkDocument) (classes : List Class) (lines : Lines) (text : List ℕ) : Type 0 where
   pub once : ExactlyOnce (net_of network) classes
   pub modulo : OnceModulo (net_of network) classes
@@ -76,8 +75,7 @@ abbrev pub IsRefusedCertificate : NetworkDocument → List Class → Lines → F
 IsRefusedCertificate network classes lines e = IsRefusedText network classes lines e × (MeansNo e.number → ⊥)
 
 -- the faults with which a check ends without an answer, once it has requested a line of the certificate: out of memory,
--- a
--- failed read or write, or a line that is too long
+-- a failed read or write, or a line that is too long
 pub data IsNoAnswer : Fault → Type 0 where
   memory : IsNoAnswer (fault_at want_of_memory places.None)
   read_failed : IsNoAnswer (fault_at failed_read places.None)

@@ -38,10 +38,8 @@ HasFailedToWrite {S} taken failed new = (failed new ≡ true)
     (refusal_line (fault_at failed_write places.None)))
 
 -- How the program ends: with the text of an answer and that answer's status; with the line of a refusal that is
--- possible
--- here, and nothing else, and that refusal's status; or with 5 if a write failed. In the first two cases `Going` says
--- that
--- no write failed.
+-- possible here, and nothing else, and that refusal's status; or with 5 if a write failed. In the first two cases
+-- `Going` says that no write failed.
 abbrev pub EndsAs : (Answer → List ℕ → Type 0) → (Fault → Type 0) → Option (List ℕ) → Option (List ℕ) → Type 0 → Type 0
     → ℕ → Type 0
 EndsAs IsText IsRefused old new Going Failed code =

@@ -297,8 +297,7 @@ ends_explained_as words one other n m old new Going Failed code ends = elim ends
 ]
 
 -- an answer that was reported, or a refusal that came with nothing written or with a failed write and then its line,
--- and words
--- behind it
+-- and words behind it
 pub ended_explained : {S : Type 0} (taken : S → Option (List ℕ)) (failed : S → Bool) (IsText : Answer → List ℕ → Type 0)
     (IsRefused : Fault → Type 0) (r : Result Answer Fault) (more : List ℕ) (first then last : S) (code : ℕ)
     → AnswersWith taken failed IsText first then r

@@ -65,8 +65,7 @@ EndsByOptions {A} {S} text_of taken failed given old new code =
     × EndsInForm json explained text_of taken failed rest old new code
 
 -- the arguments from the system are answered by their options, with `--help` added if there are none at a terminal,
--- unless
--- that runs out of memory
+-- unless that runs out of memory
 abbrev pub EndsByGivenArguments : {A S : Type 0} → (A → Text) → (S → Option (List ℕ)) → (S → Bool) → Bool → List A → S
     → S → ℕ → Type 0
 EndsByGivenArguments {A} {S} text_of taken failed on_terminal arguments old new code =

@@ -34,8 +34,8 @@ EndsRefused taken failed code e text old new result =
     ⊎ EndsWith taken failed memory_object 4 old new result
 
 -- How the program ends: with the object of an answer, whose member `output` is the answer's text, and that answer's
--- status; with
--- the object of a refusal that is possible here and that refusal's status; or out of memory or after a failed write.
+-- status; with the object of a refusal that is possible here and that refusal's status; or out of memory or after a
+-- failed write.
 abbrev pub EndsInJson : {S : Type 0} → (Answer → List ℕ → Type 0) → (Fault → Type 0) → (S → Option (List ℕ))
     → (S → Bool) → S → S → ℕ → Type 0
 EndsInJson IsText IsRefused taken failed old new code =

@@ -48,8 +48,7 @@ RemovesBoth {A} value text_of place old new true = IsAt value text_of old (place
 RemovesBoth {A} value text_of place old new false = IsAt value text_of old (place + 1) false × (new ≡ old)
 
 -- the option is among the arguments and is followed by this value, and both are removed (`true`); or the option is
--- absent or has
--- another value, and the arguments are unchanged (`false`)
+-- absent or has another value, and the arguments are unchanged (`false`)
 abbrev pub RemovesOption : {A : Type 0} → Text → Text → (A → Text) → List A → List A → Bool → Type 0
 RemovesOption {A} flag value text_of old new true =
     (place : ℕ) × IsFlagPlace flag text_of old (Some place) × RemovesBoth value text_of place old new true

@@ -39,8 +39,7 @@ metering_in places m = record { region = m.region; holding = holding_in places m
 -- ---- parts
 
 -- each collecting process of the part has a place in the whole, and the process at that place does the same with a
--- record; the
--- report is the same, with the same layout
+-- record; the report is the same, with the same layout
 pub record IsPart (part whole : Net) (places : List ℕ) : Type 0 where
   pub each : length places ≡ length part.processes
   pub same : (process place : ℕ) → slice_get places process ≡ Some place

@@ -37,8 +37,7 @@ pub record IsReachedLimit (net : Net) (classes : List Class) (most : ℕ) (r : R
   pub large : IsTooLargeAt net (targets_of classes) most ahead r.limit
 
 -- a certificate whose splits are at bounds, and whose text the checker accepts; a run that refutes, and its region; or
--- the
--- limit that the search reached
+-- the limit that the search reached
 abbrev pub IsOutcome : Net → List Class → ℕ → Outcome → Type 0
 IsOutcome net classes limit (outcome.Certificate items) = IsFound net classes limit items.items
     × IsCertificate net classes (text_lines (certificate_text items.items))

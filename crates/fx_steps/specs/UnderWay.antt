@@ -39,8 +39,7 @@ state_of_tallies net p tallies unassigned coming = record {
 }
 
 -- the steps lead to a state with these records in transit and these crossings pending; combined with the fates required
--- of
--- these records, the packet has this fate
+-- of these records, the packet has this fate
 pub record UnderWay (net : Net) (n : Numbering) (classes : List Class) (p : Packet) (coming : List Coming) (fate : Fate)
     (steps : List Step) (xs : List Pending) : Type 0 where
   pub tallies : ℕ
@@ -90,8 +89,7 @@ pub record Leaves (table : CostTable) (net : Net) (n : Numbering) (fields : Fiel
   pub last : new ≡ old ++ step ∷ []
 
 -- this is the step by which the last record added leaves; the resulting records are appended to those in transit, but
--- not
--- yet counted as waiting
+-- not yet counted as waiting
 pub record TopLeaves (c : PacketCosts) (old new : Building) (x : Pending) (step : Step) : Type 0 where
   pub is : IsStepOf c.table c.tables.net c.tables.numbering c.packet.fields old.plan.pending.items x step
   pub pending : new.plan.pending.items ≡ old.plan.pending.items

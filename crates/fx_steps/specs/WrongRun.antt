@@ -15,8 +15,7 @@ use Rattle.fx_machine.specs.Limits.{step_limit}
 use Rattle.fx_steps.specs.Ways.{PacketComes}
 
 -- the steps, no more than a run may have, lead from the opening state of this one packet to a complete state, in which
--- the
--- packet isn't counted as it should be
+-- the packet isn't counted as it should be
 pub record IsWrongRun (net : Net) (classes : List Class) (p : Packet) (steps : List Step) : Type 0 where
   pub last : State
   pub runs : run net classes (p ∷ []) steps (opening net classes (p ∷ [])) ≡ Ok last
