@@ -18,9 +18,9 @@ fn same_leaf(one: &Counted, other: &Counted) -> bool
 
 /// Returns the number of what is wrong with a leaf for a region of a target, if anything is: why no leaf is sound
 /// there, or 410 if another one is.
-pub(crate) fn leaf_fault(
-    scratch: &mut PathScratch<'_>,
-    tables: &Tables<'_>,
+pub(crate) fn leaf_fault<'t>(
+    scratch: &mut PathScratch<'t>,
+    tables: &Tables<'t>,
     target: &Target<'_>,
     here: &WaitingRegion,
     leaf: &Counted,
@@ -50,9 +50,9 @@ pub(crate) fn leaf_fault(
 
 /// Returns the number of what is wrong with a leaf which says that no packet of a region of a target is counted, if
 /// anything is.
-pub(crate) fn never_fault(
-    scratch: &mut PathScratch<'_>,
-    tables: &Tables<'_>,
+pub(crate) fn never_fault<'t>(
+    scratch: &mut PathScratch<'t>,
+    tables: &Tables<'t>,
     target: &Target<'_>,
     here: &WaitingRegion,
 ) -> Option<u16>

@@ -205,7 +205,8 @@ impl Progress {
         Ok(())
     }
 
-    /// Moves the selection processes that count packets of the current region to the front, and returns their number.
+    /// Enters the current region, moves the selection processes that count its packets to the front, and returns their
+    /// number.
     fn narrow(&self, scratch: &mut PathScratch<'_>) -> usize
         requires narrowed { HasNarrowed self.now.stage self.now.waiting scratch.old.selections }
         requires stage { IsInTree self.now.stage }
@@ -217,6 +218,7 @@ impl Progress {
         };
         // Looking at one selection process in a leaf costs no more than looking at it here.
         if here.active <= 1 {
+            scratch.enter(&here.region);
             return here.active;
         }
         scratch.narrow(&here.region, here.active)

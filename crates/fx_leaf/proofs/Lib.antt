@@ -32,3 +32,4 @@ pub mod CausesAt
 pub mod PathSelectionsGrow
 pub mod Narrowing
 pub mod NarrowedRegions
+pub mod RemainingMatches

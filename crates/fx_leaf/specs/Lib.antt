@@ -14,3 +14,4 @@ pub mod Judgements
 pub mod Reach
 pub mod PathTables
 pub mod PathSelections
+pub mod Remaining

@@ -3,25 +3,28 @@ use Rattle.std.specs.Prelude.{◌≡◌, ◌⊎◌, ◌≤◌, ℕ, Bool, true, 
 use Rattle.fx_boxes.specs.Boxes.{Bounds}
 use Rattle.fx_tables.specs.declared.process.Process.{Process}
 use Rattle.fx_tables.specs.declared.traffic.Crossing.{Crossing}
+use Rattle.fx_tables.specs.Network.{AggregationEntry}
 use Rattle.std.specs.List.Sorted.{IsPermutation}
 use Rattle.fx_leaf.specs.PathSelections.{PathSelection, path_selections}
+use Rattle.fx_leaf.specs.Remaining.{AreAggregations}
 use Rattle.fx_leaf.specs.Tables.{Table, Tables}
 use Rattle.fx_leaf.specs.Reach.{HoldsAlongPath, IsClosed, IsFilled, IsMarked}
 
 -- verdicts by collecting process, marks of the verdicts that are needed, whether these verdicts hold for every region,
--- and the
--- selection processes of the path, with the capacity of their list
+-- and the selection processes of the path, with the capacity of their list; and the aggregations by collecting process
 pub record PathTable : Type 0 where
   pub table : Table
   pub marks : List ℕ
   pub steady : Bool
   pub selections : List PathSelection
   pub room : ℕ
+  pub matches : List (List AggregationEntry)
 
--- the table and the marks have exactly one entry for each collecting process of the network
+-- the table and the marks have exactly one entry for each collecting process of the network, and the matches are theirs
 pub record HasProcessRoom (t : Tables) (p : PathTable) : Type 0 where
   pub table : length p.table ≡ length t.net.processes
   pub marks : length p.marks ≡ length t.net.processes
+  pub matches : AreAggregations t.net.processes p.matches
 
 -- the capacity suffices for the selection processes of the path
 abbrev pub HasPathRoom : Tables → List Crossing → PathTable → Type 0

@@ -5,12 +5,14 @@ ghost use Rattle.fx_layout.specs.Keys as keys;
 ghost use Rattle.fx_tables.specs.Matches.{HasEntries};
 ghost use Rattle.fx_tables.specs.Network as network;
 ghost use Rattle.fx_leaf.specs.Causes as by_cause;
+ghost use Rattle.fx_leaf.specs.Remaining as of_remaining;
 ghost use Rattle.fx_leaf.specs.Tables as by_table;
 ghost use Rattle.fx_leaf.specs.Verdicts as verdicts;
 
 use crate::bound::bound_of_match;
 use crate::entry::layout_reads;
-use crate::regions::{Overlap, match_overlap};
+use crate::regions::{Overlap, bounds_hold, match_overlap};
+use crate::remaining::Remaining;
 use crate::table::Verdicts;
 use fx_elements::Axis;
 use fx_layout::Layout;
@@ -158,21 +160,22 @@ impl Verdicts<'_, '_> {
     }
 
     /// Returns why there is no verdict on what one of these aggregations takes in.
-    fn cause_in_matches(&self, layout: &Layout, aggregations: &[AggregationEntry]) -> Option<Cause>
-        requires { AllByRecursion HasEntries aggregations.now }
+    fn cause_in_matches(&self, layout: &Layout, remaining: &Remaining<'_, '_>) -> Option<Cause>
+        requires { AllByRecursion HasEntries remaining.now }
         ensures some { let t = self.now.tables.now in
             let table = self.now.rows.now in
             let region = self.now.region.now in
             IfSome result (λ cause. by_cause.IsCauseInMatches t region table layout.now
-            aggregations.now cause) }
+            remaining.now cause) }
         ensures none { let t = self.now.tables.now in
             let table = self.now.rows.now in
             let region = self.now.region.now in
             IfNone result (verdicts.verdict_of_all
-            (map (by_table.taken_entry table t.net t.numbering region layout.now) aggregations.now)
+            (map (by_table.taken_entry table t.net t.numbering region layout.now) remaining.now)
             ≡ None → ⊥) }
     {
-        for aggregation in aggregations {
+        for place in 0..remaining.len() {
+            let aggregation = remaining.at(place);
             if let Some(cause) = self.cause_in_match(layout, aggregation) {
                 return Some(cause);
             }
@@ -180,9 +183,18 @@ impl Verdicts<'_, '_> {
         None
     }
 
-    /// Returns why there is no verdict on what a collecting process does with records of the layout with this number.
-    fn cause_in_process(&self, number: usize, layout: &Layout, process: &Process) -> Option<Cause>
-        requires { AllByRecursion HasEntries process.now.aggregations }
+    /// Returns why there is no verdict on what a collecting process does with records of the layout with this number,
+    /// given those aggregations whose matches may accept packets of the region.
+    fn cause_in_process(
+        &self,
+        number: usize,
+        layout: &Layout,
+        process: &Process,
+        remaining: &Remaining<'_, '_>,
+    ) -> Option<Cause>
+        requires remain { of_remaining.AreRemaining self.now.region.now process.now.aggregations
+            remaining.now }
+        requires entries { AllByRecursion HasEntries remaining.now }
         ensures some { let t = self.now.tables.now in
             let table = self.now.rows.now in
             let region = self.now.region.now in
@@ -194,9 +206,11 @@ impl Verdicts<'_, '_> {
             IfNone result (by_table.handled_entry table t.net t.numbering region number layout.now
             (Some process.now) ≡ None → ⊥) }
     {
+        // Only for the prover: the bounds of a region hold.
+        bounds_hold(self.region);
         match self.cause_by_exporters(number, process.exporters()) {
             Some(next) => Some(Cause::Behind(next, number)),
-            None => self.cause_in_matches(layout, process.aggregations()),
+            None => self.cause_in_matches(layout, remaining),
         }
     }
 
@@ -220,7 +234,10 @@ impl Verdicts<'_, '_> {
         };
         match self.tables.net().processes().get(process) {
             None => None,
-            Some(process) => self.cause_in_process(number, layout, process),
+            Some(found) => {
+                let remaining = self.remaining(process, found);
+                self.cause_in_process(number, layout, found, &remaining)
+            }
         }
     }
 }

@@ -4,10 +4,12 @@ ghost use Rattle.std.specs.List.{AllByRecursion, list_all};
 ghost use Rattle.fx_layout.specs.Keys as keys;
 ghost use Rattle.fx_tables.specs.Matches.{HasEntries};
 ghost use Rattle.fx_tables.specs.Network as network;
+ghost use Rattle.fx_leaf.specs.Remaining as of_remaining;
 ghost use Rattle.fx_leaf.specs.Tables as by_table;
 ghost use Rattle.fx_leaf.specs.Verdicts as verdicts;
 
-use crate::regions::match_overlap;
+use crate::regions::{bounds_hold, match_overlap};
+use crate::remaining::Remaining;
 use crate::table::Verdicts;
 use crate::verdict::{Fate, overlap_verdict, verdict_of_both};
 use fx_layout::Layout;
@@ -71,33 +73,45 @@ impl Verdicts<'_, '_> {
     }
 
     /// Returns the verdict on what all of these aggregations take in.
-    fn all_taken_verdict(&self, layout: &Layout, aggregations: &[AggregationEntry]) -> Option<Fate>
-        requires { AllByRecursion HasEntries aggregations.now }
+    fn all_taken_verdict(&self, layout: &Layout, remaining: &Remaining<'_, '_>) -> Option<Fate>
+        requires { AllByRecursion HasEntries remaining.now }
         ensures { let t = self.now.tables.now in
             let table = self.now.rows.now in
             let region = self.now.region.now in
             result ≡ verdicts.verdict_of_all
             (map (by_table.taken_entry table t.net t.numbering region layout.now)
-            aggregations.now) }
+            remaining.now) }
     {
         let mut joined = Some(Fate::Never);
-        for aggregation in aggregations {
+        for place in 0..remaining.len() {
+            let aggregation = remaining.at(place);
             joined = verdict_of_both(joined, self.taken_verdict(layout, aggregation));
         }
         joined
     }
 
-    /// Returns the verdict on what a collecting process does with records of the layout with this number.
-    fn handled_verdict(&self, number: usize, layout: &Layout, process: &Process) -> Option<Fate>
-        requires { AllByRecursion HasEntries process.now.aggregations }
+    /// Returns the verdict on what a collecting process does with records of the layout with this number, given those
+    /// aggregations whose matches may accept packets of the region.
+    fn handled_verdict(
+        &self,
+        number: usize,
+        layout: &Layout,
+        process: &Process,
+        remaining: &Remaining<'_, '_>,
+    ) -> Option<Fate>
+        requires remain { of_remaining.AreRemaining self.now.region.now process.now.aggregations
+            remaining.now }
+        requires entries { AllByRecursion HasEntries remaining.now }
         ensures { let t = self.now.tables.now in
             let table = self.now.rows.now in
             let region = self.now.region.now in
             result ≡ by_table.handled_entry table t.net t.numbering region number layout.now
             (Some process.now) }
     {
+        // Only for the prover: the bounds of a region hold.
+        bounds_hold(self.region);
         let forwarded = self.sent_verdict(number, process.exporters());
-        let taken = self.all_taken_verdict(layout, process.aggregations());
+        let taken = self.all_taken_verdict(layout, remaining);
         verdict_of_both(forwarded, taken)
     }
 
@@ -113,7 +127,10 @@ impl Verdicts<'_, '_> {
     {
         match self.tables.net().processes().get(process) {
             None => Some(Fate::Never),
-            Some(process) => self.handled_verdict(number, layout, process),
+            Some(found) => {
+                let remaining = self.remaining(process, found);
+                self.handled_verdict(number, layout, found, &remaining)
+            }
         }
     }
 

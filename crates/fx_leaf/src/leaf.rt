@@ -92,6 +92,7 @@ fn path_verdict_in_room(
         tables,
         rows,
         region,
+        matches: &[],
     };
     let reader = PathReader { verdicts, marks };
     reader.path(path)

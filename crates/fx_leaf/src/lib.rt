@@ -16,6 +16,7 @@ mod path_scratch;
 mod path_selections;
 mod reach;
 mod regions;
+mod remaining;
 mod rows;
 mod sends;
 mod split;

@@ -19,6 +19,7 @@ use crate::entry::layout_reads;
 use crate::path::PathReader;
 use crate::path_selections::PathSelection;
 use crate::regions::{Overlap, bounds_hold, match_part, region_overlap, selection_overlap};
+use crate::remaining::Remaining;
 use crate::split::MatchCut;
 use crate::table::Verdicts;
 use fx_boxes::Region;
@@ -65,11 +66,12 @@ impl Verdicts<'_, '_> {
     }
 
     /// Returns, by axis, how many bounds of the matches that cut the region are strictly inside it.
-    fn count_matches(&self, layout: &Layout, aggregations: &[AggregationEntry]) -> [u64; AXES]
-        requires { AllByRecursion HasEntries aggregations.now }
+    fn count_matches(&self, layout: &Layout, remaining: &Remaining<'_, '_>) -> [u64; AXES]
+        requires { AllByRecursion HasEntries remaining.now }
     {
         let mut counts = [0; AXES];
-        for aggregation in aggregations {
+        for place in 0..remaining.len() {
+            let aggregation = remaining.at(place);
             if let Some(part) = self.part_taken(layout, aggregation) {
                 count_bounds(&mut counts, self.region, &part);
             }
@@ -82,18 +84,19 @@ impl Verdicts<'_, '_> {
         &self,
         values: &mut Vec<u128>,
         layout: &Layout,
-        aggregations: &[AggregationEntry],
+        remaining: &Remaining<'_, '_>,
         axis: Axis,
     ) -> Result<(), AllocError>
-        requires { AllByRecursion HasEntries aggregations.now }
+        requires { AllByRecursion HasEntries remaining.now }
         ensures { let t = self.now.tables.now in
             let table = self.now.rows.now in
             let region = self.now.region.now in
             OnOk result ((at : ℕ) → Contains values.new.items at → by_cause.IsCauseInMatches t
-            region table layout.now aggregations.now (cause.Split axis at)) }
+            region table layout.now remaining.now (cause.Split axis at)) }
     {
         values.clear();
-        for aggregation in aggregations {
+        for place in 0..remaining.len() {
+            let aggregation = remaining.at(place);
             if let Some(part) = self.part_taken(layout, aggregation) {
                 push_bounds(values, self.region, &part, axis)?;
             }
@@ -106,17 +109,17 @@ impl Verdicts<'_, '_> {
         &self,
         bounds: &mut CutBounds,
         layout: &Layout,
-        aggregations: &[AggregationEntry],
+        remaining: &Remaining<'_, '_>,
     ) -> Result<Option<(Axis, u128)>, AllocError>
-        requires { AllByRecursion HasEntries aggregations.now }
+        requires { AllByRecursion HasEntries remaining.now }
         ensures { let t = self.now.tables.now in
             let table = self.now.rows.now in
             let region = self.now.region.now in
             IfOk result (λ o. IfSome o (λ s. by_cause.IsCauseInMatches t region table layout.now
-            aggregations.now (cause.Split s.0 s.1))) }
+            remaining.now (cause.Split s.0 s.1))) }
     {
-        let axis = axis_with_most(&self.count_matches(layout, aggregations));
-        self.collect_matches(&mut bounds.values, layout, aggregations, axis)?;
+        let axis = axis_with_most(&self.count_matches(layout, remaining));
+        self.collect_matches(&mut bounds.values, layout, remaining, axis)?;
         match median(&mut bounds.values) {
             Some(at) => Ok(Some((axis, at))),
             None => Ok(None),
@@ -143,7 +146,10 @@ impl Verdicts<'_, '_> {
         };
         match self.tables.net().processes().get(process) {
             None => Ok(None),
-            Some(process) => self.halving_among(bounds, layout, process.aggregations()),
+            Some(found) => {
+                let remaining = self.remaining(process, found);
+                self.halving_among(bounds, layout, &remaining)
+            }
         }
     }
 }

@@ -20,6 +20,7 @@ use crate::path::{PathFate, PathReader};
 use crate::path_selections::{PathSelections, count_on_path};
 use crate::reach::mark;
 use crate::regions::bounds_hold;
+use crate::remaining::{ProcessMatches, enter_marked, matches_of};
 use crate::rows::fill;
 use crate::table::{VerdictRow, Verdicts, empty_rows, no_marks};
 use crate::tables::Tables;
@@ -40,6 +41,7 @@ pub struct PathScratch<'a> {
     marks: Vec<u64>,
     steady: bool,
     selections: PathSelections<'a>,
+    matches: Vec<ProcessMatches<'a>>,
 }
 
 impl<'a> Model for PathScratch<'a> {
@@ -53,6 +55,7 @@ impl<'a> Model for PathScratch<'a> {
       steady = s.steady;
       selections = s.selections.items;
       room = s.selections.room;
+      matches = s.matches.items;
     } };
 }
 
@@ -81,6 +84,7 @@ impl<'a> PathScratch<'a> {
     ///
     /// Fails with 900, at no place, if out of memory.
     pub fn new(alloc: Global, tables: &Tables<'a>) -> Result<PathScratch<'a>, Fault>
+        requires { by_table.AreTables tables.now }
         ensures ok { IfOk result (path_tables.HasProcessRoom tables.now) }
         ensures err { IfErr result IsMemory }
     {
@@ -90,6 +94,7 @@ impl<'a> PathScratch<'a> {
             marks: no_marks(alloc, count)?,
             steady: false,
             selections: PathSelections::new(alloc, 0)?,
+            matches: matches_of(alloc, tables.net().processes())?,
         })
     }
 
@@ -111,7 +116,7 @@ impl<'a> PathScratch<'a> {
     }
 
     /// Marks what the verdict on a path is computed from, and computes the verdicts that hold for each region.
-    fn mark_path(&mut self, tables: &Tables<'_>, path: &[Crossing])
+    fn mark_path(&mut self, tables: &Tables<'a>, path: &[Crossing])
         requires tables { by_table.AreTables tables.now }
         requires room { path_tables.HasProcessRoom tables.now self.old }
         ensures marked { path_tables.IsPathMarked tables.now path.now self.new }
@@ -121,7 +126,13 @@ impl<'a> PathScratch<'a> {
         mark(&mut self.marks, tables, path);
         self.steady = take_none_in(&self.marks, tables.net().processes());
         if self.steady {
-            fill(&mut self.rows, &self.marks, tables, &Region::whole());
+            fill(
+                &mut self.rows,
+                &self.marks,
+                tables,
+                &Region::whole(),
+                &self.matches,
+            );
         }
     }
 
@@ -140,9 +151,20 @@ impl<'a> PathScratch<'a> {
         self.selections.len()
     }
 
+    /// Enters a region that is split: lists the aggregations whose matches may accept its packets, unless the verdicts
+    /// hold for each region. Its parts are then judged by these, until a region outside of it is entered. It changes no
+    /// answer.
+    pub fn enter(&mut self, region: &Region)
+        ensures { self.new ≡ self.old }
+    {
+        if !self.steady {
+            enter_marked(&mut self.matches, &self.marks, region);
+        }
+    }
+
     /// Moves those of the first `active` selection processes that count packets of the region before the others, and
-    /// returns their number. None after the first `active` counts a packet of the region.
-    pub fn narrow(&mut self, region: &Region, active: usize) -> usize
+    /// returns their number.
+    fn narrow_selections(&mut self, region: &Region, active: usize) -> usize
         requires narrowed { of_path.IsNarrowed self.old.selections region.now active }
         ensures narrowed { of_path.IsNarrowed self.new.selections region.now result }
         ensures overlapping { (k : ℕ) (d : of_path.PathSelection) → k < result
@@ -161,8 +183,29 @@ impl<'a> PathScratch<'a> {
         self.selections.narrow(region, active)
     }
 
+    /// Moves those of the first `active` selection processes that count packets of the region before the others, and
+    /// returns their number. None after the first `active` counts a packet of the region, which is entered.
+    pub fn narrow(&mut self, region: &Region, active: usize) -> usize
+        requires narrowed { of_path.IsNarrowed self.old.selections region.now active }
+        ensures narrowed { of_path.IsNarrowed self.new.selections region.now result }
+        ensures overlapping { (k : ℕ) (d : of_path.PathSelection) → k < result
+            → of_path.IsApart region.now (slice_index_or self.new.selections k d).selection → ⊥ }
+        ensures fewer { result ≤ active }
+        ensures others { (other : Bounds) (more : ℕ) → active ≤ more
+            → of_path.IsNarrowed self.old.selections other more
+            → of_path.IsNarrowed self.new.selections other more }
+        ensures begun { (t : TableView) (path : List OfCrossing)
+            → path_tables.IsPathBegun t path self.old → path_tables.IsPathBegun t path self.new }
+        ensures room { (t : TableView) → path_tables.HasProcessRoom t self.old
+            → path_tables.HasProcessRoom t self.new }
+        ensures more { self.old.room ≤ self.new.room }
+    {
+        self.enter(region);
+        self.narrow_selections(region, active)
+    }
+
     /// Computes the verdicts on the packets of this region.
-    fn fill_for(&mut self, tables: &Tables<'_>, path: &[Crossing], region: &Region)
+    fn fill_for(&mut self, tables: &Tables<'a>, path: &[Crossing], region: &Region)
         requires tables { by_table.AreTables tables.now }
         requires room { path_tables.HasProcessRoom tables.now self.old }
         requires begun { path_tables.IsPathBegun tables.now path.now self.old }
@@ -176,13 +219,13 @@ impl<'a> PathScratch<'a> {
         if self.steady {
             return;
         }
-        fill(&mut self.rows, &self.marks, tables, region);
+        fill(&mut self.rows, &self.marks, tables, region, &self.matches);
     }
 
     /// Returns the verdict on the packets of a region that take the path, or a bound of what cuts the region.
     fn path_verdict(
         &mut self,
-        tables: &Tables<'_>,
+        tables: &Tables<'a>,
         path: &[Crossing],
         region: &Region,
         active: usize,
@@ -208,6 +251,7 @@ impl<'a> PathScratch<'a> {
             tables,
             rows: &self.rows,
             region,
+            matches: &self.matches,
         };
         let reader = PathReader {
             verdicts,
@@ -224,7 +268,7 @@ impl<'a> PathScratch<'a> {
     /// Fails like [`fate`](crate::fate).
     pub fn fate(
         &mut self,
-        tables: &Tables<'_>,
+        tables: &Tables<'a>,
         path: &[Crossing],
         region: &Region,
         active: usize,
@@ -251,7 +295,7 @@ impl<'a> PathScratch<'a> {
     /// Fails like [`never`](crate::never).
     pub fn never(
         &mut self,
-        tables: &Tables<'_>,
+        tables: &Tables<'a>,
         path: &[Crossing],
         region: &Region,
         active: usize,
@@ -276,7 +320,7 @@ impl<'a> PathScratch<'a> {
     /// selection processes are looked at; the others count no packet of the region. It allocates nothing.
     pub fn judge(
         &mut self,
-        tables: &Tables<'_>,
+        tables: &Tables<'a>,
         path: &[Crossing],
         region: &Region,
         active: usize,
@@ -307,7 +351,7 @@ impl<'a> PathScratch<'a> {
     pub fn halving_bound(
         &self,
         bounds: &mut CutBounds,
-        tables: &Tables<'_>,
+        tables: &Tables<'a>,
         path: &[Crossing],
         region: &Region,
         active: usize,
@@ -315,6 +359,7 @@ impl<'a> PathScratch<'a> {
     ) -> Result<(Axis, u128), Fault>
         requires tables { by_table.AreTables tables.now }
         requires begun { path_tables.IsPathBegun tables.now path.now self.now }
+        requires room { path_tables.HasProcessRoom tables.now self.now }
         requires filled { reach.IsFilled tables.now.net tables.now.numbering region.now
             self.now.marks self.now.table }
         requires overlapping { (k : ℕ) (d : of_path.PathSelection) → k < active
@@ -334,6 +379,7 @@ impl<'a> PathScratch<'a> {
             tables,
             rows: &self.rows,
             region,
+            matches: &self.matches,
         };
         let reader = PathReader {
             verdicts,

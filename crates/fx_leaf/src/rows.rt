@@ -2,9 +2,11 @@
 ghost use Rattle.std.specs.Prelude.{◌≡◌, ◌≢◌, ◌<◌, ℕ, length, slice_get};
 ghost use Rattle.std.specs.Int.{bit_at};
 ghost use Rattle.fx_leaf.specs.Reach as reach;
+ghost use Rattle.fx_leaf.specs.Remaining.{AreAggregations};
 ghost use Rattle.fx_leaf.specs.Tables as by_table;
 
 use crate::reach::{mark, marks_at};
+use crate::remaining::ProcessMatches;
 use crate::table::{VerdictRow, Verdicts};
 use crate::tables::Tables;
 use crate::verdict::Fate;
@@ -23,16 +25,18 @@ fn set_entry(rows: &mut [VerdictRow], process: usize, number: usize, verdict: Op
 }
 
 /// Fills the entries for these layouts, from the rows of the processes that this one feeds.
-fn fill_row(
+fn fill_row<'t>(
     rows: &mut [VerdictRow],
     layouts: u64,
-    tables: &Tables<'_>,
+    tables: &Tables<'t>,
     region: &Region,
+    matches: &[ProcessMatches<'t>],
     process: usize,
 )
     requires tables { by_table.AreTables tables.now }
     requires size { length rows.old ≡ length tables.now.net.processes }
     requires there { process < length rows.old }
+    requires listed { AreAggregations tables.now.net.processes matches.now }
     requires right { let t = tables.now in
         let right = reach.IsVerdict t.net t.numbering region.now rows.old in
         (number : ℕ) → bit_at layouts number ≡ 1
@@ -50,6 +54,7 @@ fn fill_row(
                 tables: &*tables,
                 rows: &*rows,
                 region: &*region,
+                matches: &*matches,
             };
             let verdict = verdicts.entry_from(process, number, &every[number]);
             set_entry(rows, process, number, verdict);
@@ -58,18 +63,25 @@ fn fill_row(
 }
 
 /// Fills each marked entry after those of the processes that its own process feeds.
-pub(crate) fn fill(rows: &mut [VerdictRow], marks: &[u64], tables: &Tables<'_>, region: &Region)
+pub(crate) fn fill<'t>(
+    rows: &mut [VerdictRow],
+    marks: &[u64],
+    tables: &Tables<'t>,
+    region: &Region,
+    matches: &[ProcessMatches<'t>],
+)
     requires tables { by_table.AreTables tables.now }
     requires size { length rows.old ≡ length tables.now.net.processes }
     requires marks { length marks.now ≡ length tables.now.net.processes }
     requires closed { reach.IsClosed tables.now.net tables.now.numbering marks.now }
+    requires listed { AreAggregations tables.now.net.processes matches.now }
     ensures { let t = tables.now in
         reach.IsFilled t.net t.numbering region.now marks.now rows.new }
 {
     for process in tables.order() {
         let layouts = marks_at(marks, *process);
         if layouts != 0 {
-            fill_row(rows, layouts, tables, region, *process);
+            fill_row(rows, layouts, tables, region, matches, *process);
         }
     }
 }
@@ -91,5 +103,5 @@ pub(crate) fn prepare(
         reach.IsFilled t.net t.numbering region.now marks.new rows.new }
 {
     mark(marks, tables, path);
-    fill(rows, marks, tables, region);
+    fill(rows, marks, tables, region, &[]);
 }

@@ -1,13 +1,17 @@
 //! Room for the verdicts on records that reach the collecting processes.
 ghost use Rattle.std.specs.Prelude.{◌≡◌, ◌≢◌, ◌<◌, ℕ, length, slice_get, Some, IfOk, IfErr};
+ghost use Rattle.std.specs.List.{AllByRecursion};
 ghost use Rattle.fx_base.specs.Fault.{IsMemory};
+ghost use Rattle.fx_tables.specs.Matches.{HasEntries};
+ghost use Rattle.fx_leaf.specs.Remaining as of_remaining;
 ghost use Rattle.fx_leaf.specs.Tables as by_table;
 
+use crate::remaining::{ProcessMatches, Remaining};
 use crate::tables::Tables;
 use crate::verdict::Fate;
 use fx_base::Fault;
 use fx_boxes::Region;
-use fx_tables::LAYOUTS;
+use fx_tables::{LAYOUTS, Process};
 use std::alloc::{AllocError, Global};
 use std::marker::Model;
 
@@ -55,12 +59,32 @@ impl VerdictRow {
     }
 }
 
-/// The verdicts on a region's packets by table: the borrowed tables of a plan, and a row for each collecting process.
+/// The verdicts on a region's packets by table: the borrowed tables of a plan, a row for each collecting process, and
+/// lists of the aggregations that still matter, for some collecting processes or all.
 #[derive(Drop)]
 pub(crate) struct Verdicts<'a, 't> {
     pub(crate) tables: &'a Tables<'t>,
     pub(crate) rows: &'a [VerdictRow],
     pub(crate) region: &'a Region,
+    pub(crate) matches: &'a [ProcessMatches<'t>],
+    ghost listed: { of_remaining.AreAggregations tables.now.net.processes matches.now },
+}
+
+impl<'a, 't> Verdicts<'a, 't> {
+    /// Returns those aggregations of a collecting process, which is at this index, whose matches may accept packets of
+    /// the region.
+    pub(crate) fn remaining(&self, place: usize, process: &'t Process) -> Remaining<'a, 't>
+        requires there { slice_get self.now.tables.now.net.processes place ≡ Some process.now }
+        requires entries { AllByRecursion HasEntries process.now.aggregations }
+        ensures remain { of_remaining.AreRemaining self.now.region.now process.now.aggregations
+            result }
+        ensures entries { AllByRecursion HasEntries result }
+    {
+        let Some(matches) = self.matches.get(place) else {
+            return Remaining::of_all(process.aggregations());
+        };
+        matches.remaining(self.region)
+    }
 }
 
 impl Verdicts<'_, '_> {

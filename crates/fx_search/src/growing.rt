@@ -68,10 +68,10 @@ impl<'a> Ahead<'a> {
 
     /// Returns the verdict on the packets of the region that take the target's path. The path must be begun in
     /// `scratch`.
-    pub(crate) fn judge(
+    pub(crate) fn judge<'t>(
         &self,
-        scratch: &mut PathScratch<'_>,
-        tables: &Tables<'_>,
+        scratch: &mut PathScratch<'t>,
+        tables: &Tables<'t>,
         active: usize,
     ) -> Judgement
         requires tables { AreTables tables.now }
@@ -93,16 +93,17 @@ impl<'a> Ahead<'a> {
     }
 
     /// Returns where to split the region, which is cut at `other`, so that the split halves what cuts it.
-    pub(crate) fn halving_bound(
+    pub(crate) fn halving_bound<'t>(
         &self,
-        scratch: &PathScratch<'_>,
+        scratch: &PathScratch<'t>,
         bounds: &mut CutBounds,
-        tables: &Tables<'_>,
+        tables: &Tables<'t>,
         active: usize,
         other: (Axis, u128),
     ) -> Result<(Axis, u128), Fault>
         requires tables { AreTables tables.now }
         requires begun { IsPathBegun tables.now self.now.target.crossings scratch.now }
+        requires room { HasProcessRoom tables.now scratch.now }
         requires filled { IsFilled tables.now.net tables.now.numbering self.now.region
             scratch.now.marks scratch.now.table }
         requires overlapping { (k : ℕ) (d : PathSelection) → k < active

@@ -61,10 +61,10 @@ fn leaf_for(judgement: Judgement, exempt: bool) -> Option<Item>
 }
 
 /// Completes a region by one more line of the certificate, or returns why the search stops there.
-fn take<'a>(
-    scratch: &mut PathScratch<'_>,
+fn take<'a, 't>(
+    scratch: &mut PathScratch<'t>,
     bounds: &mut CutBounds,
-    tables: &Tables<'_>,
+    tables: &Tables<'t>,
     most: u64,
     growth: &mut Growth<'a>,
     here: &Ahead<'a>,
@@ -113,10 +113,10 @@ fn take<'a>(
 }
 
 /// Continues until no region of the current target is ahead, or until the first region at which the search stops.
-fn grow<'a, W: Watch>(
-    scratch: &mut PathScratch<'_>,
+fn grow<'a, 't, W: Watch>(
+    scratch: &mut PathScratch<'t>,
     bounds: &mut CutBounds,
-    tables: &Tables<'_>,
+    tables: &Tables<'t>,
     most: u64,
     growth: &mut Growth<'a>,
     target: &'a Target<'a>,

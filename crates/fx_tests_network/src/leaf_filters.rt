@@ -83,10 +83,10 @@ type Answers = (
 );
 
 /// Returns the bound that halves what cuts the region, if it is cut at this split.
-fn halved(
+fn halved<'t>(
     alloc: Global,
-    along: &mut PathScratch<'_>,
-    tables: &Tables<'_>,
+    along: &mut PathScratch<'t>,
+    tables: &Tables<'t>,
     path: &[Crossing],
     region: &Region,
     all: usize,

@@ -1,4 +1,5 @@
 use Rattle.std.proofs.Common.{◌≡◌, ◌∙◌, arith, sym, subst}
+use Rattle.fx_leaf.specs.PathTables.{PathTable}
 use Rattle.fx_check.specs.Remaining.{IsNarrowedTo}
 use Rattle.fx_check.specs.declared.progress.Stage.TheVariants as stage
 use Rattle.fx_check.specs.declared.stack.WaitingRegion.{WaitingRegion}
@@ -17,7 +18,8 @@ returns-then-here-le1 c = λ w is.
     let both : stage.Tree c.in-Tree.here ≡ stage.Tree w = sym c.in-Tree.is ∙ is in
     let same : c.in-Tree.here ≡ w = cc in
     let scratch = c.args.scratch.now in
-    subst (λ (v : WaitingRegion). IsNarrowedTo scratch scratch v c.in-Tree.here.active) same (record {
+    subst (λ (p : PathTable). IsNarrowedTo scratch p w c.in-Tree.here.active) (sym c.enter.ensures)
+    (subst (λ (v : WaitingRegion). IsNarrowedTo scratch scratch v c.in-Tree.here.active) same (record {
       narrowed = narrowed_there c.args.self.now.stage c.args.self.now.waiting scratch.selections c.in-Tree.here
           c.in-Tree.is c.requires.narrowed;
       fewer = omega arith;
@@ -25,7 +27,7 @@ returns-then-here-le1 c = λ w is.
       begun = λ t path h. h;
       room = λ t h. h;
       more = omega arith;
-    })
+    }))
 
 pub returns : goal.returns
 returns c = λ w is.

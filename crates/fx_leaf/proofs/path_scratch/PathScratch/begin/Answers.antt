@@ -3,7 +3,7 @@ use Rattle.std.specs.List.Sorted.{IsPermutation}
 use Rattle.std.proofs.lemmas.List.Sorted.{IsPermutation-refl}
 use Rattle.fx_tables.specs.Network.{Net}
 use Rattle.fx_leaf.specs.PathSelections.{PathSelection, path_selections}
-use Rattle.fx_leaf.specs.PathTables.{IsPathMarked}
+use Rattle.fx_leaf.specs.PathTables.{HasProcessRoom, IsPathMarked}
 use Rattle.fx_leaf.proofs.path_scratch.PathScratch.begin.Goals as goal
 
 pub returns-clause-begun : goal.returns-clause-begun
@@ -17,3 +17,8 @@ returns-clause-begun c =
       selections = subst (λ (xs : List PathSelection). IsPermutation (path_selections t.net 1 path) xs) (sym is)
           (IsPermutation-refl (path_selections t.net 1 path));
     }
+
+pub returns-clause-room : goal.returns-clause-room
+returns-clause-room c =
+    let here = subst (HasProcessRoom c.args.tables.now) (sym c.self.view_is) c.mark_path.ensures.room in
+    record { table = here.table; marks = here.marks; matches = here.matches }

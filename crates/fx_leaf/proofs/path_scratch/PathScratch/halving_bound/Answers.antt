@@ -1,10 +1,11 @@
-use Rattle.std.proofs.Common.{arith, ap, sym, subst, ◌<◌, ◌∙◌, ℕ, Contains, IfSome, List, Option, get_or, length, take}
+use Rattle.std.proofs.Common.{arith, ap, sym, subst, ◌<◌, ◌∙◌, ℕ, Contains, IfSome, List, Option, get_or, take}
 use Rattle.std.proofs.lemmas.List.{get_or-take, length-take}
 use Rattle.fx_elements.specs.declared.axis.Axis.{Axis}
 use Rattle.fx_tables.specs.declared.traffic.Crossing.{Crossing}
 use Rattle.fx_tables.specs.Network.{Net}
 use Rattle.fx_leaf.specs.PathSelections.{IsApart, PathSelection}
-use Rattle.fx_leaf.specs.PathTables.{IsPathBegun, PathTable}
+use Rattle.fx_leaf.specs.PathTables.{HasProcessRoom, IsPathBegun, PathTable}
+use Rattle.fx_leaf.specs.Remaining.{AreAggregations}
 use Rattle.fx_leaf.specs.Reach.{HoldsBehindSelection, IsMarked}
 use Rattle.fx_leaf.specs.Splits.{IsSplit, Meets}
 use Rattle.fx_leaf.proofs.PathSelectionVerdicts.{all_meet, among_path}
@@ -20,7 +21,7 @@ halving_match-requires-clause-along c = λ s at.
     let there = subst (λ (xs : List PathSelection). Contains (take m xs) s) c.as_slice.ensures at in
     let meets = all_meet t.net path s (among_path t.net path items m s begun.selections there) in
     subst (λ (marks : List ℕ). HoldsBehindSelection t.net t.numbering (IsMarked marks) s.selection)
-    (sym c.deref-2.ensures.value) (begun.marked.along s.selection meets)
+    (sym c.deref-3.ensures.value) (begun.marked.along s.selection meets)
 
 pub returns-clause-ok : goal.returns-clause-ok
 returns-clause-ok c = λ split.
@@ -62,3 +63,9 @@ returns-in-Some-clause-ok c = λ split.
     found t.net path (λ each at. all_meet t.net path each
     (among_path t.net path items m each begun.selections
     (subst (λ (xs : List PathSelection). Contains (take m xs) each) c.as_slice.ensures at)))
+
+pub invariant_of-verdicts : goal.invariant_of-verdicts
+invariant_of-verdicts c =
+    let t = c.args.tables.now in
+    let here = subst (HasProcessRoom t) (sym c.self.view_is) c.requires.room in
+    record { listed = subst (AreAggregations t.net.processes) (sym c.deref-2.ensures.value) here.matches }

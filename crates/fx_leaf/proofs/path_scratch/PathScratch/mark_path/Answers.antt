@@ -1,9 +1,10 @@
-use Rattle.std.proofs.Common.{List, ℕ, ap, sym, subst, ◌∙◌, arith}
+use Rattle.std.proofs.Common.{List, ℕ, ap, sym, subst, ◌∙◌, arith, length}
 use Rattle.std.specs.Vec.{with_items}
 use Rattle.std.proofs.lemmas.List.{with_items_is}
 use Rattle.fx_tables.specs.Network.{Net, Process}
 use Rattle.fx_leaf.specs.Tables.{Table}
-use Rattle.fx_leaf.specs.PathTables.{IsPathMarked, TakeNoneIn}
+use Rattle.fx_leaf.specs.PathTables.{HasProcessRoom, IsPathMarked, TakeNoneIn}
+use Rattle.fx_leaf.specs.Remaining.{AreAggregations}
 use Rattle.fx_leaf.specs.Reach.{IsClosed, IsFilled}
 use Rattle.fx_leaf.proofs.SteadyTables.{filled_for_each}
 use Rattle.fx_leaf.proofs.path_scratch.PathScratch.mark_path.Goals as goal
@@ -39,6 +40,7 @@ returns-then-self-clause-marked c =
       selections = c.self.inside.selections.items;
       room =
           c.self.inside.selections.room;
+      matches = c.self.inside.matches.items;
     }) = record {
       along = c.mark.ensures.along;
       closed = c.mark.ensures.closed;
@@ -52,6 +54,7 @@ returns-then-self-clause-marked c =
       selections = c.self.inside.selections.items;
       room =
           c.self.inside.selections.room;
+      matches = c.self.inside.matches.items;
     })) (sym rows_are) begun in
     subst (λ (ms : List ℕ). IsPathMarked t path
     (record {
@@ -61,7 +64,9 @@ returns-then-self-clause-marked c =
       selections =
           c.self.inside.selections.items;
       room = c.self.inside.selections.room;
-    })) (sym marks_are) filled_in
+      matches = c.self.inside.matches.items;
+    }))
+    (sym marks_are) filled_in
 
 pub returns-else-self-clause-marked : goal.returns-else-self-clause-marked
 returns-else-self-clause-marked c =
@@ -79,6 +84,7 @@ returns-else-self-clause-marked c =
       selections = c.self.inside.selections.items;
       room =
           c.self.inside.selections.room;
+      matches = c.self.inside.matches.items;
     }) = record {
       along = c.mark.ensures.along;
       closed = c.mark.ensures.closed;
@@ -92,4 +98,40 @@ returns-else-self-clause-marked c =
       selections = c.self.inside.selections.items;
       room =
           c.self.inside.selections.room;
+      matches = c.self.inside.matches.items;
     })) (sym marks_are) begun
+
+pub fill-requires-clause-listed : goal.fill-requires-clause-listed
+fill-requires-clause-listed c =
+    let t = c.args.tables.now in
+    let here = subst (HasProcessRoom t) (sym c.self.view_is) c.requires.room in
+    subst (AreAggregations t.net.processes) (sym c.deref-then-self-2.ensures.value) here.matches
+
+pub returns-then-self-clause-room : goal.returns-then-self-clause-room
+returns-then-self-clause-room c =
+    let here = subst (HasProcessRoom c.args.tables.now) (sym c.self.view_is) c.requires.room in
+    let marks_are = with_items_is c.self.inside.marks c.mark.new.marks
+    (omega (arith, c.mark.auto.marks, c.deref_mut.ensures.len)) in
+    let rows_are = with_items_is c.self.inside.rows c.fill.new.rows
+    (omega (arith, c.fill.auto.rows, c.deref_mut-then-self.ensures.len)) in
+    let as_many = ap (λ (ms : List ℕ). length ms) marks_are in
+    let before = ap (λ (ms : List ℕ). length ms) c.deref_mut.ensures.value in
+    record {
+      table = ap (λ (rs : Table). length rs) rows_are ∙ c.fill.ensures.size;
+      marks = omega (arith, as_many, before, c.mark.auto.marks, here.marks);
+      matches = here.matches;
+    }
+
+pub returns-else-self-clause-room : goal.returns-else-self-clause-room
+returns-else-self-clause-room c =
+    let here = subst (HasProcessRoom c.args.tables.now) (sym c.self.view_is) c.requires.room in
+    let marks_are = with_items_is c.self.inside.marks c.mark.new.marks
+    (omega (arith, c.mark.auto.marks, c.deref_mut.ensures.len)) in
+    let as_many = ap (λ (ms : List ℕ). length ms) marks_are in
+    let before = ap (λ (ms : List ℕ). length ms) c.deref_mut.ensures.value in
+    record {
+      table = here.table;
+      marks = omega (arith, as_many, before, c.mark.auto.marks, here.marks);
+      matches =
+          here.matches;
+    }

@@ -1,7 +1,8 @@
 use Rattle.std.proofs.Common.{List, Contains, ℕ, min, ap, sym, subst, take, ◌∙◌}
 use Rattle.fx_leaf.specs.Leaves.{AddsVerdicts, nothing_known}
 use Rattle.fx_leaf.specs.PathSelections.{IsNarrowed, PathSelection}
-use Rattle.fx_leaf.specs.PathTables.{IsPathBegun, PathTable}
+use Rattle.fx_leaf.specs.PathTables.{HasProcessRoom, IsPathBegun, PathTable}
+use Rattle.fx_leaf.specs.Remaining.{AreAggregations}
 use Rattle.fx_leaf.specs.Reach.{HoldsBehindSelection, IsMarked}
 use Rattle.fx_leaf.specs.Verdicts.{verdict, verdicts_of}
 use Rattle.fx_leaf.proofs.PathSelectionVerdicts.{all_meet, among_path, known_of_path, narrowed_within, ok_more}
@@ -18,7 +19,7 @@ known_of-requires-clause-along c = λ s at.
     let there = subst (λ (xs : List PathSelection). Contains (take m xs) s) c.as_slice.ensures at in
     let meets = all_meet t.net path s (among_path t.net path items m s begun.selections there) in
     subst (λ (marks : List ℕ). HoldsBehindSelection t.net t.numbering (IsMarked marks) s.selection)
-    (sym c.deref-2.ensures.value) (begun.marked.along s.selection meets)
+    (sym c.deref-3.ensures.value) (begun.marked.along s.selection meets)
 
 pub returns-clause-ok : goal.returns-clause-ok
 returns-clause-ok c =
@@ -48,3 +49,9 @@ returns-clause-err c =
     err_more _ _ c.known_of.result (λ s h. h path
     (λ e at. all_meet t.net path e (among_path t.net path items m e begun.selections
     (subst (λ (xs : List PathSelection). Contains (take m xs) e) c.as_slice.ensures at)))) c.known_of.ensures.err
+
+pub invariant_of-verdicts : goal.invariant_of-verdicts
+invariant_of-verdicts c =
+    let t = c.args.tables.now in
+    let here = subst (HasProcessRoom t) (sym c.self.view_is) c.fill_for.ensures.room in
+    record { listed = subst (AreAggregations t.net.processes) (sym c.deref-2.ensures.value) here.matches }

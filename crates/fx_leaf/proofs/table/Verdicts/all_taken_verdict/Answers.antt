@@ -1,11 +1,16 @@
+use Rattle.std.proofs.Common.{◌<◌, arith, length}
 use Rattle.fx_leaf.specs.Tables.{taken_entry}
 use Rattle.fx_leaf.proofs.JoinedVerdicts.{all_at}
 use Rattle.fx_leaf.proofs.table.Verdicts.all_taken_verdict.Goals as goal
 
-pub loop-aggregation-preserved : goal.loop-aggregation-preserved
-loop-aggregation-preserved c =
+pub loop-place-preserved : goal.loop-place-preserved
+loop-place-preserved c =
+    let end = c.len-place-end.ensures in
+    let before = c.loop-place-test.true in
+    let lt : c.loop-place.place < length c.args.remaining.now = omega (arith, before, end) in
+    let is = c.at-aggregation.ensures.at c.at-aggregation.result.now in
     let f = taken_entry c.args.self.now.rows.now c.args.self.now.tables.now.net c.args.self.now.tables.now.numbering
     c.args.self.now.region.now c.args.layout.now in
-    all_at f c.loop-aggregation.joined c.verdict_of_both-joined.result c.taken_verdict.result c.args.aggregations.now
-    c.loop-aggregation.aggregation-index c.aggregation-item.result c.loop-aggregation-test.true
-    c.aggregation-item.is c.taken_verdict.ensures c.verdict_of_both-joined.ensures c.loop-aggregation.invariant
+    all_at f c.loop-place.joined c.verdict_of_both-joined.result c.taken_verdict.result c.args.remaining.now
+    c.loop-place.place c.at-aggregation.result.now lt is c.taken_verdict.ensures c.verdict_of_both-joined.ensures
+    c.loop-place.invariant

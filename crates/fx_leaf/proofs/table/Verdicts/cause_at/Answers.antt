@@ -15,7 +15,7 @@ returns-in-Some-get-clause-some c =
     let t = c.args.self.now.tables.now in
     let same = c.processes.ensures ∙ ap (λ (n : Net). n.processes) c.net.ensures in
     let layout = c.in-Some.layout.now in
-    let process = c.in-Some-get.process.now in
+    let process = c.in-Some-get.found.now in
     let layout_at = c.in-Some.ensures.lookup.3 in
     let process_at = c.in-Some-get.ensures.lookup.3 in
     cause_there t c.args.self.now.region.now c.args.self.now.rows.now c.args.process c.args.number layout process
@@ -28,7 +28,7 @@ returns-in-Some-get-clause-none c =
     let t = c.args.self.now.tables.now in
     let same = c.processes.ensures ∙ ap (λ (n : Net). n.processes) c.net.ensures in
     let layout = c.in-Some.layout.now in
-    let process = c.in-Some-get.process.now in
+    let process = c.in-Some-get.found.now in
     let layout_at = c.in-Some.ensures.lookup.3 in
     let process_at = c.in-Some-get.ensures.lookup.3 in
     no_cause_there t c.args.self.now.region.now c.args.self.now.rows.now c.args.process c.args.number layout process

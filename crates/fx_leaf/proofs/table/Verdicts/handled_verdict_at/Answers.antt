@@ -16,7 +16,7 @@ pub returns-in-Some : goal.returns-in-Some
 returns-in-Some c =
     let t = c.args.self.now.tables.now in
     let same = c.processes.ensures ∙ ap (λ (n : Net). n.processes) c.net.ensures in
-    let process = c.in-Some.process.now in
+    let process = c.in-Some.found.now in
     let at = c.in-Some.ensures.lookup.3 in
     c.handled_verdict.ensures
     ∙ sym (ap (λ (p : Option Process). handled_entry c.args.self.now.rows.now t.net t.numbering
