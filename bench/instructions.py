@@ -16,6 +16,8 @@ the units that it has more, so that the start and the reading of documents don't
   audit-1x64, audit-32x256, audit-62x256, check-1x64, check-32x256, check-62x256
             a line of the certificate of a path of 1 or 32 meters, or of two paths of 31, with 64 or 256 filters each, by networks in
             ascending order: what the command takes more than `lint` of the same documents
+  audit-matches-1x64, audit-matches-4x256, check-matches-1x64, check-matches-4x256
+            the same for a mediator of 1 or 4 collecting processes with 64 or 256 aggregations each, with matches on networks
 
 It needs valgrind (Debian's package) on the PATH. Where that isn't there, the comparison with a page says so, and passes:
 the gate makes it.
@@ -96,7 +98,19 @@ def of_lists(meters, filters, command):
     return made
 
 
+def of_matches(processes, matches, command):
+    """The same of a mediator whose aggregations have matches."""
+    def made(work, size):
+        words = lists.mediator_documents(work, processes, matches)
+        if size == 1:
+            return ["lint", *words], 0
+        more = [lists.mediator_certificate(work, processes, matches)] if command == "check" else []
+        return [command, *words, *more], 2 * processes * matches - 1
+    return made
+
+
 SIZES = ((1, 64), (32, 256), (62, 256))
+MATCHES = ((1, 64), (4, 256))
 KINDS = {
     "check": (checked, 20_000),
     "collect": (collected, 20_000),
@@ -104,6 +118,7 @@ KINDS = {
     "audit": (audited, 20),
     "run": (metered, 20_000),
     **{f"{command}-{meters}x{filters}": (of_lists(meters, filters, command), 1) for command in ("audit", "check") for meters, filters in SIZES},
+    **{f"{command}-matches-{count}x{each}": (of_matches(count, each, command), 1) for command in ("audit", "check") for count, each in MATCHES},
 }
 
 # A row of a page's table: the kind of work, and a unit's instructions.
@@ -145,10 +160,10 @@ def main(words):
         for name, found in inputs.items():
             now = by_unit(words.program, *found)
             if name not in before:
-                print("%-13s %7.0f instructions" % (name, now))
+                print("%-20s %7.0f instructions" % (name, now))
                 dear += [name] if words.noted else []
                 continue
-            print("%-13s %7.0f instructions, %7.0f before, %.2f times" % (name, now, before[name], now / before[name]))
+            print("%-20s %7.0f instructions, %7.0f before, %.2f times" % (name, now, before[name], now / before[name]))
             dear += [name] if now > words.most * before[name] else []
     if dear:
         print("more than %.2f times what it was, or not noted: %s" % (words.most, " ".join(dear)))

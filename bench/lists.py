@@ -1,4 +1,4 @@
-"""Paths of meters whose filters are lists of networks: documents, and the balanced certificate of one path.
+"""Paths of meters whose filters are lists of networks, and mediators whose matches are: documents, and balanced certificates of one path.
 
 The bounds of docs/SPEED.md on filter lists are taken on these. A path crosses at most 31 meters, and a class has one path; more meters
 stand on paths of further classes, each with an equal part of the networks.
@@ -11,7 +11,7 @@ TOP = os.path.dirname(os.path.dirname(os.path.abspath(__file__)))
 sys.path[:0] = [os.path.join(TOP, "tests")]
 
 from check import document
-from filter_lists import FIRST, SIZE, network, networks_of
+from filter_lists import FIRST, SIZE, lists_of as lists_of_numbers, mediated, network, networks_of, traffic as traffic_over
 
 METERS_OF_A_PATH = 32
 
@@ -79,5 +79,21 @@ def certificate(work, meters, filters, order):
             where = {it: (crossing, process) for crossing, meter in enumerate(numbers, 1) for process, it in enumerate(lists[meter], 1)}
             file.write(f"class {at} path 1\n")
             file.writelines(tree(min(where), max(where) + 1, where))
+        file.write("end\n")
+    return path
+
+
+def mediator_documents(work, processes, matches):
+    """Writes the network of a mediator, of so many collecting processes with so many matches each, and its traffic; returns their files."""
+    name, lists = f"{processes}x{matches}-matches.json", lists_of_numbers(processes, matches, "ascending")
+    return document(work, f"network-{name}", mediated(lists)), document(work, f"traffic-{name}", traffic_over(1, processes * matches))
+
+
+def mediator_certificate(work, processes, matches):
+    """Writes its certificate whose tree is balanced, and returns the file."""
+    count, path = processes * matches, os.path.join(work, f"certificate-{processes}x{matches}-matches.txt")
+    with open(path, "w", encoding="utf-8") as file:
+        file.write("once-certificate 1\nclass 1 path 1\n")
+        file.writelines(tree(0, count, {it: (1, 1) for it in range(count)}))
         file.write("end\n")
     return path
