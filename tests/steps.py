@@ -73,6 +73,7 @@ STEPS = [
     script("cut_inputs", PROGRAM),
     script("hostile_keys", PROGRAM, alone=True),
     script("generated_networks", PROGRAM),
+    script("json_facts", PROGRAM),
     script("addresses", PROGRAM),
     script("carried_in_pieces", PROGRAM),
     script("link_octets", PROGRAM, needs=("tshark", "libfixbuf-tools", "nfdump")),
