@@ -3,4 +3,4 @@ use Rattle.fx_traffic.proofs.traffic.read_traffic.Goals as goal
 
 pub returns : goal.returns
 unfolding traffic_faults traffic_faults_within
-returns c = c.read_classes.ensures
+returns c = rw (c.as_slice.ensures, c.network.ensures) at c.read_classes.ensures
