@@ -8,7 +8,7 @@ use fx_config::{Aggregation, CollectingProcess};
 use fx_explanation::{Explanation, write_end, write_sending};
 use fx_leaf::{Overlap, selection_overlap};
 use fx_plan::Plan;
-use fx_tables::{Crossing, HolderName, Point};
+use fx_tables::{AggregationEntry, Crossing, HolderName, Point};
 use fx_topology::{NamedLink, NetworkDevice};
 use fx_walk::place_of;
 
@@ -141,21 +141,29 @@ fn add_first(found: &mut Ways<'_>, region: &Region, crossing: &Crossing) {
     }
 }
 
-/// Adds the links by which a collecting process forwards records, including those of its aggregations. The indices of
-/// its device and of itself count from 0.
+/// Returns the aggregations of the collecting process to which the link at an index leads.
+fn aggregations_at(plan: &Plan, link: usize) -> &[AggregationEntry] {
+    let Some(end) = entry_at(plan.net().links(), link).copied() else {
+        return &[];
+    };
+    match entry_at(plan.net().processes(), end) {
+        Some(handled) => handled.aggregations(),
+        None => &[],
+    }
+}
+
+/// Adds the links by which a collecting process forwards records that arrive by the link at an index, including those
+/// by which the aggregations that take them in send theirs. The indices of its device and of itself count from 0.
 fn add_onward(
     found: &mut Ways<'_>,
-    device: &NetworkDevice,
-    process: &CollectingProcess,
+    taken: &ArrivingRecords<'_>,
+    link: usize,
     places: (usize, usize),
-    holder: HolderName,
 ) {
-    add_links(
-        found,
-        device,
-        process.exporting_processes.as_slice(),
-        holder,
-    );
+    let process = taken.process;
+    let exporters = process.exporting_processes.as_slice();
+    add_links(found, taken.device, exporters, taken.holder);
+    let entries = aggregations_at(found.plan, link);
     let aggregations = process.aggregations.as_slice();
     for place in 0..aggregations.len() {
         let aggregation = HolderName::Aggregation {
@@ -163,8 +171,10 @@ fn add_onward(
             process: (places.1 as u64).saturating_add(1),
             aggregation: place as u64 + 1,
         };
-        let exporters = aggregations[place].exporting_processes.as_slice();
-        add_links(found, device, exporters, aggregation);
+        if place < entries.len() && taken.are_taken_by(&aggregations[place], &entries[place]) {
+            let exporters = aggregations[place].exporting_processes.as_slice();
+            add_links(found, taken.device, exporters, aggregation);
+        }
     }
 }
 
@@ -208,40 +218,14 @@ fn write_process(
     out.end_line();
 }
 
-/// Writes why records of a cache or an aggregation that arrive by the link at an index remain unassigned, or aren't
-/// accepted by aggregations of a collecting process.
-fn write_lacking<'x>(
-    out: &mut Explanation,
-    plan: &'x Plan,
-    region: &'x Region,
-    place: usize,
-    holder: HolderName,
-    device: &'x NetworkDevice,
-    process: &'x CollectingProcess,
-) {
-    let net = plan.net();
-    let Some(end) = entry_at(net.links(), place).copied() else {
-        return;
-    };
-    let fields = region.corner();
-    let arriving = Arriving {
-        plan,
-        origin: net.holder_place(holder).unwrap_or(usize::MAX),
-        fields: &fields,
-    };
-    if end == net.report() {
-        arriving.write_unassigned_of(out, holder);
+/// Writes why records that arrive by the link at an index remain unassigned, or aren't accepted by aggregations of a
+/// collecting process.
+fn write_lacking(out: &mut Explanation, taken: &ArrivingRecords<'_>, link: usize) {
+    let net = taken.arriving.plan.net();
+    if entry_at(net.links(), link).copied() == Some(net.report()) {
+        taken.arriving.write_unassigned_of(out, taken.holder);
     }
-    if let Some(handled) = entry_at(net.processes(), end) {
-        let taken = ArrivingRecords {
-            region,
-            arriving,
-            holder,
-            device,
-            process,
-        };
-        write_untaken(out, &taken, handled.aggregations());
-    }
+    write_untaken(out, taken, aggregations_at(taken.arriving.plan, link));
 }
 
 /// Writes what happens to records at the end of the way with this 0-based number, if no earlier way leads there, and
@@ -253,29 +237,34 @@ fn write_way(
     place: usize,
     next: usize,
     holder: HolderName,
-) {
+) -> Option<()> {
     let plan = found.plan;
-    let Some(link) = entry_at(plan.network().links.as_slice(), place) else {
-        return;
-    };
+    let link = entry_at(plan.network().links.as_slice(), place)?;
     let devices = plan.network().devices.as_slice();
-    let Some(at) = place_of(devices, &link.to_device) else {
-        return;
-    };
-    let Some(device) = entry_at(devices, at) else {
-        return;
-    };
+    let at = place_of(devices, &link.to_device)?;
+    let device = entry_at(devices, at)?;
     let processes = device.config.collecting_processes.as_slice();
-    let Some(of) = place_of(processes, &link.to_process) else {
-        return;
-    };
-    if let Some(process) = entry_at(processes, of) {
-        if !found.has_end(link, next) {
-            write_process(out, plan, link, device, process);
-        }
-        write_lacking(out, plan, region, place, holder, device, process);
-        add_onward(found, device, process, (at, of), holder);
+    let of = place_of(processes, &link.to_process)?;
+    let process = entry_at(processes, of)?;
+    if !found.has_end(link, next) {
+        write_process(out, plan, link, device, process);
     }
+    let fields = region.corner();
+    let arriving = Arriving {
+        plan,
+        origin: plan.net().holder_place(holder).unwrap_or(usize::MAX),
+        fields: &fields,
+    };
+    let taken = ArrivingRecords {
+        region,
+        arriving,
+        holder,
+        device,
+        process,
+    };
+    write_lacking(out, &taken, place);
+    add_onward(found, &taken, place, (at, of));
+    Some(())
 }
 
 /// Writes the collecting processes that the records of a region's packets on a path may reach, each once and at most
@@ -303,7 +292,7 @@ pub(crate) fn write_following(
     for next in 0..SHOWN {
         if next < found.count {
             let (place, holder) = (found.places[next], found.holders[next]);
-            write_way(out, &mut found, region, place, next, holder);
+            let _followed = write_way(out, &mut found, region, place, next, holder);
         }
     }
 }

@@ -245,7 +245,7 @@ impl<'a> Lineage<'a> {
         self.places.send(effects.links(), handled)?;
         for taken in effects.taken() {
             let into = self.places.take_in(taken)?;
-            self.events.push(Event::ArrivingRecords { step, into })?;
+            self.events.push(Event::Taken { step, into })?;
         }
         self.note_lost(effects, handled)
     }

@@ -18,13 +18,19 @@ pub(crate) struct ArrivingRecords<'a> {
     pub(crate) process: &'a CollectingProcess,
 }
 
+/// Returns whether a match holds for none of a region's packets.
+fn is_outside(region: &Region, property: &PropertyMatch) -> bool {
+    region.far_corner().get(property.axis) < property.range.low
+        || property.range.high < region.corner().get(property.axis)
+}
+
 /// Returns for how many of a region's packets a match holds, if it doesn't hold for all.
 fn hold_words(region: &Region, property: &PropertyMatch) -> Option<&'static str> {
     let low = region.corner().get(property.axis);
     let high = region.far_corner().get(property.axis);
     if property.range.low <= low && high <= property.range.high {
         None
-    } else if high < property.range.low || property.range.high < low {
+    } else if is_outside(region, property) {
         Some(" holds for none of these packets")
     } else {
         Some(" holds for some of these packets and not all")
@@ -32,6 +38,16 @@ fn hold_words(region: &Region, property: &PropertyMatch) -> Option<&'static str>
 }
 
 impl ArrivingRecords<'_> {
+    /// Returns whether an aggregation takes in some of the records.
+    pub(crate) fn are_taken_by(&self, aggregation: &Aggregation, entry: &AggregationEntry) -> bool {
+        for property in aggregation.matches.as_slice() {
+            if is_outside(self.region, property) {
+                return false;
+            }
+        }
+        self.arriving.reads_all(aggregation, entry)
+    }
+
     /// Writes an aggregation of the collecting process.
     fn write_name(&self, out: &mut Explanation, aggregation: &Aggregation) {
         out.text_quoted("aggregation ", aggregation.name.as_str());

@@ -256,11 +256,20 @@ fn write_verdict(out: &mut Explanation, wrong: &Wrong<'_>, counted: u64) {
     out.text_number("verdict: a packet of class ", packet.class);
     out.text_quoted(" ", class_name(wrong.documents, packet.class));
     out.text_number(" on path ", packet.path);
-    if wrong.documents.traffic.classes().exempts(packet) {
+    let is_exempt = wrong.documents.traffic.classes().exempts(packet);
+    if is_exempt && counted > 0 {
         out.sentence(" is counted, and its class is exempt");
-    } else if counted > 0 {
+    } else if is_exempt {
+        out.sentence(
+            " isn't counted, but a record of it is unassigned at the report, and its class is exempt",
+        );
+    } else if counted > 1 {
         out.text_number(" is counted ", counted);
         out.sentence(" times instead of once");
+    } else if counted == 1 {
+        out.sentence(
+            " is counted once, and another record of it reaches the report without a field of the report's key, and is unassigned",
+        );
     } else if !wrong.lineage.reported.is_empty() {
         out.sentence(
             " isn't counted: its record reaches the report without a field of the report's key, and is unassigned",

@@ -5,7 +5,7 @@ use std::alloc::{AllocError, Global};
 #[derive(Clone, Copy)]
 pub(crate) enum Event {
     /// The record is taken into the held record with this number.
-    ArrivingRecords {
+    Taken {
         step: usize,
         into: usize,
     },
@@ -54,7 +54,7 @@ impl Ways {
         let mut records = vec![in alloc; 0usize; records]?;
         for after in 0..events.len() {
             match events[events.len() - 1 - after] {
-                Event::ArrivingRecords { step, into } => {
+                Event::Taken { step, into } => {
                     let more = usize::from(is_some_at(records.as_slice(), into));
                     add(steps.as_mut_slice(), step, more);
                 }
