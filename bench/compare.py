@@ -36,8 +36,8 @@ meters the capture into flows and sends them nowhere.
 |---|---|---|---|
 """
 
-# What was measured once, on other machines or of earlier texts.
-ELSEWHERE, EARLIER_PROOFS = (os.path.join(TOP, "bench", name) for name in ("elsewhere.md", "earlier_proofs.md"))
+# What was measured once, on other machines.
+ELSEWHERE = os.path.join(TOP, "bench", "elsewhere.md")
 
 COUNTED = """
 ## Instructions
@@ -219,7 +219,7 @@ def page(rows, counts, grown):
         beside = "%s %s, %.2f times" % (name, format(round(theirs), ","), ours / theirs) if name else ""
         text += "| `%s` | %s | %s | %s |\n" % (kind, UNITS[kind], format(round(ours), ","), beside)
     if os.path.exists(PROVED):
-        text += PROOF.format(proved=text_of(PROVED).strip()) + "\n" + text_of(EARLIER_PROOFS)
+        text += PROOF.format(proved=text_of(PROVED).strip())
     text += GROWTH
     for kind, unit, points in grown:
         text += "- `%s`: %s\n" % (kind, ", ".join("%s %ss %.3f" % (format(size, ","), unit, took) for size, took in points))
