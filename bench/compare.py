@@ -69,7 +69,7 @@ UNITS = {
     "replay": "a packet along ten collectors",
     "audit": "a line of a certificate that is found",
     "run": "a packet of a capture",
-    **{name: "a line, %s x %s filters" % tuple(name.split("-")[1].split("x")) for name in instructions.KINDS if "-" in name},
+    **{name: f"a line, {name.rpartition('-')[2].replace('x', ' x ')} {'matches' if '-matches-' in name else 'filters'}" for name in instructions.KINDS if "-" in name},
 }
 
 
