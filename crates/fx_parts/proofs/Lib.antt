@@ -6,3 +6,4 @@ mod Examples
 pub mod Checked
 pub mod Metered
 pub mod Networks
+mod Joins

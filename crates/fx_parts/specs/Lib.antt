@@ -3,3 +3,4 @@ pub mod Parts
 pub mod Trees
 pub mod Checks
 pub mod Meters
+pub mod Joins

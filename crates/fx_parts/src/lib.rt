@@ -3,14 +3,16 @@
 
 mod check;
 mod classes;
-mod judging;
+mod join;
 mod laws;
 mod meters;
 mod network;
+mod part;
 
 pub use check::is_part;
 pub use classes::classes_alike;
-pub use judging::{Part, parts_cover};
+pub use join::{Join, Joining, Located};
 pub use laws::{fates_of_parts, leaves_of_parts, parts_count_once};
 pub use meters::meters_the_same;
 pub use network::is_network;
+pub use part::Part;

@@ -2,7 +2,7 @@
 use crate::meters::{into, meter};
 use crate::parts::{by_source, exporter, holder, process};
 use fx_boxes::Region;
-use fx_parts::{classes_alike, is_network, is_part, meters_the_same, parts_cover};
+use fx_parts::{Join, classes_alike, is_network, is_part, meters_the_same};
 use fx_tables::{Class, Classes, Crossing, DeviceEntry, Net, Path, Process};
 use std::alloc::Global;
 use std::process::Abort;
@@ -127,12 +127,27 @@ fn cycles_are_no_network(rt: HostRuntime) {
     assert!(rt; forward & !in_a_cycle);
 }
 
+/// Returns the 0-based index of the first class that is not covered before any part is joined, or `None` if the tables,
+/// in which process 0 forwards to process `next`, are those of no network.
+fn uncovered(
+    rt: &impl Abort,
+    alloc: Global,
+    next: usize,
+    classes: Classes,
+) -> Option<Option<usize>> {
+    let whole = whole(rt, alloc, next);
+    let join = Join::new(alloc, &whole, &classes).expect(rt, "memory")?;
+    Some(join.first_uncovered())
+}
+
+fn one(rt: &impl Abort, alloc: Global) -> Classes {
+    Classes::new(vec![in alloc; class_into(rt, alloc, 3, false)].expect(rt, "memory"))
+}
+
 #[test]
-fn no_parts_cover_no_classes(rt: HostRuntime) {
+fn no_part_covers_a_class(rt: HostRuntime) {
     let alloc = rt.alloc();
-    let classes = Classes::new(Vec::new(alloc));
-    let is_covered = parts_cover(alloc, &whole(&rt, alloc, 1), &classes, &[], &[]).expect(
-        &rt, "memory",
-    );
-    assert!(rt; is_covered);
+    assert!(rt; uncovered(&rt, alloc, 1, one(&rt, alloc)) == Some(Some(0)));
+    assert!(rt; uncovered(&rt, alloc, 0, one(&rt, alloc)).is_none());
+    assert!(rt; uncovered(&rt, alloc, 1, Classes::new(Vec::new(alloc))) == Some(None));
 }
