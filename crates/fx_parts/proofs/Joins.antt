@@ -64,11 +64,13 @@ marked_too j part index number class inside is certified at_class at_inside alik
           is_part = get_last is.parts part;
           is_class = at_inside;
           alike = subst (ClassesAlike part.net j.whole part.places inside)
-              (same_there class c (sym at_class ∙ subst (λ i. slice_get j.classes i ≡ Some c) (eqb-true k index same) e))
+              (same_there class c (sym at_class ∙ subst (λ i. slice_get j.classes i ≡ Some c) (eqb-true k index same)
+              e))
               alike;
         }
         | false ↦ λ other. covered_more j.whole c is.parts (part ∷ [])
-            (is.marked k c (sym (set_elsewhere j.covered index k true (λ q. let t = eq-eqb k index (sym q) in cc)) ∙ m) e)
+            (is.marked k c (sym (set_elsewhere j.covered index k true (λ q. let t = eq-eqb k index (sym q) in cc)) ∙ m)
+            e)
       ] refl;
 }
 
