@@ -1,17 +1,19 @@
 -- Certified parts that are joined one after another cover the classes that are marked.
-use Rattle.std.proofs.Common.{◌≡◌, ◌<◌, ◌==◌, ℕ, zero, suc, Bool, true, false, not, List, [], ◌∷◌, ◌++◌, length, Option, Some, None, slice_get, refl, sym, subst, ◌∙◌, arith, eqb-true, eq-eqb}
-use Rattle.std.specs.Prelude.{position, slice_set}
+use Rattle.std.proofs.Common.{◌≡◌, ◌<◌, ◌==◌, ℕ, zero, suc, Bool, true, false, not, List, [], ◌∷◌, ◌++◌, length, Option, Some, None, slice_get, refl, sym, ap, subst, ◌∙◌, arith, eqb-true, eq-eqb}
+use Rattle.std.specs.Prelude.{position, replicate, slice_set}
 use Rattle.std.specs.List.{list_any}
-use Rattle.std.proofs.lemmas.List.{length-set}
+use Rattle.std.proofs.lemmas.List.{length-replicate, length-set}
 use Rattle.std.proofs.lemmas.Option.{slice_get_within}
 use Rattle.fx_base.specs.Entries.{entry_numbered}
 use Rattle.fx_tables.specs.Network.{Net}
 use Rattle.fx_tables.specs.Classes.{Class}
+use Rattle.fx_tables.specs.Ranks.{IsNetwork}
+use Rattle.fx_machine.specs.Claim.{ExactlyOnce, OnceModulo}
 use Rattle.fx_plan.proofs.Numberings.{none_any, none_passes}
 use Rattle.fx_leaf.proofs.RowsGrow.{set_elsewhere}
-use Rattle.fx_parts.specs.Joins.{IsJoined, Joined}
+use Rattle.fx_parts.specs.Joins.{IsJoined, Joined, joined}
 use Rattle.fx_parts.specs.Parts.{ClassesAlike, IsCertifiedPart, IsCovered, Part}
-use Rattle.fx_parts.proofs.PartsCountOnce.{EachCovered, same_there}
+use Rattle.fx_parts.proofs.PartsCountOnce.{EachCovered, covered_if, parts_modulo, parts_once, same_there}
 
 -- ---- a list with one more element
 
@@ -88,3 +90,37 @@ joined_covers j is none k class e =
     let inside = slice_get_within j.classes k class e in
     let no : list_any not j.covered ≡ false = none_any not j.covered (none_passes not j.covered none) in
     is.marked k class (all_true j.covered no k (omega (arith, inside, is.each))) e
+
+-- ---- at the beginning, and at the end
+
+none_marked : (n k : ℕ) → slice_get (replicate n false) k ≡ Some true → ⊥
+none_marked zero k e = cc
+none_marked (suc n) zero e = cc
+none_marked (suc n) (suc k) e = none_marked n k e
+
+pub none_joined : (whole : Net) (classes : List Class) (covered : List Bool) (n : ℕ) → IsNetwork whole
+    → covered ≡ replicate n false → n ≡ length classes → IsJoined (joined whole classes covered)
+none_joined whole classes covered n network none many = record {
+  network = network;
+  each = ap length none ∙ length-replicate n false ∙ many;
+  parts = [];
+  certified = λ k. λ part. λ e. absurd cc;
+  marked = λ k. λ class. λ m. λ e.
+      absurd (none_marked n k (subst (λ xs. slice_get xs k ≡ Some true) none m));
+}
+
+pub once_if : (j k : Joined) (r : Option ℕ) (xs : List Bool) → j ≡ k → IsJoined k → r ≡ position not xs
+    → xs ≡ k.covered → r ≡ None → ExactlyOnce j.whole j.classes
+once_if j k r xs same is found all none =
+    let no : position not k.covered ≡ None = subst (λ ys. position not ys ≡ None) all (sym found ∙ none) in
+    subst (λ (x : Joined). ExactlyOnce x.whole x.classes) (sym same)
+    (parts_once k.whole k.classes is.parts is.network is.certified
+    (covered_if k.whole k.classes is.parts (joined_covers k is no)))
+
+pub modulo_if : (j k : Joined) (r : Option ℕ) (xs : List Bool) → j ≡ k → IsJoined k → r ≡ position not xs
+    → xs ≡ k.covered → r ≡ None → OnceModulo j.whole j.classes
+modulo_if j k r xs same is found all none =
+    let no : position not k.covered ≡ None = subst (λ ys. position not ys ≡ None) all (sym found ∙ none) in
+    subst (λ (x : Joined). OnceModulo x.whole x.classes) (sym same)
+    (parts_modulo k.whole k.classes is.parts is.network is.certified
+    (covered_if k.whole k.classes is.parts (joined_covers k is no)))

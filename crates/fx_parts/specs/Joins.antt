@@ -1,10 +1,8 @@
 -- Parts that are joined into a whole one after another, and the classes of the whole that they cover.
-use Rattle.std.specs.Prelude.{◌≡◌, ◌<◌, ℕ, Bool, true, List, [], ◌∷◌, length, Some, slice_get, slice_set, take}
+use Rattle.std.specs.Prelude.{◌≡◌, ℕ, Bool, true, List, length, Some, slice_get}
 use Rattle.fx_tables.specs.Network.{Net}
 use Rattle.fx_tables.specs.Classes.{Class}
 use Rattle.fx_tables.specs.Ranks.{IsNetwork}
-use Rattle.fx_parts.specs.declared.join.Joining.{Joining}
-use Rattle.fx_parts.specs.declared.join.Joining.TheVariants.{Covering, NotWithin, NotCovering}
 use Rattle.fx_parts.specs.Parts.{AllCertifiedParts, IsCovered, Part}
 
 -- a whole network, its classes, and for each class whether a part covers it
@@ -24,15 +22,3 @@ pub record IsJoined (j : Joined) : Type 0 where
   pub certified : AllCertifiedParts j.whole parts
   pub marked : (k : ℕ) (class : Class) → slice_get j.covered k ≡ Some true → slice_get j.classes k ≡ Some class
       → IsCovered j.whole class parts
-
--- the classes with these 0-based indices are marked, too
-abbrev pub with_marks : List Bool → List ℕ → List Bool
-with_marks covered [] = covered
-with_marks covered (k ∷ ks) = with_marks (slice_set covered k true) ks
-
--- what joining a part comes to, given the classes of the whole that its classes are to cover
-abbrev pub Adds : Joined → Joined → List ℕ → Joining → Type 0
-Adds old new indices Covering = new ≡ record old { covered = with_marks old.covered indices }
-Adds old new indices NotWithin = new ≡ old
-Adds old new indices (NotCovering n) =
-    (n < length indices) × (new ≡ record old { covered = with_marks old.covered (take n indices) })

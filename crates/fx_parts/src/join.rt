@@ -1,8 +1,7 @@
 //! Joins certified parts of a network one after another, with room for the whole and one part.
-ghost use Rattle.std.specs.Prelude.{◌≡◌, ◌×◌, ℕ, Some, None, map, not, length, position, replicate, slice_get, slice_set, take, if◌then◌else◌, IfOk, IfSome};
-ghost use Rattle.fx_base.specs.Entries.{entry_numbered};
+ghost use Rattle.std.specs.Prelude.{◌≡◌, true, false, None, length, not, position, replicate, slice_set, if◌then◌else◌, IfOk, IfSome};
+ghost use Rattle.std.specs.Bool.{OnTrue};
 ghost use Rattle.fx_machine.specs.Claim.{ExactlyOnce, OnceModulo};
-ghost use Rattle.fx_tables.specs.Classes as traffic;
 ghost use Rattle.fx_parts.specs.Joins as joins;
 ghost use Rattle.fx_parts.specs.Parts as parts;
 
@@ -18,17 +17,6 @@ use std::marker::Model;
 pub struct Located {
     pub index: usize,
     pub number: u64,
-}
-
-/// The outcome of joining a part.
-#[derive(Clone, Copy, Debug, PartialEq, Eq)]
-pub enum Joining {
-    /// Its classes cover those of the whole.
-    Covering,
-    /// It is not a part of the whole.
-    NotWithin,
-    /// The pair at this 0-based index names no class of the whole, or a class of the part that doesn't cover it.
-    NotCovering(usize),
 }
 
 /// The classes of a whole network that certified parts cover so far.
@@ -50,12 +38,25 @@ impl<'w> Model for Join<'w> {
     ghost invariant = { λ j. IsJoined (joined j.whole.now j.classes.now j.covered.items) };
 }
 
+/// Returns marks of which none is set.
+fn no_marks(alloc: Global, count: usize) -> Result<Vec<bool>, AllocError>
+    ensures { IfOk result (λ marks. marks.items ≡ replicate count false) }
+{
+    vec![in alloc; false; count]
+}
+
 fn mark(covered: &mut Vec<bool>, index: usize)
     ensures { covered.new.items ≡ slice_set covered.old.items index true }
 {
     if let Some(mark) = covered.get_mut(index) {
         *mark = true;
     }
+}
+
+fn first_unmarked(covered: &[bool]) -> Option<usize>
+    ensures { result ≡ position not covered.now }
+{
+    covered.iter().position(|covered| !*covered)
 }
 
 impl<'w> Join<'w> {
@@ -73,7 +74,7 @@ impl<'w> Join<'w> {
         if !is_network(alloc, whole)? {
             return Ok(None);
         }
-        let covered = vec![in alloc; false; classes.as_slice().len()]?;
+        let covered = no_marks(alloc, classes.as_slice().len())?;
         Ok(Some(Join {
             whole,
             classes,
@@ -81,8 +82,17 @@ impl<'w> Join<'w> {
         }))
     }
 
-    /// Marks a class of the whole if the class of a part covers it. Returns whether it does.
-    fn cover(
+    /// Returns whether a part is a part of the whole.
+    pub fn has_part(&self, part: &Part<'_>) -> bool
+        ensures { OnTrue result (parts.IsPart part.now.net self.now.whole part.now.places) }
+    {
+        part.is_within(self.whole)
+    }
+
+    /// Marks a class of the whole if the class of a certified part covers it. Returns whether it does.
+    ///
+    /// Fails if out of memory.
+    pub fn cover(
         &mut self,
         alloc: Global,
         part: &Part<'_>,
@@ -104,30 +114,6 @@ impl<'w> Join<'w> {
         Ok(covers)
     }
 
-    /// Joins a part that has a certificate, and marks the classes of the whole that its classes cover, up to the first
-    /// that they don't cover.
-    ///
-    /// Fails if out of memory.
-    pub fn add(
-        &mut self,
-        alloc: Global,
-        part: &Part<'_>,
-        located: &[Located],
-    ) -> Result<Joining, AllocError>
-        requires { parts.IsCertifiedAlone part.now }
-        ensures { IfOk result (joins.Adds self.old self.new (map (λ l. l.index) located.now)) }
-    {
-        if !part.is_within(self.whole) {
-            return Ok(Joining::NotWithin);
-        }
-        for place in 0..located.len() {
-            if !self.cover(alloc, part, located[place])? {
-                return Ok(Joining::NotCovering(place));
-            }
-        }
-        Ok(Joining::Covering)
-    }
-
     /// Returns the 0-based index of the first class of the whole that no part covers. If there is none, every complete
     /// run of the whole counts each packet of the classes exactly once, or never if its class is exempt.
     pub fn first_uncovered(&self) -> Option<usize>
@@ -135,6 +121,6 @@ impl<'w> Join<'w> {
         ensures once { result ≡ None → ExactlyOnce self.now.whole self.now.classes }
         ensures modulo { result ≡ None → OnceModulo self.now.whole self.now.classes }
     {
-        self.covered.as_slice().iter().position(|covered| !*covered)
+        first_unmarked(self.covered.as_slice())
     }
 }
