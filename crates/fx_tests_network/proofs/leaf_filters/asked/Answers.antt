@@ -61,3 +61,9 @@ pub halved-requires-clause-narrowed : goal.halved-requires-clause-narrowed
 halved-requires-clause-narrowed g c = subst (λ (xs : List PathSelection). IsNarrowed xs c.sources-region.result
     c.narrow-active.result) (sym (c.judge-judged.ensures.kept ∙ c.never-2.ensures.kept ∙ c.fate-2.ensures.kept))
     c.narrow-active.ensures.narrowed
+
+pub new-requires-3 : goal.new-requires-3
+new-requires-3 g c = lent c.new-tables.result c.args.net.now c.new.result c.new-tables.ensures c.new.ensures c.requires.holders c.requires.processes c.requires.report
+
+pub fate-requires-2-clause-room : goal.fate-requires-2-clause-room
+fate-requires-2-clause-room g c = c.narrow-active.ensures.room c.new-tables.result c.begin-all.ensures.room
