@@ -53,7 +53,7 @@ in this table.
 PROOF = """
 ## The proof
 
-What `make once` took when it last proved all crates of the program in one call, as in a fresh clone: {proved}.
+The last `make once` in a fresh clone: {proved}.
 """
 
 GROWTH = """
