@@ -136,6 +136,7 @@ fn asked(rt: &impl Abort, alloc: Global, net: &Net, low: u128, high: u128) -> An
     let split = halved(alloc, &mut along, &tables, &path, &region, active, split).expect(
         rt, "memory",
     );
+    along.enter(&region);
     let judgement = if judged == judgement {
         judgement
     } else {
