@@ -228,6 +228,36 @@ fn write_lacking(out: &mut Explanation, taken: &ArrivingRecords<'_>, link: usize
     write_untaken(out, taken, aggregations_at(taken.arriving.plan, link));
 }
 
+/// Writes what happens to records that arrive by the link at an index, and adds the ways by which they are forwarded.
+/// The indices of the device and of the collecting process count from 0.
+fn write_arriving<'x>(
+    out: &mut Explanation,
+    found: &mut Ways<'_>,
+    plan: &'x Plan,
+    region: &'x Region,
+    link: usize,
+    holder: HolderName,
+    device: &'x NetworkDevice,
+    process: &'x CollectingProcess,
+    places: (usize, usize),
+) {
+    let fields = region.corner();
+    let arriving = Arriving {
+        plan,
+        origin: plan.net().holder_place(holder).unwrap_or(usize::MAX),
+        fields: &fields,
+    };
+    let taken = ArrivingRecords {
+        region,
+        arriving,
+        holder,
+        device,
+        process,
+    };
+    write_lacking(out, &taken, link);
+    add_onward(found, &taken, link, places);
+}
+
 /// Writes what happens to records at the end of the way with this 0-based number, if no earlier way leads there, and
 /// adds the ways by which they are forwarded.
 fn write_way(
@@ -249,21 +279,17 @@ fn write_way(
     if !found.has_end(link, next) {
         write_process(out, plan, link, device, process);
     }
-    let fields = region.corner();
-    let arriving = Arriving {
+    write_arriving(
+        out,
+        found,
         plan,
-        origin: plan.net().holder_place(holder).unwrap_or(usize::MAX),
-        fields: &fields,
-    };
-    let taken = ArrivingRecords {
         region,
-        arriving,
+        place,
         holder,
         device,
         process,
-    };
-    write_lacking(out, &taken, place);
-    add_onward(found, &taken, place, (at, of));
+        (at, of),
+    );
     Some(())
 }
 
