@@ -63,7 +63,8 @@ halved-requires-clause-narrowed g c = subst (λ (xs : List PathSelection). IsNar
     c.narrow-active.ensures.narrowed
 
 pub new-requires-3 : goal.new-requires-3
-new-requires-3 g c = lent c.new-tables.result c.args.net.now c.new.result c.new-tables.ensures c.new.ensures c.requires.holders c.requires.processes c.requires.report
+new-requires-3 g c = lent c.new-tables.result c.args.net.now c.new.result c.new-tables.ensures c.new.ensures
+    c.requires.holders c.requires.processes c.requires.report
 
 pub fate-requires-2-clause-room : goal.fate-requires-2-clause-room
 fate-requires-2-clause-room g c = c.narrow-active.ensures.room c.new-tables.result c.begin-all.ensures.room
