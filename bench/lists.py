@@ -84,7 +84,7 @@ def certificate(work, meters, filters, order):
 
 
 def mediator_documents(work, processes, matches):
-    """Writes the network of a mediator, of so many collecting processes with so many matches each, and its traffic; returns their files."""
+    """Writes the network of a mediator whose collecting processes have this number of matches each, and its traffic; returns their files."""
     name, lists = f"{processes}x{matches}-matches.json", lists_of_numbers(processes, matches, "ascending")
     return document(work, f"network-{name}", mediated(lists)), document(work, f"traffic-{name}", traffic_over(1, processes * matches))
 
