@@ -11,7 +11,7 @@ use Rattle.fx_check.specs.declared.stack.WaitingRegion.{WaitingRegion}
 use Rattle.fx_check.specs.declared.progress.Progress.{Progress}
 use Rattle.fx_check.specs.declared.progress.Stage.{Stage}
 use Rattle.fx_check.specs.declared.progress.Stage.TheVariants as stage
-use Rattle.fx_check.specs.FirstRefusal.{Goal, header, tree, ahead}
+use Rattle.fx_check.specs.FirstRefusal.{Goal, header, tree, ahead, depth_limit}
 use Rattle.fx_check.specs.declared.line_fault.LineFault.{LineFault}
 
 -- the two parts of a waiting region, one level deeper
@@ -43,10 +43,10 @@ goals ts c = goals_at c.version ts c.current c.waiting c.stage
 -- the depth of each waiting region is greater than its index, counted from k
 abbrev pub AreDeepFrom : ℕ → List WaitingRegion → Type 0
 AreDeepFrom k [] = Unit {0}
-AreDeepFrom k (w ∷ ws) = (k < w.depth) × (w.depth ≤ 512) × AreDeepFrom (k + 1) ws
+AreDeepFrom k (w ∷ ws) = (k < w.depth) × (w.depth ≤ depth_limit) × AreDeepFrom (k + 1) ws
 
 abbrev pub AreDeep : List WaitingRegion → ℕ → Type 0
-AreDeep ws depth = (depth ≤ 512) × (length ws ≤ depth) × AreDeepFrom 0 ws
+AreDeep ws depth = (depth ≤ depth_limit) × (length ws ≤ depth) × AreDeepFrom 0 ws
 
 abbrev pub IsConsistentAt : List Target → ℕ → List WaitingRegion → Stage → Type 0
 IsConsistentAt ts at ws stage.Header = ws ≡ []

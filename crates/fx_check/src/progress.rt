@@ -11,11 +11,12 @@ ghost use Rattle.fx_check.specs.Judging.{Judge, judge_of};
 ghost use Rattle.fx_check.specs.Remaining.{goals, rest_goals, HasNarrowed, IsNarrowedTo, IsConsistent, IsInTree, IsReady, map_result, below_waits, above_waits};
 ghost use Rattle.fx_check.specs.Stops.{IsDue};
 ghost use Rattle.fx_check.specs.FirstRefusal.{Goal, after, after_reading, split_answer, made_by, made_after, form_fault, reading_of, at_end, by_number};
+ghost use Rattle.fx_check.specs.FirstRefusal.{depth_limit, line_limit};
 
 use crate::due::Due;
 use crate::judging::{leaf_fault, never_fault};
 use crate::line_fault::LineFault;
-use crate::stack::{Stack, WaitingRegion};
+use crate::stack::{DEPTH_LIMIT, Stack, WaitingRegion};
 use fx_base::{Fault, Line};
 use fx_cert::{Item, Version, read_item};
 use fx_elements::Axis;
@@ -424,14 +425,14 @@ fn split_waiting(
         active) }
     ensures above { IfOk result (λ w. w ≡ above_waits here.old (axis_index axis) at
         active) }
-    ensures bounds { OnOk result ((here.old.depth < 512) × (made < 1000000)) }
+    ensures bounds { OnOk result ((here.old.depth < depth_limit) × (made < line_limit)) }
     ensures inside { OnOk result (IsStrictlyInside here.old.region (axis_index axis) at) }
     ensures same { OnErr result (here.new ≡ here.old) }
 {
     if made >= LINES {
         return Err(LineFault::LineCount);
     }
-    if here.depth >= 512 {
+    if here.depth >= DEPTH_LIMIT {
         return Err(LineFault::SplitDepth);
     }
     if !here.region.can_split(axis, at) {

@@ -1,12 +1,13 @@
 //! Regions whose trees weren't read yet.
 ghost use Rattle.std.specs.Prelude.{◌≡◌, ◌<◌, ◌∷◌, ◌++◌, [], length, IfOk, IfNone, option_to_list};
+ghost use Rattle.fx_check.specs.FirstRefusal.{depth_limit};
 
 use fx_boxes::Region;
 use std::alloc::{AllocError, Global};
 use std::marker::Model;
 
 /// The depth of every split is less than this.
-pub(crate) const DEPTHS: usize = 512;
+pub(crate) const DEPTH_LIMIT: u32 = 512;
 
 /// A region that waits for its tree.
 #[derive(Clone, Copy)]
@@ -18,7 +19,7 @@ pub(crate) struct WaitingRegion {
     pub(crate) active: usize,
 }
 
-/// A stack of up to 512 regions, the last of which is next. All its room is made at the start.
+/// A stack of up to `DEPTH_LIMIT` regions, the last of which is next. All its room is made at the start.
 #[derive(Drop)]
 pub(crate) struct Stack {
     items: Vec<WaitingRegion>,
@@ -32,22 +33,24 @@ impl Model for Stack {
 
     ghost view = { λ s. s.items.items };
 
-    ghost invariant = { λ s. (512 ≤ vec_capacity s.items) × (length s.items.items ≤ 512) };
+    ghost use Rattle.fx_check.specs.FirstRefusal.{depth_limit};
+
+    ghost invariant = { λ s. (depth_limit ≤ vec_capacity s.items) × (length s.items.items ≤ depth_limit) };
 }
 
 impl Stack {
-    /// Creates a stack without regions, with room for 512. Fails if out of memory.
+    /// Creates a stack without regions, with room for `DEPTH_LIMIT`. Fails if out of memory.
     pub(crate) fn new(alloc: Global) -> Result<Stack, AllocError>
         ensures { IfOk result (λ s. s ≡ []) }
     {
         Ok(Stack {
-            items: Vec::with_capacity(alloc, DEPTHS)?,
+            items: Vec::with_capacity(alloc, DEPTH_LIMIT as usize)?,
         })
     }
 
     /// Pushes a region on top.
     pub(crate) fn push(&mut self, waiting: WaitingRegion)
-        requires { length self.old < 512 }
+        requires { length self.old < depth_limit }
         ensures { self.new ≡ self.old ++ waiting ∷ [] }
     {
         match self.items.push(waiting) {

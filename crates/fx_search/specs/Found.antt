@@ -42,7 +42,7 @@ some_exempt (class ∷ classes) = class.exempt || some_exempt classes
 abbrev pub version_for : List Class → Version
 version_for classes = if some_exempt classes then Two else One
 
--- the items of a sound certificate of at most so many split and leaf lines
+-- the items of a sound certificate with at most `limit` split and leaf lines
 pub record IsFound (net : Net) (classes : List Class) (limit : ℕ) (items : List Item) : Type 0 where
   pub trees : List (List Tree)
   pub each : AreFor classes trees

@@ -84,7 +84,7 @@ links_faults devices earlier up i [] = []
 links_faults devices earlier up i (d ∷ ds) = link_faults devices earlier (nth up i) d
     ++ links_faults devices (earlier ++ link_of d ∷ []) up (i + 1) ds
 
--- the list of at most so many links, which may be empty but is required
+-- the list of links: it is required, may be empty and holds at most `most` of them
 abbrev pub links_row : ℕ → List NetworkDevice → Row
 links_row most devices = required_row (codes "links") (list_faults 0 most (λ up ds. links_faults devices [] up 0 ds))
 

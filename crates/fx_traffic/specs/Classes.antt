@@ -45,7 +45,7 @@ class_of devices d = record {
 
 -- ---- the document; crates above use only these three functions
 
--- a list of at most so many classes
+-- the faults of a list of classes, which may hold at most `most` of them
 abbrev pub classes_faults_within : ℕ → List (List ℕ) → List ℕ → Data → List FoundFault
 classes_faults_within most devices = list_faults 0 most
     (λ up ds. entries_faults (class_faults devices) class_name [] up 0 ds)
@@ -61,7 +61,7 @@ traffic_rows_within most devices =
 abbrev pub traffic_rows : List (List ℕ) → List Row
 traffic_rows = traffic_rows_within class_limit
 
--- the faults of a declaration of at most so many classes
+-- the faults of a declaration, which may hold at most `most` classes
 unfoldable pub traffic_faults_within : ℕ → List (List ℕ) → List ℕ → Data → List FoundFault
 traffic_faults_within most devices up d = object_faults (traffic_rows_within most devices) up d
 
