@@ -13,8 +13,8 @@ pub fn entry_numbered<T>(entries: &[T], number: u64) -> Option<&T>
 }
 
 /// Returns the entry at this 0-based index, if there is one.
-pub fn entry_at<T>(entries: &[T], place: usize) -> Option<&T>
-    ensures { now_of result ≡ slice_get entries.now place }
+pub fn entry_at<T>(entries: &[T], index: usize) -> Option<&T>
+    ensures { now_of result ≡ slice_get entries.now index }
 {
-    entries.get(place)
+    entries.get(index)
 }

@@ -64,8 +64,8 @@ pub(crate) fn make_room(
     ensures room { HasProcessRoom tables.now scratch.new }
     ensures err { IfErr result IsMemory }
 {
-    for place in 0..targets.len() {
-        let target = &targets[place];
+    for index in 0..targets.len() {
+        let target = &targets[index];
         scratch.reserve(tables, target.crossings)?;
     }
     Ok(())

@@ -10,8 +10,8 @@ fn first_text(octets: &[u8]) -> Option<(&[u8], &[u8])> {
     if let Some(rest) = octets.strip_prefix(MARK) {
         return Some((b"", rest));
     }
-    for place in 0..octets.len() {
-        let (text, rest) = octets.split_at(place);
+    for index in 0..octets.len() {
+        let (text, rest) = octets.split_at(index);
         if text.ends_with(b"\n") {
             if let Some(behind) = rest.strip_prefix(MARK) {
                 return Some((text, behind));
@@ -23,9 +23,9 @@ fn first_text(octets: &[u8]) -> Option<(&[u8], &[u8])> {
 
 /// Returns the 0-based index of the first line feed, if there is one.
 fn first_line_feed(octets: &[u8]) -> Option<usize> {
-    for place in 0..octets.len() {
-        if octets[place] == b'\n' {
-            return Some(place);
+    for index in 0..octets.len() {
+        if octets[index] == b'\n' {
+            return Some(index);
         }
     }
     None

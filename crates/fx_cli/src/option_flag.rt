@@ -6,15 +6,15 @@ ghost use Rattle.fx_cli.specs.OptionFlag.{IsAt, IsFlagPlace, RemovesBoth, Remove
 /// any `--`.
 pub fn place_of_flag(words: &[String], flag: &str) -> Option<usize>
     ensures place { IsFlagPlace flag.now string_bytes words.now result }
-    ensures bound { IfSome result (λ place. place < length words.now) }
+    ensures bound { IfSome result (λ index. index < length words.now) }
 {
-    for place in 1..words.len() {
-        let word = words[place].as_str();
+    for index in 1..words.len() {
+        let word = words[index].as_str();
         if word == "--" {
             return None;
         }
         if word == flag {
-            return Some(place);
+            return Some(index);
         }
     }
     None
@@ -25,8 +25,8 @@ pub(crate) fn take_flag(arguments: &mut Vec<String>, flag: &str) -> bool
     ensures { RemovesFlag flag.now string_bytes arguments.old.items arguments.new.items result }
 {
     match place_of_flag(arguments.as_slice(), flag) {
-        Some(place) => {
-            arguments.remove(place);
+        Some(index) => {
+            arguments.remove(index);
             true
         }
         None => false,
@@ -45,16 +45,16 @@ fn is_at(words: &[String], index: usize, text: &str) -> bool
 }
 
 /// Removes the arguments at this index and after it, if the second has this value. Returns whether it has.
-fn take_both(arguments: &mut Vec<String>, place: usize, value: &str) -> bool
-    requires { place < length arguments.old.items }
-    ensures { RemovesBoth value.now string_bytes place arguments.old.items arguments.new.items
+fn take_both(arguments: &mut Vec<String>, index: usize, value: &str) -> bool
+    requires { index < length arguments.old.items }
+    ensures { RemovesBoth value.now string_bytes index arguments.old.items arguments.new.items
         result }
 {
-    let next = place + 1;
+    let next = index + 1;
     let is_value = is_at(arguments.as_slice(), next, value);
     if is_value {
         arguments.remove(next);
-        arguments.remove(place);
+        arguments.remove(index);
     }
     is_value
 }
@@ -65,7 +65,7 @@ pub(crate) fn take_option(arguments: &mut Vec<String>, flag: &str, value: &str) 
         arguments.new.items result }
 {
     match place_of_flag(arguments.as_slice(), flag) {
-        Some(place) => take_both(arguments, place, value),
+        Some(index) => take_both(arguments, index, value),
         None => false,
     }
 }

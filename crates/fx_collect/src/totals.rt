@@ -75,8 +75,8 @@ impl Totals {
         ensures err { IfErr result (λ e. IsMemory e × (self.new ≡ self.old)) }
     {
         match self.counts.get_index_of(values) {
-            Some(place) => {
-                let total = &mut self.counts[place];
+            Some(index) => {
+                let total = &mut self.counts[index];
                 *total = total.add(counts);
             }
             None => {

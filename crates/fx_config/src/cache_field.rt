@@ -88,12 +88,12 @@ fn known_length(
         return Ok(());
     };
     let octets = length.number();
-    let place = DocumentPath::Member(path, "ieLength");
+    let index = DocumentPath::Member(path, "ieLength");
     if is_delta_count(element) && octets != 8 {
-        return Err(refusal(alloc, refusals::CACHE_COUNTER_LENGTH, &place));
+        return Err(refusal(alloc, refusals::CACHE_COUNTER_LENGTH, &index));
     }
     if key && has_other_octets(element, octets) {
-        return Err(refusal(alloc, refusals::BAD_VALUE, &place));
+        return Err(refusal(alloc, refusals::BAD_VALUE, &index));
     }
     Ok(())
 }
@@ -210,11 +210,11 @@ fn fields_of(
 {
     let mut fields = Vec::new(alloc);
     let mut names = Names::new(alloc);
-    let mut place = 0;
+    let mut index = 0;
     for item in items {
-        let path = DocumentPath::Item(&*path, place);
+        let path = DocumentPath::Item(&*path, index);
         fields.push(read_field(alloc, &path, item, &mut names, immediate)?)?;
-        place += 1;
+        index += 1;
     }
     Ok(Sequence::from_vec(fields))
 }

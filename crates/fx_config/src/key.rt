@@ -46,12 +46,12 @@ fn fields_of(alloc: Global, path: &DocumentPath<'_>, items: &[Value]) -> Result<
         (with_fields [] (map view items.now)) result }
 {
     let mut layout = Layout::new();
-    let mut place = 0;
+    let mut index = 0;
     for item in items {
-        let path = DocumentPath::Item(&*path, place);
+        let path = DocumentPath::Item(&*path, index);
         let field = KeyFieldReader::from_value(alloc, &path, item)?;
         layout = add_field(alloc, &path, &layout, &field)?;
-        place += 1;
+        index += 1;
     }
     Ok(layout)
 }

@@ -59,9 +59,9 @@ fn known_prefix(
         }
         return Ok(());
     };
-    let place = DocumentPath::Member(path, "prefixLength");
+    let index = DocumentPath::Member(path, "prefixLength");
     if bits > longest_prefix(element) {
-        return Err(refusal(alloc, refusals::BAD_VALUE, &place));
+        return Err(refusal(alloc, refusals::BAD_VALUE, &index));
     }
     Ok(())
 }

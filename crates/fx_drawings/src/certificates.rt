@@ -47,15 +47,15 @@ fn is_among(places: &[CountingPlace], begun: usize, place: &CountingPlace) -> bo
 impl CountingPlaces {
     /// Adds the place of a leaf, unless the current path has it.
     fn leaf(&mut self, crossing: u64, point: u64, process: u64) -> Result<(), AllocError> {
-        let place = CountingPlace {
+        let index = CountingPlace {
             class: self.class,
             path: self.path,
             crossing,
             point,
             process,
         };
-        if !is_among(self.places.as_slice(), self.begun, &place) {
-            self.places.push(place)?;
+        if !is_among(self.places.as_slice(), self.begun, &index) {
+            self.places.push(index)?;
         }
         Ok(())
     }
@@ -176,9 +176,9 @@ pub(crate) fn draw_certificate(
 {
     let places = places_of(alloc, certificate)?;
     let mut ways = Ways::new(alloc, &documents.plan)?;
-    for place in places.places.as_slice() {
-        if classes.has(place.class) {
-            draw_place(dot, documents, targets, place, &mut ways)?;
+    for index in places.places.as_slice() {
+        if classes.has(index.class) {
+            draw_place(dot, documents, targets, index, &mut ways)?;
         }
     }
     ways.draw_rest(dot, &documents.plan)?;

@@ -109,60 +109,60 @@ fn draw_collector(
 /// Draws the aggregations of a collecting process.
 fn draw_aggregations(dot: &mut Dot, device: u64, number: u64, process: &CollectingProcess) {
     let aggregations = process.aggregations.as_slice();
-    for place in 0..aggregations.len() {
-        let node = nodes::aggregation(device, number, place as u64 + 1);
-        draw_aggregation(dot, node, &aggregations[place]);
+    for index in 0..aggregations.len() {
+        let node = nodes::aggregation(device, number, index as u64 + 1);
+        draw_aggregation(dot, node, &aggregations[index]);
     }
 }
 
 /// Draws the collecting processes of a device, with their aggregations.
 fn draw_collectors(dot: &mut Dot, plan: &Plan, number: u64, device: &NetworkDevice) {
     let processes = device.config.collecting_processes.as_slice();
-    for place in 0..processes.len() {
-        let process = &processes[place];
+    for index in 0..processes.len() {
+        let process = &processes[index];
         let key = if reports(&plan.network().report, &device.name, &process.name) {
             Some(plan.net().report_layout().parts())
         } else {
             None
         };
-        let node = nodes::collector(number, place as u64 + 1);
+        let node = nodes::collector(number, index as u64 + 1);
         draw_collector(dot, node, process, key);
-        draw_aggregations(dot, number, place as u64 + 1, process);
+        draw_aggregations(dot, number, index as u64 + 1, process);
     }
 }
 
 /// Draws the observation points of a device.
 fn draw_points(dot: &mut Dot, number: u64, device: &NetworkDevice, names_interfaces: bool) {
     let points = device.config.observation_points.as_slice();
-    for place in 0..points.len() {
-        let node = nodes::point(number, place as u64 + 1);
-        draw_point(dot, node, &points[place], names_interfaces);
+    for index in 0..points.len() {
+        let node = nodes::point(number, index as u64 + 1);
+        draw_point(dot, node, &points[index], names_interfaces);
     }
 }
 
 /// Draws the selection processes of a device.
 fn draw_selections(dot: &mut Dot, number: u64, device: &NetworkDevice) {
     let processes = device.config.selection_processes.as_slice();
-    for place in 0..processes.len() {
-        let node = nodes::selection(number, place as u64 + 1);
-        draw_selection(dot, node, &processes[place]);
+    for index in 0..processes.len() {
+        let node = nodes::selection(number, index as u64 + 1);
+        draw_selection(dot, node, &processes[index]);
     }
 }
 
 /// Draws the caches of a device.
 fn draw_caches(dot: &mut Dot, number: u64, device: &NetworkDevice) {
     let caches = device.config.caches.as_slice();
-    for place in 0..caches.len() {
-        draw_cache(dot, nodes::cache(number, place as u64 + 1), &caches[place]);
+    for index in 0..caches.len() {
+        draw_cache(dot, nodes::cache(number, index as u64 + 1), &caches[index]);
     }
 }
 
 /// Draws the exporting processes of a device.
 fn draw_exporters(dot: &mut Dot, number: u64, device: &NetworkDevice) {
     let processes = device.config.exporting_processes.as_slice();
-    for place in 0..processes.len() {
-        let node = nodes::exporter(number, place as u64 + 1);
-        draw_exporter(dot, node, &processes[place]);
+    for index in 0..processes.len() {
+        let node = nodes::exporter(number, index as u64 + 1);
+        draw_exporter(dot, node, &processes[index]);
     }
 }
 
@@ -185,11 +185,11 @@ pub(crate) fn draw_parts(
 fn add_devices(dot: &mut Dot, plan: &Plan, number: u64) {
     let devices = plan.network().devices.as_slice();
     let mut named: u64 = 0;
-    for place in 0..devices.len() {
-        if dot.folding().of(place as u64 + 1) == number {
+    for index in 0..devices.len() {
+        if dot.folding().of(index as u64 + 1) == number {
             if named < NAMED {
                 dot.code(if named == 0 { "" } else { ", " });
-                dot.quoted(devices[place].name.as_str());
+                dot.quoted(devices[index].name.as_str());
             }
             named = named.saturating_add(1);
         }

@@ -64,14 +64,14 @@ pub(crate) fn class_number(
     documents: &DrawnDocuments,
     name: &str,
 ) -> Result<u64, Fault> {
-    for place in 0..documents.traffic.classes().as_slice().len() {
-        let number = place as u64 + 1;
+    for index in 0..documents.traffic.classes().as_slice().len() {
+        let number = index as u64 + 1;
         if class_name(documents, number) == name {
             return Ok(number);
         }
     }
-    let place = String::from_str(alloc, "/classes")?;
-    Err(Fault::at_text(refusals::UNKNOWN_NAME, place))
+    let index = String::from_str(alloc, "/classes")?;
+    Err(Fault::at_text(refusals::UNKNOWN_NAME, index))
 }
 
 /// Returns the name of the class with this 1-based number, or an empty text.

@@ -28,11 +28,11 @@ fn draw_network(dot: &mut Dot, plan: &Plan) -> Result<(), AllocError> {
         "  rankdir=LR; node [fontname=\"Helvetica\", fontsize=10]; edge [fontname=\"Helvetica\", fontsize=9];",
     );
     let devices = plan.network().devices.as_slice();
-    for place in 0..devices.len() {
-        draw_device(dot, plan, place as u64 + 1, &devices[place]);
+    for index in 0..devices.len() {
+        draw_device(dot, plan, index as u64 + 1, &devices[index]);
     }
-    for place in 0..devices.len() {
-        draw_edges(dot, plan, place as u64 + 1, &devices[place])?;
+    for index in 0..devices.len() {
+        draw_edges(dot, plan, index as u64 + 1, &devices[index])?;
     }
     Ok(())
 }

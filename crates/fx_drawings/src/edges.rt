@@ -10,8 +10,8 @@ use std::alloc::AllocError;
 
 /// Returns the 1-based number of the entry with the given name.
 pub(crate) fn number_of<T: Named>(entries: &[T], name: &Name) -> Option<u64> {
-    let place = place_of(entries, name)?;
-    Some((place as u64).saturating_add(1))
+    let index = place_of(entries, name)?;
+    Some((index as u64).saturating_add(1))
 }
 
 /// Draws an edge.
@@ -48,9 +48,9 @@ fn draw_from_point(
 /// Draws the edges from the observation points of a device.
 fn draw_from_points(dot: &mut Dot, number: u64, device: &Device) {
     let points = device.observation_points.as_slice();
-    for place in 0..points.len() {
-        let from = nodes::point(number, place as u64 + 1);
-        draw_from_point(dot, number, device, from, &points[place]);
+    for index in 0..points.len() {
+        let from = nodes::point(number, index as u64 + 1);
+        draw_from_point(dot, number, device, from, &points[index]);
     }
 }
 
@@ -65,9 +65,9 @@ pub(crate) fn cache_of(device: &Device, selection: usize) -> Option<u64> {
 
 /// Draws the edges from the selection processes of a device to their caches.
 fn draw_from_selections(dot: &mut Dot, number: u64, device: &Device) {
-    for place in 0..device.selection_processes.as_slice().len() {
-        if let Some(cache) = cache_of(device, place) {
-            let from = nodes::selection(number, place as u64 + 1);
+    for index in 0..device.selection_processes.as_slice().len() {
+        if let Some(cache) = cache_of(device, index) {
+            let from = nodes::selection(number, index as u64 + 1);
             draw_edge(dot, from, nodes::cache(number, cache));
         }
     }
@@ -76,9 +76,9 @@ fn draw_from_selections(dot: &mut Dot, number: u64, device: &Device) {
 /// Draws the edges from the caches of a device.
 fn draw_from_caches(dot: &mut Dot, number: u64, device: &Device) {
     let caches = device.caches.as_slice();
-    for place in 0..caches.len() {
-        let from = nodes::cache(number, place as u64 + 1);
-        let names = caches[place].exporting_processes.as_slice();
+    for index in 0..caches.len() {
+        let from = nodes::cache(number, index as u64 + 1);
+        let names = caches[index].exporting_processes.as_slice();
         draw_exports(dot, number, device, from, names);
     }
 }
@@ -92,10 +92,10 @@ fn draw_aggregated(
     process: &CollectingProcess,
 ) {
     let aggregations = process.aggregations.as_slice();
-    for place in 0..aggregations.len() {
-        let node = nodes::aggregation(number, collector, place as u64 + 1);
+    for index in 0..aggregations.len() {
+        let node = nodes::aggregation(number, collector, index as u64 + 1);
         draw_edge(dot, nodes::collector(number, collector), node);
-        let names = aggregations[place].exporting_processes.as_slice();
+        let names = aggregations[index].exporting_processes.as_slice();
         draw_exports(dot, number, device, node, names);
     }
 }
@@ -103,12 +103,12 @@ fn draw_aggregated(
 /// Draws the edges from the collecting processes of a device.
 fn draw_from_collectors(dot: &mut Dot, number: u64, device: &Device) {
     let processes = device.collecting_processes.as_slice();
-    for place in 0..processes.len() {
-        let collector = place as u64 + 1;
+    for index in 0..processes.len() {
+        let collector = index as u64 + 1;
         let from = nodes::collector(number, collector);
-        let names = processes[place].exporting_processes.as_slice();
+        let names = processes[index].exporting_processes.as_slice();
         draw_exports(dot, number, device, from, names);
-        draw_aggregated(dot, number, device, collector, &processes[place]);
+        draw_aggregated(dot, number, device, collector, &processes[index]);
     }
 }
 
@@ -120,8 +120,8 @@ fn link_from<'a>(
     destination: &Name,
 ) -> Result<Option<&'a NamedLink>, AllocError> {
     let links = &plan.network().links;
-    let place = links.place_of(device, process, destination)?;
-    Ok(entry_at(links.as_slice(), place.unwrap_or(usize::MAX)))
+    let index = links.place_of(device, process, destination)?;
+    Ok(entry_at(links.as_slice(), index.unwrap_or(usize::MAX)))
 }
 
 /// Returns the collecting process at the end of a link.
@@ -183,9 +183,9 @@ fn draw_from_exporter(
 ) -> Result<(), AllocError> {
     let from = nodes::exporter(number, exporter);
     let destinations = process.destinations.as_slice();
-    for place in 0..destinations.len() {
-        let entry = &destinations[place];
-        let destination = place as u64 + 1;
+    for index in 0..destinations.len() {
+        let entry = &destinations[index];
+        let destination = index as u64 + 1;
         let to = target_of(plan, number, device, exporter, process, destination, entry)?;
         draw_destination(dot, from, to, entry);
     }
@@ -200,9 +200,9 @@ fn draw_from_exporters(
     device: &NetworkDevice,
 ) -> Result<(), AllocError> {
     let processes = device.config.exporting_processes.as_slice();
-    for place in 0..processes.len() {
-        let exporter = place as u64 + 1;
-        draw_from_exporter(dot, plan, number, device, exporter, &processes[place])?;
+    for index in 0..processes.len() {
+        let exporter = index as u64 + 1;
+        draw_from_exporter(dot, plan, number, device, exporter, &processes[index])?;
     }
     Ok(())
 }

@@ -102,9 +102,9 @@ fn is_among(numbers: &[u64], number: u64) -> bool {
 fn alike(looks: &[Dot], apart: &[u64], look: &Dot) -> (u64, u64) {
     let mut first: u64 = 0;
     let mut count: u64 = 0;
-    for place in 0..looks.len() {
-        let number = place as u64 + 1;
-        if looks[place].is_like(look) && !is_among(apart, number) {
+    for index in 0..looks.len() {
+        let number = index as u64 + 1;
+        if looks[index].is_like(look) && !is_among(apart, number) {
             if count == 0 {
                 first = number;
             }
@@ -135,8 +135,8 @@ fn fold_once(
 ) -> Result<Folding, AllocError> {
     let looks = looks_of(alloc, plan, folding)?;
     let mut firsts = Vec::new(alloc);
-    for place in 0..looks.len() {
-        firsts.push(drawn_as(looks.as_slice(), apart, place as u64 + 1))?;
+    for index in 0..looks.len() {
+        firsts.push(drawn_as(looks.as_slice(), apart, index as u64 + 1))?;
     }
     Ok(Folding { firsts })
 }

@@ -54,12 +54,12 @@ pub(crate) fn draw_metering(
 ) {
     let observation = nodes::point(number, point);
     draw_mark(dot, mark, packets, observation);
-    let Some(place) = selection_place(device, point, process) else {
+    let Some(index) = selection_place(device, point, process) else {
         return;
     };
-    let selection = nodes::selection(number, (place as u64).saturating_add(1));
+    let selection = nodes::selection(number, (index as u64).saturating_add(1));
     draw_mark(dot, mark, observation, selection);
-    match cache_of(device, place) {
+    match cache_of(device, index) {
         Some(cache) => draw_mark(dot, mark, selection, nodes::cache(number, cache)),
         None => {}
     }

@@ -109,10 +109,10 @@ fn draw_export(
 ) -> Result<(), AllocError> {
     let from = nodes::exporter(number, exporter);
     let destinations = process.destinations.as_slice();
-    for place in 0..destinations.len() {
-        let destination = place as u64 + 1;
+    for index in 0..destinations.len() {
+        let destination = index as u64 + 1;
         if sends(process, chosen, destination) {
-            let entry = &destinations[place];
+            let entry = &destinations[index];
             let to = target_of(plan, number, device, exporter, process, destination, entry)?;
             draw_mark(dot, mark, from, to);
         }
@@ -328,15 +328,15 @@ pub(crate) fn draw_refutation(
     refutation: &Refutation,
 ) -> Result<(), AllocError> {
     let steps = refutation.steps();
-    for place in 0..steps.len() {
+    for index in 0..steps.len() {
         let packet = refutation.packet();
         draw_step(
             alloc,
             dot,
             documents,
             packet,
-            &steps[place],
-            place as u64 + 1,
+            &steps[index],
+            index as u64 + 1,
         )?;
     }
     Ok(())

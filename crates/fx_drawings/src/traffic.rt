@@ -46,8 +46,8 @@ fn is_seen(plan: &Plan, crossing: &Crossing) -> bool {
 }
 
 /// Returns whether a path has a crossing at this 0-based index that no observation point observes.
-fn is_unseen(plan: &Plan, crossings: &[Crossing], place: usize) -> bool {
-    match crossings.get(place) {
+fn is_unseen(plan: &Plan, crossings: &[Crossing], index: usize) -> bool {
+    match crossings.get(index) {
         Some(crossing) => !is_seen(plan, crossing),
         None => false,
     }
@@ -58,14 +58,14 @@ fn is_unseen(plan: &Plan, crossings: &[Crossing], place: usize) -> bool {
 fn add_unseen(dot: &mut Dot, plan: &Plan, crossings: &[Crossing]) {
     let mut separator = "\\nunobserved crossings: ";
     let mut was_unseen = false;
-    for place in 0..crossings.len() {
-        let number = place as u64 + 1;
-        let is_here = is_unseen(plan, crossings, place);
+    for index in 0..crossings.len() {
+        let number = index as u64 + 1;
+        let is_here = is_unseen(plan, crossings, index);
         if is_here && !was_unseen {
             dot.code_number(separator, number);
             separator = ", ";
         }
-        if is_here && was_unseen && !is_unseen(plan, crossings, place + 1) {
+        if is_here && was_unseen && !is_unseen(plan, crossings, index + 1) {
             dot.code_number(" to ", number);
         }
         was_unseen = is_here;
@@ -75,9 +75,9 @@ fn add_unseen(dot: &mut Dot, plan: &Plan, crossings: &[Crossing]) {
 /// Draws what observes a crossing.
 fn draw_seeing(dot: &mut Dot, plan: &Plan, from: Node, number: u64, crossing: &Crossing) {
     let points = plan.net().points_of(crossing.device);
-    for place in 0..points.len() {
-        if points[place].watches(crossing) {
-            let to = nodes::point(crossing.device, place as u64 + 1);
+    for index in 0..points.len() {
+        if points[index].watches(crossing) {
+            let to = nodes::point(crossing.device, index as u64 + 1);
             draw_sight(dot, from, to, number);
         }
     }
@@ -88,9 +88,9 @@ fn draw_seeing(dot: &mut Dot, plan: &Plan, from: Node, number: u64, crossing: &C
 fn draw_path(dot: &mut Dot, documents: &DrawnDocuments, target: &Target<'_>) {
     draw_packets(dot, documents, target);
     let from = nodes::packets(target.class, target.path);
-    for place in 0..target.crossings.len() {
-        let crossing = &target.crossings[place];
-        draw_seeing(dot, &documents.plan, from, place as u64 + 1, crossing);
+    for index in 0..target.crossings.len() {
+        let crossing = &target.crossings[index];
+        draw_seeing(dot, &documents.plan, from, index as u64 + 1, crossing);
     }
 }
 

@@ -59,9 +59,9 @@ fn leads(
     leading: &[Node],
 ) -> Result<bool, AllocError> {
     let destinations = process.destinations.as_slice();
-    for place in 0..destinations.len() {
-        let entry = &destinations[place];
-        let destination = place as u64 + 1;
+    for index in 0..destinations.len() {
+        let entry = &destinations[index];
+        let destination = index as u64 + 1;
         let to = target_of(plan, number, device, exporter, process, destination, entry)?;
         if is_among(leading, to) {
             return Ok(true);
@@ -120,9 +120,9 @@ fn add_leading_of(
     leading: &mut Vec<Node>,
 ) -> Result<(), AllocError> {
     let processes = device.config.collecting_processes.as_slice();
-    for place in 0..processes.len() {
-        if process_leads(plan, number, device, &processes[place], leading.as_slice())? {
-            add(leading, nodes::collector(number, place as u64 + 1))?;
+    for index in 0..processes.len() {
+        if process_leads(plan, number, device, &processes[index], leading.as_slice())? {
+            add(leading, nodes::collector(number, index as u64 + 1))?;
         }
     }
     Ok(())
@@ -131,8 +131,8 @@ fn add_leading_of(
 /// Adds the collecting processes that lead to those found so far.
 fn add_leading(plan: &Plan, leading: &mut Vec<Node>) -> Result<(), AllocError> {
     let devices = plan.network().devices.as_slice();
-    for place in 0..devices.len() {
-        add_leading_of(plan, place as u64 + 1, &devices[place], leading)?;
+    for index in 0..devices.len() {
+        add_leading_of(plan, index as u64 + 1, &devices[index], leading)?;
     }
     Ok(())
 }
@@ -189,9 +189,9 @@ impl Ways {
         process: &ExportingProcess,
     ) -> Result<(), AllocError> {
         let destinations = process.destinations.as_slice();
-        for place in 0..destinations.len() {
-            let entry = &destinations[place];
-            let destination = place as u64 + 1;
+        for index in 0..destinations.len() {
+            let entry = &destinations[index];
+            let destination = index as u64 + 1;
             let to = target_of(plan, number, device, exporter, process, destination, entry)?;
             if is_among(self.leading.as_slice(), to) {
                 self.draw_edge(dot, nodes::exporter(number, exporter), to)?;
@@ -237,10 +237,10 @@ impl Ways {
     ) -> Result<(), AllocError> {
         let number = collector.first;
         let aggregations = process.aggregations.as_slice();
-        for place in 0..aggregations.len() {
-            let names = aggregations[place].exporting_processes.as_slice();
+        for index in 0..aggregations.len() {
+            let names = aggregations[index].exporting_processes.as_slice();
             if one_leads(plan, number, device, names, self.leading.as_slice())? {
-                let node = nodes::aggregation(number, collector.second, place as u64 + 1);
+                let node = nodes::aggregation(number, collector.second, index as u64 + 1);
                 self.draw_edge(dot, collector, node)?;
                 self.draw_exports(dot, plan, number, device, node, names)?;
             }

@@ -82,24 +82,24 @@ impl<'a> Search<'a> {
     }
 
     /// Returns the state of the link at an index.
-    fn mark(&self, place: usize) -> VisitState {
-        match self.marks.as_slice().get(place) {
+    fn mark(&self, index: usize) -> VisitState {
+        match self.marks.as_slice().get(index) {
             Some(mark) => *mark,
             None => VisitState::Done,
         }
     }
 
     /// Sets the state of the link at an index.
-    fn set(&mut self, place: usize, mark: VisitState) {
-        if let Some(entry) = self.marks.get_mut(place) {
+    fn set(&mut self, index: usize, mark: VisitState) {
+        if let Some(entry) = self.marks.get_mut(index) {
             *entry = mark;
         }
     }
 
     /// Returns the index of the first link by which records that arrive by the one at `place` may leave, not counting
     /// links that lead to no cycle.
-    fn next(&self, place: usize) -> Option<usize> {
-        let link = entry_at(self.links, place)?;
+    fn next(&self, index: usize) -> Option<usize> {
+        let link = entry_at(self.links, index)?;
         for next in 0..self.links.len() {
             if self.mark(next) != VisitState::Done
                 && goes_on(self.devices, link, &self.links[next])
@@ -111,23 +111,23 @@ impl<'a> Search<'a> {
     }
 
     /// Appends the link at an index to the way.
-    fn enter(&mut self, place: usize) -> Result<(), AllocError> {
-        self.set(place, VisitState::OnWay);
-        self.way.push(place)?;
+    fn enter(&mut self, index: usize) -> Result<(), AllocError> {
+        self.set(index, VisitState::OnWay);
+        self.way.push(index)?;
         Ok(())
     }
 
     /// Removes the last link, which leads to no cycle, from the way.
-    fn leave(&mut self, place: usize) {
-        self.set(place, VisitState::Done);
+    fn leave(&mut self, index: usize) {
+        self.set(index, VisitState::Done);
         let _left = self.way.pop();
     }
 
     /// Continues from the last link of the way. Returns the index of the link that begins a cycle as soon as the way
     /// returns to it.
-    fn step(&mut self, place: usize) -> Result<Option<usize>, AllocError> {
-        let Some(next) = self.next(place) else {
-            self.leave(place);
+    fn step(&mut self, index: usize) -> Result<Option<usize>, AllocError> {
+        let Some(next) = self.next(index) else {
+            self.leave(index);
             return Ok(None);
         };
         if self.mark(next) == VisitState::OnWay {
@@ -142,10 +142,10 @@ impl<'a> Search<'a> {
         let steps = self.links.len().saturating_mul(2);
         self.enter(start)?;
         for _step in 0..steps {
-            let Some(place) = self.way.as_slice().last().copied() else {
+            let Some(index) = self.way.as_slice().last().copied() else {
                 return Ok(None);
             };
-            let found = self.step(place)?;
+            let found = self.step(index)?;
             if found.is_some() {
                 return Ok(found);
             }
@@ -168,8 +168,8 @@ impl<'a> Search<'a> {
 }
 
 /// Writes a link: its index in the document, and its ends.
-fn write_link(out: &mut Explanation, place: usize, link: &NamedLink) {
-    out.text_number("on the circle: /links/", place as u64);
+fn write_link(out: &mut Explanation, index: usize, link: &NamedLink) {
+    out.text_number("on the circle: /links/", index as u64);
     out.text_quoted(", from destination ", link.destination.as_str());
     out.text_quoted(" of exporting process ", link.exporting_process.as_str());
     out.text(" of ");
@@ -182,10 +182,10 @@ fn write_link(out: &mut Explanation, place: usize, link: &NamedLink) {
 /// Writes the links of a way, beginning with the link at an index.
 fn write_way(out: &mut Explanation, links: &[NamedLink], way: &[usize], first: usize) {
     let mut begun = false;
-    for place in way {
-        begun = begun || *place == first;
-        match entry_at(links, *place) {
-            Some(link) if begun => write_link(out, *place, link),
+    for index in way {
+        begun = begun || *index == first;
+        match entry_at(links, *index) {
+            Some(link) if begun => write_link(out, *index, link),
             _ => {}
         }
     }

@@ -48,9 +48,9 @@ fn note_at(
     points: &[Point],
     crossing: &Crossing,
 ) {
-    for place in 0..sights.len() {
-        if let (Some(point), Some(watching)) = (named.get(place), points.get(place)) {
-            if let Some(sight) = sights.get_mut(place) {
+    for index in 0..sights.len() {
+        if let (Some(point), Some(watching)) = (named.get(index), points.get(index)) {
+            if let Some(sight) = sights.get_mut(index) {
                 sight.crossed = sight.crossed || is_at(point, &crossing.interface);
                 sight.seen = sight.seen || watching.watches(crossing);
             }
@@ -63,8 +63,8 @@ fn note(sights: &mut Sights, plan: &Plan, crossing: &Crossing) {
     let Some(device) = plan.device(crossing.device) else {
         return;
     };
-    let place = crossing.device.saturating_sub(1) as usize;
-    if let Some(sights) = sights.get_mut(place) {
+    let index = crossing.device.saturating_sub(1) as usize;
+    if let Some(sights) = sights.get_mut(index) {
         let points = plan.net().points_of(crossing.device);
         note_at(
             sights,
@@ -107,9 +107,9 @@ fn write_point<'x>(out: &mut Explanation, device: &'x NetworkDevice, point: &'x 
 /// Writes the observation points of a device that observe none of the packets that cross their interfaces.
 fn write_device(out: &mut Explanation, device: &NetworkDevice, sights: &[Sight]) {
     let points = device.config.observation_points.as_slice();
-    for place in 0..points.len() {
-        match sights.get(place) {
-            Some(sight) if sight.crossed && !sight.seen => write_point(out, device, &points[place]),
+    for index in 0..points.len() {
+        match sights.get(index) {
+            Some(sight) if sight.crossed && !sight.seen => write_point(out, device, &points[index]),
             _ => {}
         }
     }
@@ -118,9 +118,9 @@ fn write_device(out: &mut Explanation, device: &NetworkDevice, sights: &[Sight])
 /// Writes the observation points of all devices that observe none of the packets that cross their interfaces.
 fn write_devices(out: &mut Explanation, plan: &Plan, sights: &[Vec<Sight>]) {
     let devices = plan.network().devices.as_slice();
-    for place in 0..devices.len() {
-        if let Some(sights) = sights.get(place) {
-            write_device(out, &devices[place], sights.as_slice());
+    for index in 0..devices.len() {
+        if let Some(sights) = sights.get(index) {
+            write_device(out, &devices[index], sights.as_slice());
         }
     }
 }

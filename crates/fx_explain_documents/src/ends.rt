@@ -67,10 +67,10 @@ fn have_one_start(one: &Value, other: &Value) -> bool {
 /// Writes the earlier link that leads from the same destination as the one at a pointer.
 pub(crate) fn write_linked(out: &mut Explanation, network: &Value, link: &Value) {
     let links = items_member(network, "links");
-    for place in 0..links.len() {
-        let other = &links[place];
+    for index in 0..links.len() {
+        let other = &links[index];
         if have_one_start(other, link) {
-            out.text_number("/links/", place as u64);
+            out.text_number("/links/", index as u64);
             out.text_quoted(
                 " leads from destination ",
                 text_or_none(other, "destination"),
@@ -157,8 +157,8 @@ pub(crate) fn write_unknown_name(
 pub(crate) fn write_unknown_device(out: &mut Explanation, devices: &[NetworkDevice], name: &str) {
     out.text_quoted("no device is named ", name);
     out.text("; there are: ");
-    for place in 0..devices.len() {
-        out.text_quoted(between(place > 0, ", "), devices[place].name.as_str());
+    for index in 0..devices.len() {
+        out.text_quoted(between(index > 0, ", "), devices[index].name.as_str());
     }
     if devices.is_empty() {
         out.text("none");

@@ -62,9 +62,9 @@ fn write_both<'x>(
 /// Writes the first two selectors of a selection process that exclude each other.
 fn write_process(out: &mut Explanation, device: &NetworkDevice, process: &SelectionProcess) {
     let selectors = process.selectors.as_slice();
-    for place in 0..selectors.len() {
-        let selector = &selectors[place];
-        if let Some(other) = excluding(&selectors[..place], selector) {
+    for index in 0..selectors.len() {
+        let selector = &selectors[index];
+        if let Some(other) = excluding(&selectors[..index], selector) {
             write_both(out, device, process, other, selector);
             return;
         }

@@ -65,10 +65,10 @@ fn wide_words(octets: &[u8]) -> Option<&'static str> {
 fn start_of_line(octets: &[u8], line: usize) -> usize {
     let mut number: usize = 1;
     let mut start: usize = 0;
-    for place in 0..octets.len() {
-        if number < line && octets[place] == b'\n' {
+    for index in 0..octets.len() {
+        if number < line && octets[index] == b'\n' {
             number = number.saturating_add(1);
-            start = place.saturating_add(1);
+            start = index.saturating_add(1);
         }
     }
     start
@@ -143,8 +143,8 @@ fn write_error(out: &mut Explanation, octets: &[u8], error: &Error, is_network: 
     write_reason(out, error.line(), error.column(), reason);
     if !write_beginning(out, octets, is_network) {
         write_before(out, octets, error.line(), error.column());
-        let place = place_of(octets, error.line(), error.column(), reason);
-        write_fault(out, octets, place);
+        let index = place_of(octets, error.line(), error.column(), reason);
+        write_fault(out, octets, index);
     }
 }
 

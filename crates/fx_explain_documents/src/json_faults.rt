@@ -58,10 +58,10 @@ fn whole_string_words(string: &[u8], last: u8) -> &'static str {
 
 /// Returns what is wrong with a string after the octet `last`. The octets exclude its opening quotation mark.
 fn string_words(octets: &[u8], last: u8) -> &'static str {
-    for place in 0..octets.len() {
-        let is_escaped = place > 0 && octets[place - 1] == b'\\';
-        match octets[place] {
-            b'"' if !is_escaped => return whole_string_words(part(octets, 0, place), last),
+    for index in 0..octets.len() {
+        let is_escaped = index > 0 && octets[index - 1] == b'\\';
+        match octets[index] {
+            b'"' if !is_escaped => return whole_string_words(part(octets, 0, index), last),
             b'\n' | b'\r' => {
                 return "a line ends inside of the string that begins there; its quotation mark is missing, or write \\n";
             }
@@ -129,11 +129,11 @@ fn write_open(out: &mut Explanation, open: &OpenBefore) {
 }
 
 /// Adds what is wrong with a JSON text at an index, insofar as what is there and before shows it.
-pub(crate) fn write_fault(out: &mut Explanation, octets: &[u8], place: usize) {
-    let start = part(octets, 0, place);
+pub(crate) fn write_fault(out: &mut Explanation, octets: &[u8], index: usize) {
+    let start = part(octets, 0, index);
     let before = before_end(start);
     let last = before.last;
-    let rest = part(octets, place, octets.len());
+    let rest = part(octets, index, octets.len());
     let words = match rest {
         [] => {
             write_open(out, &before_end(octets));

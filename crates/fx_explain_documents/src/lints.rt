@@ -21,9 +21,9 @@ use std::alloc::Global;
 /// Writes which classes are exempt.
 fn write_exempt(out: &mut Explanation, documents: &Documents<'_>) {
     let classes = documents.traffic.classes().as_slice();
-    for place in 0..classes.len() {
-        if classes[place].exempt() {
-            let number = place as u64 + 1;
+    for index in 0..classes.len() {
+        if classes[index].exempt() {
+            let number = index as u64 + 1;
             out.text_number("traffic: class ", number);
             out.text_quoted(" ", class_name(documents, number));
             out.sentence(" is exempt: none of its packets may be counted");

@@ -31,17 +31,17 @@ fn write_later(
     out: &mut Explanation,
     documents: &Documents<'_>,
     classes: &[Class],
-    place: usize,
+    index: usize,
     before: u64,
 ) -> u64
-    requires { place < length classes.now }
+    requires { index < length classes.now }
 {
-    let region = classes[place].region();
+    let region = classes[index].region();
     let mut count = before;
-    for other in place + 1..classes.len() {
+    for other in index + 1..classes.len() {
         if let Some(both) = region.meet(&classes[other].region()) {
             if count < SHOWN {
-                write_both(out, documents, place as u64 + 1, other as u64 + 1, &both);
+                write_both(out, documents, index as u64 + 1, other as u64 + 1, &both);
             }
             count = count.saturating_add(1);
         }
@@ -54,8 +54,8 @@ fn write_later(
 pub(crate) fn write_overlapping(out: &mut Explanation, documents: &Documents<'_>) {
     let classes = documents.traffic.classes().as_slice();
     let mut count = 0;
-    for place in 0..classes.len() {
-        count = write_later(out, documents, classes, place, count);
+    for index in 0..classes.len() {
+        count = write_later(out, documents, classes, index, count);
     }
     if count > SHOWN {
         out.text_number(

@@ -53,7 +53,7 @@ pub(crate) fn last_member(pointer: &str) -> &str {
 /// Returns the child of a value to which a segment of a pointer leads.
 fn child<'a>(value: &'a Value, segment: &str) -> Option<&'a Value> {
     match segment.parse::<usize>() {
-        Ok(place) => value.as_array()?.get(place),
+        Ok(index) => value.as_array()?.get(index),
         Err(_) => value.get(segment),
     }
 }

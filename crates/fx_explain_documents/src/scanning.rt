@@ -115,11 +115,11 @@ impl Scan {
     }
 
     /// Advances past an octet.
-    fn take(&mut self, out: &mut Explanation, text: &[u8], place: usize) {
-        let octet = text.get(place).copied().unwrap_or(0);
+    fn take(&mut self, out: &mut Explanation, text: &[u8], index: usize) {
+        let octet = text.get(index).copied().unwrap_or(0);
         if self.in_string {
             if octet == b'"' && !self.escaped {
-                self.end_string(out, text, place);
+                self.end_string(out, text, index);
             } else {
                 self.in_text(octet);
             }
@@ -129,7 +129,7 @@ impl Scan {
             b'"' => {
                 self.in_string = true;
                 self.escaped = false;
-                self.start = place.saturating_add(1);
+                self.start = index.saturating_add(1);
             }
             b'{' => self.begin(out, true),
             b'[' => self.begin(out, false),
@@ -147,7 +147,7 @@ impl Scan {
 /// object, compares the first 64 names, as they are spelled.
 pub(crate) fn write_twice(out: &mut Explanation, document: &'static str, text: &[u8]) {
     let mut scan = Scan::new(out.alloc, document);
-    for place in 0..text.len() {
-        scan.take(out, text, place);
+    for index in 0..text.len() {
+        scan.take(out, text, index);
     }
 }

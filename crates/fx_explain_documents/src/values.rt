@@ -179,8 +179,8 @@ fn write_field(out: &mut Explanation, field: &Value, earlier: &[Value]) {
 
 /// Writes what is wrong with the fields of a key.
 fn write_key(out: &mut Explanation, fields: &[Value]) {
-    for place in 0..fields.len() {
-        write_field(out, &fields[place], &fields[..place]);
+    for index in 0..fields.len() {
+        write_field(out, &fields[index], &fields[..index]);
     }
 }
 

@@ -20,8 +20,8 @@ pub(crate) struct Choosers<'a> {
 
 /// Returns the exporting process at a 0-based index of the network's table, which contains those of all devices in
 /// document order.
-fn exporting_process(plan: &Plan, place: usize) -> Option<&ExportingProcess> {
-    let mut left = place;
+fn exporting_process(plan: &Plan, index: usize) -> Option<&ExportingProcess> {
+    let mut left = index;
     for device in plan.network().devices.as_slice() {
         let processes = device.config.exporting_processes.as_slice();
         if left < processes.len() {
@@ -48,7 +48,7 @@ fn write_cache_of(
     plan: &Plan,
     device: &NetworkDevice,
     number: u64,
-    place: usize,
+    index: usize,
 ) {
     let caches = device.config.caches.as_slice();
     for at in 0..caches.len() {
@@ -56,17 +56,17 @@ fn write_cache_of(
             device: number,
             cache: at as u64 + 1,
         };
-        if plan.net().holder_place(name) == Some(place) {
+        if plan.net().holder_place(name) == Some(index) {
             out.text_quoted("cache ", caches[at].name.as_str());
         }
     }
 }
 
 /// Writes the cache at an index of the network's table of holders.
-fn write_cache_at(out: &mut Explanation, plan: &Plan, place: usize) {
+fn write_cache_at(out: &mut Explanation, plan: &Plan, index: usize) {
     let devices = plan.network().devices.as_slice();
     for at in 0..devices.len() {
-        write_cache_of(out, plan, &devices[at], at as u64 + 1, place);
+        write_cache_of(out, plan, &devices[at], at as u64 + 1, index);
     }
 }
 
@@ -80,8 +80,8 @@ fn write_aggregations(out: &mut Explanation, process: &CollectingProcess) {
 
 impl Choosers<'_> {
     /// Returns the exporting process of the table to which the choice at a 0-based index applies, if there is one.
-    fn exporter_at(&self, place: usize) -> Option<(usize, &Exporter)> {
-        let mut left = place;
+    fn exporter_at(&self, index: usize) -> Option<(usize, &Exporter)> {
+        let mut left = index;
         for at in self.acts.exporters {
             if let Some(exporter) = entry_at(self.documents.plan.net().exporters(), *at) {
                 if !exporter.parallel() {
@@ -144,8 +144,8 @@ impl Choosers<'_> {
 
     /// Writes what is expected as the choice at a 0-based index: a destination, or a record of a cache or of one of the
     /// aggregations.
-    pub(crate) fn write_due(&self, out: &mut Explanation, place: usize) {
-        if let Some((at, exporter)) = self.exporter_at(place) {
+    pub(crate) fn write_due(&self, out: &mut Explanation, index: usize) {
+        if let Some((at, exporter)) = self.exporter_at(index) {
             if let Some(process) = exporting_process(self.documents.plan, at) {
                 out.text_quoted("a destination of exporting process ", process.name.as_str());
                 out.text_number(
@@ -159,7 +159,7 @@ impl Choosers<'_> {
         out.text(
             "n for a new record is expected there, or the position of a record with the same key in ",
         );
-        let number = place.saturating_sub(self.exporters());
+        let number = index.saturating_sub(self.exporters());
         if let Some(holding) = entry_at(self.acts.holdings.as_slice(), number) {
             self.write_holder(out, holding);
         }

@@ -101,12 +101,12 @@ impl DeadEnds<'_> {
         let plan = self.plan;
         let links = plan.network().links.as_slice();
         let destinations = process.destinations.as_slice();
-        for place in 0..destinations.len() {
+        for index in 0..destinations.len() {
             let is_sent_to = match chosen {
-                Some(number) => number == place as u64 + 1,
+                Some(number) => number == index as u64 + 1,
                 None => !chooses(process),
             };
-            let name = &destinations[place].name;
+            let name = &destinations[index].name;
             if is_sent_to && link_from(links, &device.name, &process.name, name).is_none() {
                 let (at, exporter) = places_of(plan, device, process);
                 self.add(DeadEnd {
@@ -115,7 +115,7 @@ impl DeadEnds<'_> {
                     reason: Reason::Unlinked {
                         device: at,
                         exporter,
-                        destination: place,
+                        destination: index,
                     },
                 });
             }
@@ -187,15 +187,15 @@ impl DeadEnds<'_> {
 
     /// Adds the destinations without a link to which records are sent at these steps.
     fn add_steps(&mut self, steps: &[Step]) {
-        for place in 0..steps.len() {
-            match &steps[place] {
+        for index in 0..steps.len() {
+            match &steps[index] {
                 Step::Expire {
                     holder,
                     choices,
                     ..
-                } => self.add_leaving(place, *holder, choices.as_slice()),
+                } => self.add_leaving(index, *holder, choices.as_slice()),
                 Step::Arrive { link, choices, .. } => {
-                    self.add_arriving(place, *link, choices.as_slice());
+                    self.add_arriving(index, *link, choices.as_slice());
                 }
                 Step::Cross { .. } => {}
             }
@@ -205,8 +205,8 @@ impl DeadEnds<'_> {
     /// Adds the dead end of a record that leaves a cache or an aggregation and goes nowhere.
     fn add_unsent(&mut self, step: usize, holder: HolderName) {
         let net = self.plan.net();
-        let place = net.holder_place(holder).unwrap_or(usize::MAX);
-        if !net.named_by(place).is_empty() {
+        let index = net.holder_place(holder).unwrap_or(usize::MAX);
+        if !net.named_by(index).is_empty() {
             return;
         }
         let leads = match device_of(self.plan, holder) {
@@ -223,17 +223,17 @@ impl DeadEnds<'_> {
     /// Adds the dead end of a record that arrives by the link with this 1-based number and goes nowhere.
     fn add_ended(&mut self, step: usize, link: u64) {
         let net = self.plan.net();
-        let place = entry_numbered(net.links(), link)
+        let index = entry_numbered(net.links(), link)
             .copied()
             .unwrap_or(usize::MAX);
-        let Some(process) = entry_at(net.processes(), place) else {
+        let Some(process) = entry_at(net.processes(), index) else {
             return;
         };
         if !process.exporters().is_empty() {
             return;
         }
         let (distance, reason) = if !process.aggregations().is_empty() {
-            let leads = self.leading.has(place);
+            let leads = self.leading.has(index);
             (if leads { ONE_KEY } else { FAR }, Reason::NotTaken)
         } else {
             self.terminal(link)

@@ -43,9 +43,9 @@ fn is_same_key(plan: &Plan, one: HolderName, other: HolderName) -> bool {
 
 impl Ways<'_> {
     /// Returns whether the way at an index leads to the collecting process of a link.
-    fn ends_at(&self, place: usize, link: &NamedLink) -> bool {
+    fn ends_at(&self, index: usize, link: &NamedLink) -> bool {
         let links = self.plan.network().links.as_slice();
-        match entry_at(links, place) {
+        match entry_at(links, index) {
             Some(other) => is_same_end(other, link),
             None => false,
         }
@@ -53,8 +53,8 @@ impl Ways<'_> {
 
     /// Returns whether one of the first `before` ways leads to the collecting process of a link.
     fn has_end(&self, link: &NamedLink, before: usize) -> bool {
-        for place in self.places.iter().take(before) {
-            if self.ends_at(*place, link) {
+        for index in self.places.iter().take(before) {
+            if self.ends_at(*index, link) {
                 return true;
             }
         }
@@ -75,9 +75,9 @@ impl Ways<'_> {
     }
 
     /// Adds the link at an index, by which records of a cache or an aggregation arrive.
-    fn add(&mut self, place: usize, link: &NamedLink, holder: HolderName) {
+    fn add(&mut self, index: usize, link: &NamedLink, holder: HolderName) {
         if self.count < SHOWN && !self.has(link, holder) {
-            self.places[self.count] = place;
+            self.places[self.count] = index;
             self.holders[self.count] = holder;
             self.count += 1;
         }
@@ -87,10 +87,10 @@ impl Ways<'_> {
 /// Adds the links by which exporting processes of a device send the records of a cache or an aggregation.
 fn add_links(found: &mut Ways<'_>, device: &NetworkDevice, exporters: &[Name], holder: HolderName) {
     let links = found.plan.network().links.as_slice();
-    for place in 0..links.len() {
-        let link = &links[place];
+    for index in 0..links.len() {
+        let link = &links[index];
         if link.device == device.name && exporters.contains(&link.exporting_process) {
-            found.add(place, link, holder);
+            found.add(index, link, holder);
         }
     }
 }
@@ -129,13 +129,13 @@ fn add_first(found: &mut Ways<'_>, region: &Region, crossing: &Crossing) {
         return;
     };
     let caches = device.config.caches.as_slice();
-    for place in 0..caches.len() {
+    for index in 0..caches.len() {
         let cache = HolderName::Cache {
             device: crossing.device,
-            cache: place as u64 + 1,
+            cache: index as u64 + 1,
         };
         if is_metered(plan, region, crossing, cache) {
-            let exporters = caches[place].exporting_processes.as_slice();
+            let exporters = caches[index].exporting_processes.as_slice();
             add_links(found, device, exporters, cache);
         }
     }
@@ -165,14 +165,14 @@ fn add_onward(
     add_links(found, taken.device, exporters, taken.holder);
     let entries = aggregations_at(found.plan, link);
     let aggregations = process.aggregations.as_slice();
-    for place in 0..aggregations.len() {
+    for index in 0..aggregations.len() {
         let aggregation = HolderName::Aggregation {
             device: (places.0 as u64).saturating_add(1),
             process: (places.1 as u64).saturating_add(1),
-            aggregation: place as u64 + 1,
+            aggregation: index as u64 + 1,
         };
-        if place < entries.len() && taken.are_taken_by(&aggregations[place], &entries[place]) {
-            let exporters = aggregations[place].exporting_processes.as_slice();
+        if index < entries.len() && taken.are_taken_by(&aggregations[index], &entries[index]) {
+            let exporters = aggregations[index].exporting_processes.as_slice();
             add_links(found, taken.device, exporters, aggregation);
         }
     }
@@ -264,12 +264,12 @@ fn write_way(
     out: &mut Explanation,
     found: &mut Ways<'_>,
     region: &Region,
-    place: usize,
+    index: usize,
     next: usize,
     holder: HolderName,
 ) -> Option<()> {
     let plan = found.plan;
-    let link = entry_at(plan.network().links.as_slice(), place)?;
+    let link = entry_at(plan.network().links.as_slice(), index)?;
     let devices = plan.network().devices.as_slice();
     let at = place_of(devices, &link.to_device)?;
     let device = entry_at(devices, at)?;
@@ -284,7 +284,7 @@ fn write_way(
         found,
         plan,
         region,
-        place,
+        index,
         holder,
         device,
         process,

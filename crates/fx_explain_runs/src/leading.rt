@@ -31,8 +31,8 @@ fn has_leading(net: &Net, leads: &[bool], links: &[Option<usize>]) -> bool {
 /// Returns whether one of these exporting processes, by 0-based index, sends to a collecting process that leads to the
 /// report.
 fn sends_on(net: &Net, leads: &[bool], exporters: &[usize]) -> bool {
-    for place in exporters {
-        if let Some(exporter) = entry_at(net.exporters(), *place) {
+    for index in exporters {
+        if let Some(exporter) = entry_at(net.exporters(), *index) {
             if has_leading(net, leads, exporter.destinations()) {
                 return true;
             }
@@ -43,8 +43,8 @@ fn sends_on(net: &Net, leads: &[bool], exporters: &[usize]) -> bool {
 
 /// Returns whether the collecting process at an index forwards records, or those of its aggregations, to one that leads
 /// to the report.
-fn leads_on(net: &Net, leads: &[bool], place: usize) -> bool {
-    let Some(process) = entry_at(net.processes(), place) else {
+fn leads_on(net: &Net, leads: &[bool], index: usize) -> bool {
+    let Some(process) = entry_at(net.processes(), index) else {
         return false;
     };
     if sends_on(net, leads, process.exporters()) {
@@ -62,10 +62,10 @@ fn leads_on(net: &Net, leads: &[bool], place: usize) -> bool {
 /// was marked.
 fn note_more(net: &Net, leads: &mut Vec<bool>) -> bool {
     let mut has_more = false;
-    for place in 0..leads.len() {
-        let is_known = leads.get(place).copied().unwrap_or(true);
-        if !is_known && leads_on(net, leads.as_slice(), place) {
-            if let Some(at) = leads.get_mut(place) {
+    for index in 0..leads.len() {
+        let is_known = leads.get(index).copied().unwrap_or(true);
+        if !is_known && leads_on(net, leads.as_slice(), index) {
+            if let Some(at) = leads.get_mut(index) {
                 *at = true;
             }
             has_more = true;
@@ -93,8 +93,8 @@ impl Leading {
     }
 
     /// Returns whether the collecting process at a 0-based index of the network's table leads to the report.
-    pub(crate) fn has(&self, place: usize) -> bool {
-        self.processes.get(place).copied().unwrap_or(false)
+    pub(crate) fn has(&self, index: usize) -> bool {
+        self.processes.get(index).copied().unwrap_or(false)
     }
 
     /// Returns the 0-based index of the first collecting process of a device that leads to the report.
@@ -102,9 +102,9 @@ impl Leading {
         let at = place_of(plan.network().devices.as_slice(), &device.name)?;
         let entry = entry_at(plan.net().devices(), at)?;
         let processes = entry.processes();
-        for place in 0..processes.len() {
-            if self.has(processes[place]) {
-                return Some(place);
+        for index in 0..processes.len() {
+            if self.has(processes[index]) {
+                return Some(index);
             }
         }
         None
@@ -113,9 +113,9 @@ impl Leading {
     /// Returns whether a destination of a device is linked to a collecting process that leads to the report.
     pub(crate) fn is_linked_from(&self, plan: &Plan, device: &NetworkDevice) -> bool {
         let links = plan.network().links.as_slice();
-        for place in 0..links.len() {
-            let process = entry_at(plan.net().links(), place).copied();
-            if links[place].device == device.name && self.has(process.unwrap_or(usize::MAX)) {
+        for index in 0..links.len() {
+            let process = entry_at(plan.net().links(), index).copied();
+            if links[index].device == device.name && self.has(process.unwrap_or(usize::MAX)) {
                 return true;
             }
         }

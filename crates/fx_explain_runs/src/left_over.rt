@@ -27,8 +27,8 @@ impl End<'_, '_> {
         crossings: &[Crossing],
         is_numbered: bool,
     ) {
-        for place in 0..crossings.len() {
-            let number = place as u64 + 1;
+        for index in 0..crossings.len() {
+            let number = index as u64 + 1;
             if self.state.is_to_come(packet, number) {
                 self.to_come = self.to_come.saturating_add(1);
                 if self.to_come <= SHOWN {
@@ -36,7 +36,7 @@ impl End<'_, '_> {
                         out.text_number("packet ", packet);
                         out.text(": ");
                     }
-                    write_numbered(out, plan, number, &crossings[place]);
+                    write_numbered(out, plan, number, &crossings[index]);
                     out.sentence(" is still to come");
                 }
             }
@@ -47,12 +47,12 @@ impl End<'_, '_> {
     fn write_all_to_come(&mut self, out: &mut Explanation, documents: &Documents<'_>) {
         let packets = self.state.packets();
         let is_numbered = packets.len() > 1;
-        for place in 0..packets.len() {
-            let crossings = documents.traffic.classes().path_of(&packets[place]);
+        for index in 0..packets.len() {
+            let crossings = documents.traffic.classes().path_of(&packets[index]);
             self.write_to_come(
                 out,
                 documents.plan,
-                place as u64 + 1,
+                index as u64 + 1,
                 crossings,
                 is_numbered,
             );
@@ -68,21 +68,21 @@ impl End<'_, '_> {
 
     /// Returns how many records a cache or an aggregation still has.
     fn held(&self, name: HolderName) -> u64 {
-        let place = self.state.net().holder_place(name);
-        self.state.records_held(place.unwrap_or(usize::MAX))
+        let index = self.state.net().holder_place(name);
+        self.state.records_held(index.unwrap_or(usize::MAX))
     }
 
     /// Writes the records that remain in the caches of the device with this number.
     fn write_caches(&self, out: &mut Explanation, device: &NetworkDevice, number: u64) {
         let caches = device.config.caches.as_slice();
-        for place in 0..caches.len() {
-            let cache = place as u64 + 1;
+        for index in 0..caches.len() {
+            let cache = index as u64 + 1;
             let count = self.held(HolderName::Cache {
                 device: number,
                 cache,
             });
             if count > 0 {
-                out.text_quoted("cache ", caches[place].name.as_str());
+                out.text_quoted("cache ", caches[index].name.as_str());
                 out.text(" of ");
                 out.text(device.name.as_str());
                 out.text_number(" still holds records: ", count);
@@ -102,15 +102,15 @@ impl End<'_, '_> {
         number: u64,
     ) {
         let aggregations = process.aggregations.as_slice();
-        for place in 0..aggregations.len() {
-            let aggregation = place as u64 + 1;
+        for index in 0..aggregations.len() {
+            let aggregation = index as u64 + 1;
             let count = self.held(HolderName::Aggregation {
                 device,
                 process: number,
                 aggregation,
             });
             if count > 0 {
-                out.text_quoted("aggregation ", aggregations[place].name.as_str());
+                out.text_quoted("aggregation ", aggregations[index].name.as_str());
                 out.text_quoted(" of collecting process ", process.name.as_str());
                 out.text_number(" still holds records: ", count);
                 out.text_number("; the first leaves by a line expire aggregation ", device);
@@ -124,24 +124,24 @@ impl End<'_, '_> {
     /// Writes the records that remain in the aggregations of the device with this number.
     fn write_processes(&self, out: &mut Explanation, device: &NetworkDevice, number: u64) {
         let processes = device.config.collecting_processes.as_slice();
-        for place in 0..processes.len() {
-            self.write_aggregations(out, &processes[place], number, place as u64 + 1);
+        for index in 0..processes.len() {
+            self.write_aggregations(out, &processes[index], number, index as u64 + 1);
         }
     }
 
     /// Writes the records that remain on links.
     fn write_links(&self, out: &mut Explanation, links: &[NamedLink]) {
-        for place in 0..links.len() {
-            let count = self.state.records_on(place);
+        for index in 0..links.len() {
+            let count = self.state.records_on(index);
             if count > 0 {
                 out.text_quoted(
                     "on the link to collecting process ",
-                    links[place].to_process.as_str(),
+                    links[index].to_process.as_str(),
                 );
                 out.text(" of ");
-                out.text(links[place].to_device.as_str());
+                out.text(links[index].to_device.as_str());
                 out.text_number(" are still records: ", count);
-                out.text_number("; the first arrives by a line arrive ", place as u64 + 1);
+                out.text_number("; the first arrives by a line arrive ", index as u64 + 1);
                 out.sentence(" 1 CHOICES");
             }
         }
@@ -158,10 +158,10 @@ pub(crate) fn write_undone(out: &mut Explanation, documents: &Documents<'_>, las
     end.write_all_to_come(out, documents);
     let network = documents.plan.network();
     let devices = network.devices.as_slice();
-    for place in 0..devices.len() {
-        let number = place as u64 + 1;
-        end.write_caches(out, &devices[place], number);
-        end.write_processes(out, &devices[place], number);
+    for index in 0..devices.len() {
+        let number = index as u64 + 1;
+        end.write_caches(out, &devices[index], number);
+        end.write_processes(out, &devices[index], number);
     }
     end.write_links(out, network.links.as_slice());
 }

@@ -79,9 +79,9 @@ pub(crate) fn axis_of(form: &str, word: &str) -> Option<Axis> {
     if !form.starts_with("packet ") {
         return None;
     }
-    for place in 0..AXIS_WORDS.len() {
-        if AXIS_WORDS[place] == word {
-            return EVERY_AXIS.get(place).copied();
+    for index in 0..AXIS_WORDS.len() {
+        if AXIS_WORDS[index] == word {
+            return EVERY_AXIS.get(index).copied();
         }
     }
     None

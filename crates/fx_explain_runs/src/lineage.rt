@@ -57,8 +57,8 @@ fn empty_lists<T: Drop>(alloc: Global, count: usize) -> Result<Vec<Vec<T>>, Allo
 }
 
 /// Removes the entry at a 1-based position from the list at a 0-based index, and returns it, if it is there.
-fn take_out<T: Copy + Drop>(lists: &mut [Vec<T>], place: usize, position: u64) -> Option<T> {
-    let list = lists.get_mut(place)?;
+fn take_out<T: Copy + Drop>(lists: &mut [Vec<T>], index: usize, position: u64) -> Option<T> {
+    let list = lists.get_mut(index)?;
     let entry = entry_numbered(list.as_slice(), position).copied()?;
     let _entry = list.remove(position.saturating_sub(1) as usize);
     Some(entry)
@@ -182,11 +182,11 @@ impl<'a> Lineage<'a> {
             .net
             .occurrences(self.alloc, crossing, &self.packet.fields)?;
         let taken = effects.taken();
-        for place in 0..occurrences.len().min(taken.len()) {
-            let record = self.places.take_in(&taken[place])?;
+        for index in 0..occurrences.len().min(taken.len()) {
+            let record = self.places.take_in(&taken[index])?;
             self.sightings.push(Sighting {
                 crossing: number,
-                occurrence: occurrences[place],
+                occurrence: occurrences[index],
                 record,
             })?;
         }
@@ -212,8 +212,8 @@ impl<'a> Lineage<'a> {
         effects: &Effects,
     ) -> Result<(), AllocError> {
         let step = self.made;
-        let place = self.net.holder_place(holder).unwrap_or(usize::MAX);
-        if let Some(record) = take_out(self.places.held.as_mut_slice(), place, position) {
+        let index = self.net.holder_place(holder).unwrap_or(usize::MAX);
+        if let Some(record) = take_out(self.places.held.as_mut_slice(), index, position) {
             let handled = Handled { step, holder };
             self.events.push(Event::Left { step, record })?;
             self.places.send(effects.links(), handled)?;
@@ -225,8 +225,8 @@ impl<'a> Lineage<'a> {
     /// Notes the fate of a record that arrives by the link with this 1-based number.
     fn arrive(&mut self, link: u64, position: u64, effects: &Effects) -> Result<(), AllocError> {
         let step = self.made;
-        let place = link.saturating_sub(1) as usize;
-        let Some(sent) = take_out(self.places.carried.as_mut_slice(), place, position) else {
+        let index = link.saturating_sub(1) as usize;
+        let Some(sent) = take_out(self.places.carried.as_mut_slice(), index, position) else {
             return Ok(());
         };
         let is_reported = effects.tally() != Tally::Untallied;

@@ -103,9 +103,9 @@ pub(crate) fn write_untaken(
     entries: &[AggregationEntry],
 ) {
     let aggregations = taken.process.aggregations.as_slice();
-    for place in 0..aggregations.len() {
-        if place < entries.len() {
-            taken.write_aggregation(out, &aggregations[place], &entries[place]);
+    for index in 0..aggregations.len() {
+        if index < entries.len() {
+            taken.write_aggregation(out, &aggregations[index], &entries[index]);
         }
     }
 }

@@ -92,9 +92,9 @@ impl Wrong<'_> {
     /// Writes the first places where the packet was metered, in one line.
     fn write_sightings(&self, out: &mut Explanation, sightings: &[Sighting]) {
         let shown = sightings.len().min(SHOWN);
-        for place in 0..shown {
-            out.text(between(place > 0, "; "));
-            self.write_sighting(out, &sightings[place]);
+        for index in 0..shown {
+            out.text(between(index > 0, "; "));
+            self.write_sighting(out, &sightings[index]);
         }
         if shown < sightings.len() {
             out.text_number("; and further ones: ", (sightings.len() - shown) as u64);
@@ -105,14 +105,14 @@ impl Wrong<'_> {
     /// Writes what to do about a packet that is metered once and whose record reaches the report more than once: the
     /// step at which it goes on in more than one way.
     fn write_parted(&self, out: &mut Explanation) {
-        let Some(place) = self.parting else {
+        let Some(index) = self.parting else {
             return;
         };
         out.text(
             "Remove all but one of the ways by which the record goes on here (exporting processes, destinations, links or aggregations), and audit again: ",
         );
         let plan = self.documents.plan;
-        match self.steps.get(place) {
+        match self.steps.get(index) {
             Some(
                 Step::Expire {
                     holder,
@@ -233,9 +233,9 @@ classes of the other version exempt",
 
 /// Returns the index of the first step at which there are several ways, if there is one.
 fn first_parting(ways: &[usize]) -> Option<usize> {
-    for place in 0..ways.len() {
-        if ways[place] > 1 {
-            return Some(place);
+    for index in 0..ways.len() {
+        if ways[index] > 1 {
+            return Some(index);
         }
     }
     None

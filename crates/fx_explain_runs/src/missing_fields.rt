@@ -191,9 +191,9 @@ impl Arriving<'_> {
         after: &'static str,
     ) {
         let aggregations = named.aggregations.as_slice();
-        for place in 0..aggregations.len() {
-            if let Some(entry) = entry_at(process.aggregations(), place) {
-                self.write_passed_over(out, &aggregations[place], entry, after);
+        for index in 0..aggregations.len() {
+            if let Some(entry) = entry_at(process.aggregations(), index) {
+                self.write_passed_over(out, &aggregations[index], entry, after);
             }
         }
     }
@@ -202,10 +202,10 @@ impl Arriving<'_> {
     /// after each.
     pub(crate) fn write_untaken(&self, out: &mut Explanation, link: u64, after: &'static str) {
         let net = self.plan.net();
-        let place = entry_numbered(net.links(), link).copied();
+        let index = entry_numbered(net.links(), link).copied();
         if let (Some(named), Some(process)) = (
             process_at_end(self.plan, link),
-            entry_at(net.processes(), place.unwrap_or(usize::MAX)),
+            entry_at(net.processes(), index.unwrap_or(usize::MAX)),
         ) {
             self.write_aggregations(out, named, process, after);
         }

@@ -15,11 +15,11 @@ const SHOWN: usize = 20;
 fn first_numbers(words: Words<'_>) -> [u64; 3] {
     let mut numbers = [0; 3];
     let mut left = words;
-    for place in 0..3 {
+    for index in 0..3 {
         let Some((number, rest)) = left.number() else {
             return numbers;
         };
-        numbers[place] = number;
+        numbers[index] = number;
         left = rest;
     }
     numbers
@@ -39,10 +39,10 @@ fn write_count(out: &mut Explanation, words: &'static str, number: u64, there: u
 /// Writes that a number refers to none of these entries, and the numbers and names of the existing ones.
 fn write_absent<T: Named>(out: &mut Explanation, words: &'static str, number: u64, entries: &[T]) {
     write_count(out, words, number, entries.len());
-    for place in 0..entries.len().min(SHOWN) {
-        out.text(between(place > 0, ", "));
-        out.number(place as u64 + 1);
-        out.text_quoted(" ", entries[place].name().as_str());
+    for index in 0..entries.len().min(SHOWN) {
+        out.text(between(index > 0, ", "));
+        out.number(index as u64 + 1);
+        out.text_quoted(" ", entries[index].name().as_str());
     }
     out.sentence(if entries.len() > SHOWN { ", .." } else { "" });
 }
@@ -59,11 +59,11 @@ fn write_link(out: &mut Explanation, link: &NamedLink) {
 /// Writes that there is no link with this number, and the existing links.
 fn write_no_link(out: &mut Explanation, number: u64, links: &[NamedLink]) {
     write_count(out, "there is no link ", number, links.len());
-    for place in 0..links.len().min(SHOWN) {
-        out.text(between(place > 0, "; "));
-        out.number(place as u64 + 1);
+    for index in 0..links.len().min(SHOWN) {
+        out.text(between(index > 0, "; "));
+        out.number(index as u64 + 1);
         out.text(" ");
-        write_link(out, &links[place]);
+        write_link(out, &links[index]);
     }
     out.sentence(if links.len() > SHOWN { "; .." } else { "" });
 }

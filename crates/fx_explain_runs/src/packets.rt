@@ -93,8 +93,8 @@ fn write_class_outside(
 pub(crate) fn write_no_class(out: &mut Explanation, documents: &Documents<'_>, fields: &Fields) {
     let classes = documents.traffic.classes().as_slice();
     let shown = classes.len().min(CLASSES);
-    for place in 0..shown {
-        write_class_outside(out, documents, place as u64 + 1, &classes[place], fields);
+    for index in 0..shown {
+        write_class_outside(out, documents, index as u64 + 1, &classes[index], fields);
     }
     if shown < classes.len() {
         out.text_number(

@@ -53,10 +53,10 @@ fn write_selections(
         out.text("it has no selection process");
         return;
     }
-    for place in 0..selections.len() {
-        out.text(between(place > 0, "; "));
-        if let Some(process) = selection_process(&passing.device.config, named, place as u64 + 1) {
-            write_selection(out, passing, process, &selections[place]);
+    for index in 0..selections.len() {
+        out.text(between(index > 0, "; "));
+        if let Some(process) = selection_process(&passing.device.config, named, index as u64 + 1) {
+            write_selection(out, passing, process, &selections[index]);
         }
     }
 }
@@ -84,11 +84,11 @@ fn write_point(
 fn write_points(out: &mut Explanation, passing: &Passing<'_>, points: &[Point]) {
     let mut shown = false;
     let named = passing.device.config.observation_points.as_slice();
-    for place in 0..points.len() {
-        if let Some(one) = entry_at(named, place) {
+    for index in 0..points.len() {
+        if let Some(one) = entry_at(named, index) {
             if is_among(one.interfaces.as_slice(), &passing.crossing.interface) {
                 out.text(between(shown, "; "));
-                write_point(out, passing, one, &points[place]);
+                write_point(out, passing, one, &points[index]);
                 shown = true;
             }
         }

@@ -38,8 +38,8 @@ impl RecordPlace {
     fn count(self, state: &State<'_>) -> u64 {
         match self {
             RecordPlace::Holder(holder) => {
-                let place = state.net().holder_place(holder);
-                state.records_held(place.unwrap_or(usize::MAX))
+                let index = state.net().holder_place(holder);
+                state.records_held(index.unwrap_or(usize::MAX))
             }
             RecordPlace::Link(link) => state.records_on(link.saturating_sub(1) as usize),
         }
@@ -113,16 +113,16 @@ struct HolderChoices<'a, 'b> {
 impl HolderChoices<'_, '_> {
     /// Returns whether the holding at a 0-based index has the key of the record at a 1-based position of its holder,
     /// which was held before the step or is new by an earlier choice.
-    fn has_key_at(&self, place: usize, position: u64) -> bool {
+    fn has_key_at(&self, index: usize, position: u64) -> bool {
         let holdings = self.acts.holdings.as_slice();
-        let Some(holding) = entry_at(holdings, place) else {
+        let Some(holding) = entry_at(holdings, index) else {
             return false;
         };
         if let Some(record) = self.state.record_held(holding.holder, position) {
             return record.key.same(&holding.key);
         }
         let mut last = self.state.records_held(holding.holder);
-        for at in 0..place.min(holdings.len()) {
+        for at in 0..index.min(holdings.len()) {
             let is_new = matches!(entry_at(self.choices, at), Some(None));
             if is_new && holdings[at].holder == holding.holder {
                 last = last.saturating_add(1);
@@ -135,14 +135,14 @@ impl HolderChoices<'_, '_> {
     }
 
     /// Returns the first position of a record with the key of the holding at a 0-based index, if there is one.
-    fn same_key(&self, place: usize) -> Option<u64> {
-        let holding = entry_at(self.acts.holdings.as_slice(), place)?;
+    fn same_key(&self, index: usize) -> Option<u64> {
+        let holding = entry_at(self.acts.holdings.as_slice(), index)?;
         let most = self
             .state
             .records_held(holding.holder)
-            .saturating_add(place as u64);
+            .saturating_add(index as u64);
         for position in 1..=most {
-            if self.has_key_at(place, position) {
+            if self.has_key_at(index, position) {
                 return Some(position);
             }
         }
@@ -151,10 +151,10 @@ impl HolderChoices<'_, '_> {
 
     /// Returns the 0-based index of the first choice that its holder can't take, if there is one.
     fn wrong(&self) -> Option<usize> {
-        for place in 0..self.choices.len() {
-            if let Some(position) = self.choices[place] {
-                if !self.has_key_at(place, position) {
-                    return Some(place);
+        for index in 0..self.choices.len() {
+            if let Some(position) = self.choices[index] {
+                if !self.has_key_at(index, position) {
+                    return Some(index);
                 }
             }
         }
@@ -187,10 +187,10 @@ fn wrong_destination(
 
 impl Unmade<'_, '_> {
     /// Returns the number of the line of the step at an index among the earlier ones.
-    fn line_of(&self, place: usize) -> u64 {
+    fn line_of(&self, index: usize) -> u64 {
         self.line
             .saturating_sub(self.before.len() as u64)
-            .saturating_add(place as u64)
+            .saturating_add(index as u64)
     }
 
     /// Returns whether the packet with this number has a crossing with this number on its path, both 1-based.
@@ -206,9 +206,9 @@ impl Unmade<'_, '_> {
 
     /// Writes that an earlier step makes this crossing, and its line, if known.
     fn write_made(&self, out: &mut Explanation, packet: u64, crossing: u64) {
-        for place in 0..self.before.len() {
-            if makes(&self.before[place], packet, crossing) {
-                out.text_number("line ", self.line_of(place));
+        for index in 0..self.before.len() {
+            if makes(&self.before[index], packet, crossing) {
+                out.text_number("line ", self.line_of(index));
                 out.sentence(" makes this crossing of it already; each crossing is made once");
                 return;
             }
@@ -223,9 +223,9 @@ impl Unmade<'_, '_> {
     /// Writes the line of the last earlier step that takes a record from there, if known.
     fn write_taken(&self, out: &mut Explanation, waiting: RecordPlace) {
         for after in 0..self.before.len() {
-            let place = self.before.len() - 1 - after;
-            if takes(&self.before[place], waiting) {
-                out.text_number("; line ", self.line_of(place));
+            let index = self.before.len() - 1 - after;
+            if takes(&self.before[index], waiting) {
+                out.text_number("; line ", self.line_of(index));
                 out.text(" took the last one that was there");
                 return;
             }
@@ -262,8 +262,8 @@ impl Unmade<'_, '_> {
             return;
         }
         let (destination, used) = wrong_destination(self.state.net(), choosers.acts, choices);
-        if let Some(place) = destination {
-            write_wrong_choice(out, choosers, place, choices);
+        if let Some(index) = destination {
+            write_wrong_choice(out, choosers, index, choices);
             return;
         }
         let taking = HolderChoices {
@@ -271,9 +271,9 @@ impl Unmade<'_, '_> {
             acts: choosers.acts,
             choices: choices.get(used..).unwrap_or(&[]),
         };
-        if let Some(place) = taking.wrong() {
-            write_wrong_choice(out, choosers, used.saturating_add(place), choices);
-            write_same_key(out, taking.same_key(place));
+        if let Some(index) = taking.wrong() {
+            write_wrong_choice(out, choosers, used.saturating_add(index), choices);
+            write_same_key(out, taking.same_key(index));
         }
     }
 
@@ -340,16 +340,16 @@ fn write_step_line(out: &mut Explanation, number: u64, step: &Step) {
 fn write_wrong_choice(
     out: &mut Explanation,
     choosers: &Choosers<'_>,
-    place: usize,
+    index: usize,
     choices: &[Option<u64>],
 ) {
-    out.text_number("choice ", (place as u64).saturating_add(1));
-    match entry_at(choices, place).copied().flatten() {
+    out.text_number("choice ", (index as u64).saturating_add(1));
+    match entry_at(choices, index).copied().flatten() {
         Some(number) => out.text_number(" is ", number),
         None => out.text(" is n"),
     }
     out.text("; ");
-    choosers.write_due(out, place);
+    choosers.write_due(out, index);
 }
 
 /// Writes at which position the first record with the same key is.
@@ -370,10 +370,10 @@ fn write_choices_due(
     written: usize,
     wanted: usize,
 ) {
-    for place in 0..wanted.min(FEW) {
-        out.text_number("choice ", place as u64 + 1);
+    for index in 0..wanted.min(FEW) {
+        out.text_number("choice ", index as u64 + 1);
         out.text(": ");
-        choosers.write_due(out, place);
+        choosers.write_due(out, index);
     }
     if written > wanted {
         choosers.write_parallel(out);

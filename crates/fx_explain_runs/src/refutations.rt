@@ -57,9 +57,9 @@ fn write_steps(
     steps: &[Step],
     lineage: &mut Lineage<'_>,
 ) {
-    for place in 0..steps.len() {
-        let step = &steps[place];
-        out.number(place as u64 + 1);
+    for index in 0..steps.len() {
+        let step = &steps[index];
+        out.number(index as u64 + 1);
         out.text(". ");
         write_step(out, documents, &[*packet], step);
         write_lacking(out, documents, packet, lineage, step);
@@ -82,14 +82,14 @@ fn is_reported(documents: &Documents<'_>, step: &Step) -> bool {
 /// Writes at which steps a record reaches the report.
 fn write_reported(out: &mut Explanation, documents: &Documents<'_>, steps: &[Step]) {
     let mut shown = false;
-    for place in 0..steps.len() {
-        if is_reported(documents, &steps[place]) {
+    for index in 0..steps.len() {
+        if is_reported(documents, &steps[index]) {
             let before = if shown {
                 ", and at step "
             } else {
                 "a record reaches the report at step "
             };
-            out.text_number(before, place as u64 + 1);
+            out.text_number(before, index as u64 + 1);
             shown = true;
         }
     }

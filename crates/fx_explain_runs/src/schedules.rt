@@ -33,9 +33,9 @@ fn named_by(line: &Line<'_>) -> Option<(u64, u64)> {
 
 /// Returns the index of the first class that contains a packet, if there is one.
 fn first_class(classes: &[Class], fields: &Fields) -> Option<usize> {
-    for place in 0..classes.len() {
-        if classes[place].holds(fields) {
-            return Some(place);
+    for index in 0..classes.len() {
+        if classes[index].holds(fields) {
+            return Some(index);
         }
     }
     None
@@ -45,8 +45,8 @@ fn first_class(classes: &[Class], fields: &Fields) -> Option<usize> {
 fn write_first_class(out: &mut Explanation, documents: &Documents<'_>, fields: &Fields) {
     let classes = documents.traffic.classes().as_slice();
     match first_class(classes, fields) {
-        Some(place) => {
-            let number = (place as u64).saturating_add(1);
+        Some(index) => {
+            let number = (index as u64).saturating_add(1);
             out.text_number("the first class that holds the packet is ", number);
             out.text_quoted(" ", class_name(documents, number));
             out.end_line();

@@ -14,9 +14,9 @@ fn write_watchers(out: &mut Explanation, documents: &Documents<'_>, crossing: &C
     let Some(device) = documents.plan.device(crossing.device) else {
         return;
     };
-    for place in 0..points.len() {
-        if points[place].watches(crossing) {
-            if let Some(named) = entry_at(device.observation_points.as_slice(), place) {
+    for index in 0..points.len() {
+        if points[index].watches(crossing) {
+            if let Some(named) = entry_at(device.observation_points.as_slice(), index) {
                 out.text_quoted(between(shown, " and "), named.name.as_str());
                 shown = true;
             }
@@ -32,11 +32,11 @@ fn write_watchers(out: &mut Explanation, documents: &Documents<'_>, crossing: &C
 /// Writes what observes the first crossings of a path.
 fn write_crossings_of(out: &mut Explanation, documents: &Documents<'_>, crossings: &[Crossing]) {
     let shown = crossings.len().min(SHOWN);
-    for place in 0..shown {
-        out.text(between(place > 0, "; "));
-        write_numbered(out, documents.plan, place as u64 + 1, &crossings[place]);
+    for index in 0..shown {
+        out.text(between(index > 0, "; "));
+        write_numbered(out, documents.plan, index as u64 + 1, &crossings[index]);
         out.text(": ");
-        write_watchers(out, documents, &crossings[place]);
+        write_watchers(out, documents, &crossings[index]);
     }
     if shown < crossings.len() {
         out.text_number(

@@ -73,9 +73,9 @@ fn write_selections(
     point: &ObservationPoint,
     selections: &[Selection],
 ) {
-    for place in 0..selections.len() {
-        if let Some(process) = selection_process(&device.config, point, place as u64 + 1) {
-            write_selection(out, crossed, device, point, process, &selections[place]);
+    for index in 0..selections.len() {
+        if let Some(process) = selection_process(&device.config, point, index as u64 + 1) {
+            write_selection(out, crossed, device, point, process, &selections[index]);
         }
     }
 }
@@ -88,10 +88,10 @@ fn write_points(
     points: &[Point],
 ) -> bool {
     let mut seen = false;
-    for place in 0..points.len() {
-        let point = &points[place];
+    for index in 0..points.len() {
+        let point = &points[index];
         if point.watches(crossed.crossing) {
-            if let Some(named) = entry_at(device.config.observation_points.as_slice(), place) {
+            if let Some(named) = entry_at(device.config.observation_points.as_slice(), index) {
                 write_selections(out, crossed, device, named, point.selections());
                 seen = seen || !point.selections().is_empty();
             }
@@ -121,12 +121,12 @@ pub(crate) fn write_watching(
     region: &Region,
     crossings: &[Crossing],
 ) {
-    for place in 0..crossings.len() {
+    for index in 0..crossings.len() {
         let crossed = Crossed {
             plan,
             region,
-            crossing: &crossings[place],
-            number: place as u64 + 1,
+            crossing: &crossings[index],
+            number: index as u64 + 1,
         };
         write_at(out, &crossed);
     }

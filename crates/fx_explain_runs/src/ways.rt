@@ -30,15 +30,15 @@ pub(crate) struct Ways {
 }
 
 /// Adds to the number at an index.
-fn add(numbers: &mut [usize], place: usize, more: usize) {
-    if let Some(number) = numbers.get_mut(place) {
+fn add(numbers: &mut [usize], index: usize, more: usize) {
+    if let Some(number) = numbers.get_mut(index) {
         *number = number.saturating_add(more);
     }
 }
 
 /// Returns whether the number at an index isn't 0.
-pub(crate) fn is_some_at(numbers: &[usize], place: usize) -> bool {
-    numbers.get(place).copied().unwrap_or(0) > 0
+pub(crate) fn is_some_at(numbers: &[usize], index: usize) -> bool {
+    numbers.get(index).copied().unwrap_or(0) > 0
 }
 
 impl Ways {

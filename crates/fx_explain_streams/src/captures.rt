@@ -54,8 +54,8 @@ fn foreign_format(octets: &[u8]) -> &'static str {
 }
 
 /// Returns a 16-bit number of a capture's header, in the given octet order.
-fn number_at(octets: &[u8], place: usize, reversed: bool) -> u16 {
-    let number = number16(octets, place);
+fn number_at(octets: &[u8], index: usize, reversed: bool) -> u16 {
+    let number = number16(octets, index);
     if reversed {
         number.swap_bytes()
     } else {

@@ -94,7 +94,7 @@ impl Declarations {
     /// Returns the index of the domain's template with this id, or an index past the end if there is none.
     fn place_of(&self, domain: u32, id: u16) -> usize {
         match self.live.get(&(domain, id)) {
-            Some(place) => *place,
+            Some(index) => *index,
             None => usize::MAX,
         }
     }
@@ -152,8 +152,8 @@ impl Declarations {
 
     /// Notes that the message with this number withdraws the domain's template with this id, if there is one.
     pub(crate) fn withdraw(&mut self, domain: u32, id: u16, message: u64) {
-        if let Some(place) = self.live.remove(&(domain, id)) {
-            if let Some(declared) = self.items.get_mut(place) {
+        if let Some(index) = self.live.remove(&(domain, id)) {
+            if let Some(declared) = self.items.get_mut(index) {
                 declared.withdrawn = Some(message);
             }
         }

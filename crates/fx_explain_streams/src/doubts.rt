@@ -190,13 +190,13 @@ impl Doubts {
     /// Returns the index of an observation point, which is added if it is new and there is room, or else an index past
     /// the end.
     fn place_of(&mut self, domain: u32, point: u64) -> Result<usize, AllocError> {
-        for place in 0..self.points.len() {
-            if self.points[place].domain == domain && self.points[place].point == point {
-                return Ok(place);
+        for index in 0..self.points.len() {
+            if self.points[index].domain == domain && self.points[index].point == point {
+                return Ok(index);
             }
         }
-        let place = self.points.len();
-        if place < POINTS {
+        let index = self.points.len();
+        if index < POINTS {
             self.points.push(PointAmounts {
                 domain,
                 point,
@@ -204,7 +204,7 @@ impl Doubts {
                 egress: Amount::NOTHING,
             })?;
         }
-        Ok(place)
+        Ok(index)
     }
 
     /// Adds a record of this observation domain that is included in the totals.

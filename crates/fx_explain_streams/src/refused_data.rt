@@ -103,12 +103,12 @@ fn put_field_of(
     fields: &[FieldSpecifier],
     number: u64,
     left: usize,
-    place: usize,
+    index: usize,
 ) {
     out.text_number("record ", number);
     out.text_number(" of template ", u64::from(refused.set.id));
     out.text_number(", at octet ", refused.place_before_end(left));
-    out.text_number(": field ", (place as u64).saturating_add(1));
+    out.text_number(": field ", (index as u64).saturating_add(1));
     out.text_number(" of ", fields.len() as u64);
     out.text(", ");
 }
@@ -125,10 +125,10 @@ fn put_wrong_value(
 ) -> bool {
     let has_long_prefix = matches!(refused.fault, StreamFault::PrefixLength);
     let mut rest = octets;
-    for place in 0..fields.len() {
-        let field = &fields[place];
+    for index in 0..fields.len() {
+        let field = &fields[index];
         let Some((value, after)) = cut_value(field.field_length, rest) else {
-            put_field_of(out, refused, fields, number, octets.len(), place);
+            put_field_of(out, refused, fields, number, octets.len(), index);
             write_field(out, field);
             out.text_number(", wants octets: ", wanted(field, rest));
             out.text_number("; the set has left: ", rest.len() as u64);
@@ -136,7 +136,7 @@ fn put_wrong_value(
             return true;
         };
         if let (true, Some(axis)) = (has_long_prefix, long_prefix(field, value)) {
-            put_field_of(out, refused, fields, number, octets.len(), place);
+            put_field_of(out, refused, fields, number, octets.len(), index);
             write_element(out, field);
             out.text_number(", is ", number_in(value));
             out.text_number("; the address has bits: ", u64::from(width(axis)));

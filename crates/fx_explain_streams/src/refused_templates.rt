@@ -35,10 +35,10 @@ fn put_field_number(
     out: &mut Explanation,
     refused: &RefusedMessage,
     new: &NewTemplate,
-    place: usize,
+    index: usize,
 ) {
     put_template(out, refused, new.id);
-    out.text_number(": field ", (place as u64).saturating_add(1));
+    out.text_number(": field ", (index as u64).saturating_add(1));
     out.text_number(" of ", u64::from(new.count));
 }
 
@@ -72,10 +72,10 @@ fn put_wrong_field(
     out: &mut Explanation,
     refused: &RefusedMessage,
     new: &NewTemplate,
-    place: usize,
+    index: usize,
     octets: &[u8],
 ) {
-    put_field_number(out, refused, new, place);
+    put_field_number(out, refused, new, index);
     let has_enterprise = number16(octets, 0) >= 0x8000;
     if octets.len() < 4 || (has_enterprise && octets.len() < 8) {
         out.sentence(" passes its set's end");
@@ -108,10 +108,10 @@ fn put_narrow(
     new: &NewTemplate,
     fields: &[FieldSpecifier],
 ) {
-    for place in 0..fields.len() {
-        let field = &fields[place];
+    for index in 0..fields.len() {
+        let field = &fields[index];
         if is_narrow(field) {
-            put_field_number(out, refused, new, place);
+            put_field_number(out, refused, new, index);
             out.text(" is ");
             write_field(out, field);
             out.sentence("; it must have 8 octets");
@@ -122,9 +122,9 @@ fn put_narrow(
 
 /// Returns the index of the first field in which two lists differ, or of the first that only one of them has.
 fn first_difference(old: &[FieldSpecifier], new: &[FieldSpecifier]) -> Option<usize> {
-    for place in 0..old.len().min(new.len()) {
-        if old[place] != new[place] {
-            return Some(place);
+    for index in 0..old.len().min(new.len()) {
+        if old[index] != new[index] {
+            return Some(index);
         }
     }
     if old.len() == new.len() {
@@ -154,12 +154,12 @@ fn put_kinds(out: &mut Explanation, old: &Declared, kind: TemplateKind, new: &Ne
 
 /// Adds the first fields in which two templates differ, or the number of fields of each.
 fn put_difference(out: &mut Explanation, old: &[FieldSpecifier], new: &[FieldSpecifier]) {
-    let Some(place) = first_difference(old, new) else {
+    let Some(index) = first_difference(old, new) else {
         return;
     };
-    match (old.get(place), new.get(place)) {
+    match (old.get(index), new.get(index)) {
         (Some(was), Some(is)) => {
-            out.text_number("field ", (place as u64).saturating_add(1));
+            out.text_number("field ", (index as u64).saturating_add(1));
             out.text(" was ");
             write_field(out, was);
             out.text(", and is ");

@@ -110,9 +110,9 @@ pub fn write_field(out: &mut Explanation, field: &FieldSpecifier) {
 /// Writes the fields of a template.
 pub(crate) fn write_fields_of(out: &mut Explanation, fields: &[FieldSpecifier]) {
     let shown = fields.len().min(FIELDS);
-    for place in 0..shown {
-        out.text(between(place > 0, ", "));
-        write_field(out, &fields[place]);
+    for index in 0..shown {
+        out.text(between(index > 0, ", "));
+        write_field(out, &fields[index]);
     }
     if shown < fields.len() {
         out.text(", ..");

@@ -7,8 +7,8 @@ use fx_walk::{Named, place_of};
 
 /// Returns the entry with the given name.
 pub fn entry_named<'a, T: Named>(entries: &'a [T], name: &Name) -> Option<&'a T> {
-    let place = place_of(entries, name)?;
-    entries.get(place)
+    let index = place_of(entries, name)?;
+    entries.get(index)
 }
 
 /// Returns the name of a device by its 1-based number.

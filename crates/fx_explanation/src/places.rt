@@ -16,25 +16,25 @@ pub fn write_digits(out: &mut Explanation, octets: &[u8]) {
 }
 
 /// Returns the octet at an index, or 0 beyond the end.
-pub fn octet_at(octets: &[u8], place: usize) -> u8 {
-    octets.get(place).copied().unwrap_or(0)
+pub fn octet_at(octets: &[u8], index: usize) -> u8 {
+    octets.get(index).copied().unwrap_or(0)
 }
 
 /// Returns the 16-bit big-endian number at an index. Octets beyond the end count as 0.
-pub fn number16(octets: &[u8], place: usize) -> u16 {
+pub fn number16(octets: &[u8], index: usize) -> u16 {
     u16::from_be_bytes([
-        octet_at(octets, place),
-        octet_at(octets, place.saturating_add(1)),
+        octet_at(octets, index),
+        octet_at(octets, index.saturating_add(1)),
     ])
 }
 
 /// Returns the 32-bit big-endian number at an index. Octets beyond the end count as 0.
-pub fn number32(octets: &[u8], place: usize) -> u32 {
+pub fn number32(octets: &[u8], index: usize) -> u32 {
     u32::from_be_bytes([
-        octet_at(octets, place),
-        octet_at(octets, place.saturating_add(1)),
-        octet_at(octets, place.saturating_add(2)),
-        octet_at(octets, place.saturating_add(3)),
+        octet_at(octets, index),
+        octet_at(octets, index.saturating_add(1)),
+        octet_at(octets, index.saturating_add(2)),
+        octet_at(octets, index.saturating_add(3)),
     ])
 }
 

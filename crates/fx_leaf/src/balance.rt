@@ -152,8 +152,8 @@ fn collect_bounds(
     // Only for the prover: the bounds of a region hold.
     bounds_hold(region);
     values.clear();
-    for place in 0..selections.len() {
-        let met = &selections[place];
+    for index in 0..selections.len() {
+        let met = &selections[index];
         if let Some(other) = &met.selection.region {
             push_bounds(values, region, other, axis)?;
         }

@@ -79,17 +79,17 @@ impl Verdicts<'_, '_> {
     }
 
     /// Returns the collecting process without a verdict that the exporting process at this index sends to.
-    fn cause_at_exporter(&self, number: usize, place: usize) -> Option<usize>
+    fn cause_at_exporter(&self, number: usize, index: usize) -> Option<usize>
         ensures some { let net = self.now.tables.now.net in
             let table = self.now.rows.now in
             IfSome result (λ process. by_cause.SendsOn table net number
-            (network.before (slice_get net.exporters place) []) process) }
+            (network.before (slice_get net.exporters index) []) process) }
         ensures none { let net = self.now.tables.now.net in
             let table = self.now.rows.now in
             IfNone result (verdicts.sent_verdict (by_table.entry table) net number
-            (network.before (slice_get net.exporters place) []) ≡ None → ⊥) }
+            (network.before (slice_get net.exporters index) []) ≡ None → ⊥) }
     {
-        match self.tables.net().exporters().get(place) {
+        match self.tables.net().exporters().get(index) {
             None => None,
             Some(exporter) => self.cause_among_destinations(number, exporter.destinations()),
         }
@@ -106,8 +106,8 @@ impl Verdicts<'_, '_> {
             IfNone result (verdicts.sent_verdict (by_table.entry table) net number
             (network.at_places net.exporters places.now) ≡ None → ⊥) }
     {
-        for place in places {
-            if let Some(process) = self.cause_at_exporter(number, *place) {
+        for index in places {
+            if let Some(process) = self.cause_at_exporter(number, *index) {
                 return Some(process);
             }
         }
@@ -174,8 +174,8 @@ impl Verdicts<'_, '_> {
             (map (by_table.taken_entry table t.net t.numbering region layout.now) remaining.now)
             ≡ None → ⊥) }
     {
-        for place in 0..remaining.len() {
-            let aggregation = remaining.at(place);
+        for index in 0..remaining.len() {
+            let aggregation = remaining.at(index);
             if let Some(cause) = self.cause_in_match(layout, aggregation) {
                 return Some(cause);
             }

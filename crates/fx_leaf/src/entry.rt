@@ -83,8 +83,8 @@ impl Verdicts<'_, '_> {
             remaining.now) }
     {
         let mut joined = Some(Fate::Never);
-        for place in 0..remaining.len() {
-            let aggregation = remaining.at(place);
+        for index in 0..remaining.len() {
+            let aggregation = remaining.at(index);
             joined = verdict_of_both(joined, self.taken_verdict(layout, aggregation));
         }
         joined

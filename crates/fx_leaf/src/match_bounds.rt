@@ -70,8 +70,8 @@ impl Verdicts<'_, '_> {
         requires { AllByRecursion HasEntries remaining.now }
     {
         let mut counts = [0; AXES];
-        for place in 0..remaining.len() {
-            let aggregation = remaining.at(place);
+        for index in 0..remaining.len() {
+            let aggregation = remaining.at(index);
             if let Some(part) = self.part_taken(layout, aggregation) {
                 count_bounds(&mut counts, self.region, &part);
             }
@@ -95,8 +95,8 @@ impl Verdicts<'_, '_> {
             region table layout.now remaining.now (cause.Split axis at)) }
     {
         values.clear();
-        for place in 0..remaining.len() {
-            let aggregation = remaining.at(place);
+        for index in 0..remaining.len() {
+            let aggregation = remaining.at(index);
             if let Some(part) = self.part_taken(layout, aggregation) {
                 push_bounds(values, self.region, &part, axis)?;
             }
@@ -187,8 +187,8 @@ impl PathReader<'_, '_> {
             → ((each : of_path.PathSelection) → Contains selections.now each
             → splits.Meets t.net path each.selection) → by_cause.IsCutBy t path region cut) }
     {
-        for place in 0..selections.len() {
-            let met = &selections[place];
+        for index in 0..selections.len() {
+            let met = &selections[index];
             if let Some(cut) = self.match_cut(met.selection) {
                 return Some(cut);
             }

@@ -49,13 +49,13 @@ impl Verdicts<'_, '_> {
 
     /// Returns the middle one of the collecting processes without a verdict that the exporting process at this index
     /// sends to.
-    fn middle_at_exporter(&self, number: usize, place: usize) -> Option<usize>
+    fn middle_at_exporter(&self, number: usize, index: usize) -> Option<usize>
         ensures { let net = self.now.tables.now.net in
             let table = self.now.rows.now in
             IfSome result (λ process. by_cause.SendsOn table net number
-            (network.before (slice_get net.exporters place) []) process) }
+            (network.before (slice_get net.exporters index) []) process) }
     {
-        match self.tables.net().exporters().get(place) {
+        match self.tables.net().exporters().get(index) {
             None => None,
             Some(exporter) => {
                 let destinations = exporter.destinations();
@@ -68,8 +68,8 @@ impl Verdicts<'_, '_> {
     /// Counts the exporting processes at these indices that send to a collecting process without a verdict.
     fn count_exporters(&self, number: usize, places: &[usize]) -> usize {
         let mut count: usize = 0;
-        for place in places {
-            if self.middle_at_exporter(number, *place).is_some() {
+        for index in places {
+            if self.middle_at_exporter(number, *index).is_some() {
                 count = count.saturating_add(1);
             }
         }
@@ -85,8 +85,8 @@ impl Verdicts<'_, '_> {
             (network.at_places net.exporters places.now) process) }
     {
         let mut left = skipped;
-        for place in places {
-            if let Some(process) = self.middle_at_exporter(number, *place) {
+        for index in places {
+            if let Some(process) = self.middle_at_exporter(number, *index) {
                 if left == 0 {
                     return Some(process);
                 }

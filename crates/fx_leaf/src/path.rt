@@ -135,13 +135,13 @@ impl PathReader<'_, '_> {
             → splits.Meets net path selection) → splits.IsSplit net path region s.0 s.1) }
     {
         let mut known = known;
-        for place in 0..selections.len() {
+        for index in 0..selections.len() {
             let numbers = Counted {
                 crossing,
                 point,
-                process: (place + 1) as u64,
+                process: (index + 1) as u64,
             };
-            known = self.selection(known, numbers, &selections[place])?;
+            known = self.selection(known, numbers, &selections[index])?;
         }
         Ok(known)
     }
@@ -170,8 +170,8 @@ impl PathReader<'_, '_> {
             fate: Fate::Never,
             counted: None,
         };
-        for place in 0..selections.len() {
-            let met = &selections[place];
+        for index in 0..selections.len() {
+            let met = &selections[index];
             known = self.selection(known, met.numbers, met.selection)?;
         }
         Ok(known)
@@ -236,8 +236,8 @@ impl PathReader<'_, '_> {
             → splits.IsSplit net path region s.0 s.1) }
     {
         let mut known = known;
-        for place in 0..points.len() {
-            known = self.point(known, number, crossing, (place + 1) as u64, &points[place])?;
+        for index in 0..points.len() {
+            known = self.point(known, number, crossing, (index + 1) as u64, &points[index])?;
         }
         Ok(known)
     }
@@ -284,8 +284,8 @@ impl PathReader<'_, '_> {
             IfErr result (λ s. splits.IsSplit net path.now region s.0 s.1) }
     {
         let mut known = known;
-        for place in 0..path.len() {
-            known = self.crossing(known, (place + 1) as u64, &path[place])?;
+        for index in 0..path.len() {
+            known = self.crossing(known, (index + 1) as u64, &path[index])?;
         }
         Ok(known)
     }

@@ -71,8 +71,8 @@ fn take_none_in(marks: &[u64], processes: &[Process]) -> bool
     requires { length marks.now ≡ length processes.now }
     ensures { IsTrue result → path_tables.TakeNoneIn processes.now marks.now }
 {
-    for place in 0..processes.len() {
-        if !takes_none_in(marks[place], &processes[place]) {
+    for index in 0..processes.len() {
+        if !takes_none_in(marks[index], &processes[index]) {
             return false;
         }
     }

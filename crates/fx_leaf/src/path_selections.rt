@@ -75,10 +75,10 @@ fn narrow(selections: &mut [PathSelection<'_>], region: &Region, active: usize) 
         → slice_index_or selections.new k d ≡ slice_index_or selections.old k d }
 {
     let mut kept = 0;
-    for place in 0..active {
-        let met = &selections[place];
+    for index in 0..active {
+        let met = &selections[index];
         if !is_apart(region, met.selection) {
-            selections.swap(kept, place);
+            selections.swap(kept, index);
             kept += 1;
         }
     }
@@ -149,14 +149,14 @@ impl<'a> PathSelections<'a> {
             ++ of_path.point_selections crossing point 1 processes.now }
         ensures room { self.old.room ≤ self.new.room }
     {
-        for place in 0..processes.len() {
+        for index in 0..processes.len() {
             self.push(PathSelection {
                 numbers: Counted {
                     crossing,
                     point,
-                    process: (place + 1) as u64,
+                    process: (index + 1) as u64,
                 },
-                selection: &processes[place],
+                selection: &processes[index],
             });
         }
     }
@@ -184,8 +184,8 @@ impl<'a> PathSelections<'a> {
             ++ of_path.crossing_selections number 1 points.now crossing.now }
         ensures room { self.old.room ≤ self.new.room }
     {
-        for place in 0..points.len() {
-            self.push_point(number, (place + 1) as u64, crossing, &points[place]);
+        for index in 0..points.len() {
+            self.push_point(number, (index + 1) as u64, crossing, &points[index]);
         }
     }
 
@@ -197,9 +197,9 @@ impl<'a> PathSelections<'a> {
             ++ of_path.path_selections net.now 1 path.now }
         ensures room { self.old.room ≤ self.new.room }
     {
-        for place in 0..path.len() {
-            let crossing = &path[place];
-            self.push_points((place + 1) as u64, crossing, net.points_of(crossing.device));
+        for index in 0..path.len() {
+            let crossing = &path[index];
+            self.push_points((index + 1) as u64, crossing, net.points_of(crossing.device));
         }
     }
 

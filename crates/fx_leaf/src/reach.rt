@@ -39,11 +39,11 @@ fn mark_to(marks: &mut [u64], net: &Net, layouts: u64, destinations: &[Option<us
 }
 
 /// Marks these layouts where the exporting process at this index sends.
-fn mark_by_place(marks: &mut [u64], net: &Net, layouts: u64, place: usize)
-    ensures { let exporters = network.before (slice_get net.now.exporters place) [] in
+fn mark_by_place(marks: &mut [u64], net: &Net, layouts: u64, index: usize)
+    ensures { let exporters = network.before (slice_get net.now.exporters index) [] in
         marks.new ≡ reach.marks_by net.now layouts marks.old exporters }
 {
-    if let Some(exporter) = net.exporters().get(place) {
+    if let Some(exporter) = net.exporters().get(index) {
         mark_to(marks, net, layouts, exporter.destinations());
     }
 }
@@ -53,8 +53,8 @@ fn mark_by(marks: &mut [u64], net: &Net, layouts: u64, places: &[usize])
     ensures { let exporters = network.at_places net.now.exporters places.now in
         marks.new ≡ reach.marks_by net.now layouts marks.old exporters }
 {
-    for place in places {
-        mark_by_place(marks, net, layouts, *place);
+    for index in places {
+        mark_by_place(marks, net, layouts, *index);
     }
 }
 
@@ -126,8 +126,8 @@ fn spread(marks: &mut [u64], tables: &Tables<'_>)
         marks.new ≡ reach.spread t.net t.numbering t.order marks.old }
 {
     let order = tables.order();
-    for place in (0..order.len()).rev() {
-        mark_from(marks, tables, order[place]);
+    for index in (0..order.len()).rev() {
+        mark_from(marks, tables, order[index]);
     }
 }
 

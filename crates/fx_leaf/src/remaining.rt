@@ -80,17 +80,17 @@ impl<'m, 'a> Remaining<'m, 'a> {
     }
 
     /// Returns the one at this 0-based place.
-    pub(crate) fn at(&self, place: usize) -> &'a AggregationEntry
-        requires { place < length self.now }
+    pub(crate) fn at(&self, index: usize) -> &'a AggregationEntry
+        requires { index < length self.now }
         ensures at { (d : network.AggregationEntry)
-            → result.now ≡ slice_index_or self.now place d }
+            → result.now ≡ slice_index_or self.now index d }
         ensures entries { AllByRecursion HasEntries self.now → HasEntries result.now }
     {
         if self.is_listed {
-            let listed = &self.listed[place];
+            let listed = &self.listed[index];
             listed.aggregation
         } else {
-            &self.all[place]
+            &self.all[index]
         }
     }
 }
@@ -106,8 +106,8 @@ fn list_within<'a>(
     ensures { IsTrue result → remaining.AreRemaining region.now others.now listed.new.items }
 {
     listed.clear();
-    for place in 0..others.len() {
-        let aggregation = others.at(place);
+    for index in 0..others.len() {
+        let aggregation = others.at(index);
         if match_part(region, aggregation.matches()).is_some() {
             if listed.len() >= listed.capacity() {
                 return false;
@@ -283,8 +283,8 @@ pub(crate) fn matches_of<'a>(
     ensures { IfOk result (λ lists. remaining.AreAggregations processes.now lists.items) }
 {
     let mut lists: Vec<ProcessMatches<'a>> = Vec::with_capacity(alloc, processes.len())?;
-    for place in 0..processes.len() {
-        let process = &processes[place];
+    for index in 0..processes.len() {
+        let process = &processes[index];
         lists.push(ProcessMatches::new(alloc, process.aggregations())?)?;
     }
     Ok(lists)

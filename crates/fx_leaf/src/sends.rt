@@ -92,13 +92,13 @@ impl Verdicts<'_, '_> {
 
     /// Returns the verdict on what the exporting process at an index of the network's table sends: never, if there is
     /// no such process.
-    fn send_verdict_at(&self, layout: usize, place: usize) -> Option<Fate>
+    fn send_verdict_at(&self, layout: usize, index: usize) -> Option<Fate>
         ensures { let net = self.now.tables.now.net in
             let table = self.now.rows.now in
             result ≡ verdicts.sent_verdict (by_table.entry table) net layout
-            (network.before (slice_get net.exporters place) []) }
+            (network.before (slice_get net.exporters index) []) }
     {
-        match self.tables.net().exporters().get(place) {
+        match self.tables.net().exporters().get(index) {
             None => Some(Fate::Never),
             Some(exporter) => self.send_verdict(layout, exporter),
         }
@@ -113,8 +113,8 @@ impl Verdicts<'_, '_> {
             (network.at_places net.exporters places.now) }
     {
         let mut joined = Some(Fate::Never);
-        for place in places {
-            joined = verdict_of_both(joined, self.send_verdict_at(layout, *place));
+        for index in places {
+            joined = verdict_of_both(joined, self.send_verdict_at(layout, *index));
         }
         joined
     }

@@ -51,21 +51,21 @@ impl PathReader<'_, '_> {
             let table = self.now.verdicts.rows.now in
             IfNone result (by_cause.HasNoVerdict t table process number → ⊥) }
     {
-        let mut place = process;
+        let mut index = process;
         let mut layout = number;
         for _step in 0..self.verdicts.tables.net().processes().len() {
-            match self.verdicts.cause_at(place, layout) {
+            match self.verdicts.cause_at(index, layout) {
                 None => return None,
                 Some(Cause::Split(axis, at)) => {
                     return Some(MatchCut {
-                        process: place,
+                        process: index,
                         number: layout,
                         axis,
                         at,
                     });
                 }
                 Some(Cause::Behind(next, its)) => {
-                    place = next;
+                    index = next;
                     layout = its;
                 }
             }

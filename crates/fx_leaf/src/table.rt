@@ -73,14 +73,14 @@ pub(crate) struct Verdicts<'a, 't> {
 impl<'a, 't> Verdicts<'a, 't> {
     /// Returns those aggregations of a collecting process, which is at this index, whose matches may accept packets of
     /// the region.
-    pub(crate) fn remaining(&self, place: usize, process: &'t Process) -> Remaining<'a, 't>
-        requires there { slice_get self.now.tables.now.net.processes place ≡ Some process.now }
+    pub(crate) fn remaining(&self, index: usize, process: &'t Process) -> Remaining<'a, 't>
+        requires there { slice_get self.now.tables.now.net.processes index ≡ Some process.now }
         requires entries { AllByRecursion HasEntries process.now.aggregations }
         ensures remain { of_remaining.AreRemaining self.now.region.now process.now.aggregations
             result }
         ensures entries { AllByRecursion HasEntries result }
     {
-        let Some(matches) = self.matches.get(place) else {
+        let Some(matches) = self.matches.get(index) else {
             return Remaining::of_all(process.aggregations());
         };
         matches.remaining(self.region)

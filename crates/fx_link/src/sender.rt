@@ -122,12 +122,12 @@ impl Sender {
         let layout = batch[0].layout();
         let mut content: Vec<u8> = Vec::new(self.alloc);
         put_records(&mut content, batch)?;
-        let place = place_of(self.layouts.as_slice(), layout);
+        let index = place_of(self.layouts.as_slice(), layout);
         let data = Set {
-            id: 256 + place as u16,
+            id: 256 + index as u16,
             content: content.as_slice(),
         };
-        if place < self.layouts.len() {
+        if index < self.layouts.len() {
             return put_sets(stream, header, &[data]);
         }
         let mut template: Vec<u8> = Vec::new(self.alloc);

@@ -51,8 +51,8 @@ impl<S: Sink> Links for Sinks<S> {
             self.failed = false;
             return Ok(());
         }
-        let place = (link - 1) as usize;
-        match put_text(&mut self.sinks[place], octets) {
+        let index = (link - 1) as usize;
+        match put_text(&mut self.sinks[index], octets) {
             Ok(()) => {
                 self.failed = false;
                 Ok(())

@@ -75,8 +75,8 @@ impl FewMarks {
         if crossing == 0 || crossing > self.count as u64 {
             return;
         }
-        let place = (crossing - 1) as usize;
-        self.marks[place] = false;
+        let index = (crossing - 1) as usize;
+        self.marks[index] = false;
     }
 }
 
@@ -98,8 +98,8 @@ fn clear_mark(marks: &mut [bool], crossing: u64)
     if crossing == 0 || crossing > marks.len() as u64 {
         return;
     }
-    let place = (crossing - 1) as usize;
-    marks[place] = false;
+    let index = (crossing - 1) as usize;
+    marks[index] = false;
 }
 
 impl Marks {
@@ -177,8 +177,8 @@ pub fn clear(to_come: &mut Vec<Marks>, packet: u64, crossing: u64)
     if packet == 0 || packet > to_come.len() as u64 {
         return;
     }
-    let place = (packet - 1) as usize;
-    let marks = &mut to_come[place];
+    let index = (packet - 1) as usize;
+    let marks = &mut to_come[index];
     marks.clear(crossing);
 }
 

@@ -122,10 +122,10 @@ fn new_key<'a>(
         return None;
     }
     let mut left = number;
-    for place in 0..holdings.len() {
-        if choices[place].is_none() && holdings[place].holder == holder {
+    for index in 0..holdings.len() {
+        if choices[index].is_none() && holdings[index].holder == holder {
             if left == 1 {
-                return Some(&holdings[place].key);
+                return Some(&holdings[index].key);
             }
             left -= 1;
         }
@@ -191,13 +191,13 @@ fn can_take_all(held: &[Records], holdings: &[Holding], choices: &[Option<u64>])
     if holdings.len() != choices.len() {
         return false;
     }
-    for place in 0..holdings.len() {
+    for index in 0..holdings.len() {
         if !can_take(
             held,
-            &holdings[..place],
-            &choices[..place],
-            &holdings[place],
-            choices[place],
+            &holdings[..index],
+            &choices[..index],
+            &holdings[index],
+            choices[index],
         ) {
             return false;
         }
@@ -216,10 +216,10 @@ fn taken_by(
         ≡ effects.taken_by (map (λ h. h.holder) holdings.now) choices.now) }
 {
     let mut taken: Vec<TakenIn> = Vec::new(alloc);
-    for place in 0..holdings.len() {
+    for index in 0..holdings.len() {
         taken.push(TakenIn {
-            holder: holdings[place].holder,
-            joined: choices[place],
+            holder: holdings[index].holder,
+            joined: choices[index],
         })?;
     }
     Ok(taken)
@@ -297,10 +297,10 @@ fn leaving_acts<'a>(
         → steps.expire_at net.now (network.holder_place net.now holder) position s choices
         ≡ Err e.number)) }
 {
-    let Some(place) = net.holder_place(holder) else {
+    let Some(index) = net.holder_place(holder) else {
         return Err(Fault::bare(refusals::STEP_NOT_ENABLED));
     };
-    let Some(records) = entry_at(store.held(), place) else {
+    let Some(records) = entry_at(store.held(), index) else {
         return Err(Fault::bare(refusals::STEP_NOT_ENABLED));
     };
     let Some(_found) = records.record_numbered(position) else {
@@ -308,7 +308,7 @@ fn leaving_acts<'a>(
     };
     Ok(StepActs {
         tally: Tally::Untallied,
-        exporters: net.named_by(place),
+        exporters: net.named_by(index),
         holdings: Vec::new(alloc),
     })
 }
@@ -344,16 +344,16 @@ fn arrival_acts<'a>(
         → steps.arrive_at net.now (steps.link_place link) position s choices
         ≡ Err e.number))) }
 {
-    let Some(place) = link_place(link) else {
+    let Some(index) = link_place(link) else {
         return Err(Fault::bare(refusals::STEP_NOT_ENABLED));
     };
-    let Some(records) = entry_at(store.carried(), place) else {
+    let Some(records) = entry_at(store.carried(), index) else {
         return Err(Fault::bare(refusals::STEP_NOT_ENABLED));
     };
     let Some(found) = records.record_numbered(position) else {
         return Err(Fault::bare(refusals::NO_RECORD_THERE));
     };
-    let handling = handling_at(alloc, net, place, &found.key)?;
+    let handling = handling_at(alloc, net, index, &found.key)?;
     Ok(StepActs {
         tally: tally_when(net, handling.tallies, &found.key),
         exporters: handling.exporters,

@@ -27,15 +27,15 @@ pub fn handling_at<'a>(
     ensures { IfOk result (λ h. steps.acts_of_arrival net.now key.now (slice_get net.now.links link)
         ≡ handling.handling_acts net.now key.now h.tallies h.exporters.now h.holdings.items) }
 {
-    let Some(place) = entry_at(net.links(), link) else {
+    let Some(index) = entry_at(net.links(), link) else {
         return Ok(Handling {
             tallies: false,
             exporters: &[],
             holdings: Vec::new(alloc),
         });
     };
-    let tallies = *place == net.report();
-    let Some(process) = entry_at(net.processes(), *place) else {
+    let tallies = *index == net.report();
+    let Some(process) = entry_at(net.processes(), *index) else {
         return Ok(Handling {
             tallies,
             exporters: &[],

@@ -213,10 +213,10 @@ pub fn hold_all(
         return Err(Fault::bare(refusals::WRONG_CHOICES));
     }
     log.clear();
-    for place in 0..holdings.len() {
-        let holding = &holdings[place];
+    for index in 0..holdings.len() {
+        let holding = &holdings[index];
         let intake = Intake::Keyed(&holding.key);
-        if let Err(fault) = hold_next(held, log, holding.holder, &intake, counts, choices[place]) {
+        if let Err(fault) = hold_next(held, log, holding.holder, &intake, counts, choices[index]) {
             give_all_back(held, log.as_slice());
             return Err(fault);
         }
@@ -252,8 +252,8 @@ pub fn hold_met(
         octets: packet.octets,
     };
     log.clear();
-    for place in 0..met.len() {
-        let occurrence = &met[place];
+    for index in 0..met.len() {
+        let occurrence = &met[index];
         let intake = Intake::Met {
             net,
             occurrence,
@@ -265,7 +265,7 @@ pub fn hold_met(
             occurrence.holder,
             &intake,
             &counts,
-            choices[place],
+            choices[index],
         ) {
             give_all_back(held, log.as_slice());
             return Err(fault);

@@ -38,8 +38,8 @@ fn has_values(values: &[u128], parts: &[Part], fields: &Fields) -> bool
     if values.len() != parts.len() {
         return false;
     }
-    for place in 0..values.len() {
-        if values[place] != value_for(&parts[place], fields) {
+    for index in 0..values.len() {
+        if values[index] != value_for(&parts[index], fields) {
             return false;
         }
     }

@@ -83,17 +83,17 @@ impl Records {
         ensures { self.new ≡ states.without self.old number }
     {
         if number > 0 && number <= self.items.len() as u64 {
-            let place = (number - 1) as usize;
-            self.items.remove(place);
+            let index = (number - 1) as usize;
+            self.items.remove(index);
         }
     }
 }
 
 /// Returns the records of the list at this 0-based index, or none if there is no such list.
-pub fn records_at(lists: &[Records], place: usize) -> &[Record]
-    ensures { result.now ≡ entries (slice_get lists.now place) }
+pub fn records_at(lists: &[Records], index: usize) -> &[Record]
+    ensures { result.now ≡ entries (slice_get lists.now index) }
 {
-    match entry_at(lists, place) {
+    match entry_at(lists, index) {
         None => &[],
         Some(records) => records.as_slice(),
     }

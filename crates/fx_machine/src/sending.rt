@@ -81,19 +81,19 @@ fn choose(
 fn choose_at(
     links: &mut Vec<usize>,
     exporters: &[Exporter],
-    place: usize,
+    index: usize,
     choices: &[Option<u64>],
 ) -> Result<usize, Fault>
     ensures ok { IfOk result (λ n. (n ≤ length choices.now) × ((rest : List network.Exporter) →
-        sends.chosen_from links.old.items (network.before (slice_get exporters.now place) rest)
+        sends.chosen_from links.old.items (network.before (slice_get exporters.now index) rest)
         choices.now
         ≡ sends.chosen_from links.new.items rest (drop n choices.now))) }
     ensures err { IfErr result (λ e. IsMemory e
         ⊎ ((e ≡ fault_at wrong_choices faults.None) × ((rest : List network.Exporter) →
-        sends.chosen_from links.old.items (network.before (slice_get exporters.now place) rest)
+        sends.chosen_from links.old.items (network.before (slice_get exporters.now index) rest)
         choices.now ≡ None))) }
 {
-    match exporters.get(place) {
+    match exporters.get(index) {
         None => Ok(0),
         Some(exporter) => choose(links, exporter, choices),
     }
@@ -118,8 +118,8 @@ pub fn chosen_links(
 {
     let mut links: Vec<usize> = Vec::new(alloc);
     let mut used: usize = 0;
-    for place in places {
-        match choose_at(&mut links, exporters, *place, &choices[used..]) {
+    for index in places {
+        match choose_at(&mut links, exporters, *index, &choices[used..]) {
             Ok(taken) => used += taken,
             Err(fault) => return Err(fault),
         }

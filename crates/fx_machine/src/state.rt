@@ -160,18 +160,18 @@ impl<'a> State<'a> {
     }
 
     /// Returns the number of records held at a 0-based index of the network's table of holders.
-    pub fn records_held(&self, place: usize) -> u64
-        ensures { result ≡ length (network.entries (slice_get self.now.state.held place)) }
+    pub fn records_held(&self, index: usize) -> u64
+        ensures { result ≡ length (network.entries (slice_get self.now.state.held index)) }
     {
-        records_at(self.store.held(), place).len() as u64
+        records_at(self.store.held(), index).len() as u64
     }
 
     /// Returns the record at a 1-based position of the holder at a 0-based index of the network's table.
-    pub fn record_held(&self, place: usize, position: u64) -> Option<&Record>
+    pub fn record_held(&self, index: usize, position: u64) -> Option<&Record>
         ensures { now_of result ≡ entry_numbered
-            (network.entries (slice_get self.now.state.held place)) position }
+            (network.entries (slice_get self.now.state.held index)) position }
     {
-        entry_numbered(records_at(self.store.held(), place), position)
+        entry_numbered(records_at(self.store.held(), index), position)
     }
 
     /// Returns the number of records on the link at this 0-based index.

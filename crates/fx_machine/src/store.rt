@@ -111,11 +111,11 @@ pub fn link_place(link: u64) -> Option<usize>
 }
 
 /// Removes the record with this number from the list at this index.
-fn take_out_at(lists: &mut Vec<Records>, place: usize, number: u64)
-    ensures { lists.new.items ≡ stores.taken_out lists.old.items place number }
+fn take_out_at(lists: &mut Vec<Records>, index: usize, number: u64)
+    ensures { lists.new.items ≡ stores.taken_out lists.old.items index number }
 {
-    if place < lists.len() {
-        let records = &mut lists[place];
+    if index < lists.len() {
+        let records = &mut lists[index];
         records.take_out(number);
     }
 }
@@ -267,17 +267,17 @@ impl Store {
             → steps.expire_at net.now (network.holder_place net.now holder) number s choices.now
             ≡ Err e.number))) }
     {
-        let Some(place) = net.holder_place(holder) else {
+        let Some(index) = net.holder_place(holder) else {
             return Err(Fault::bare(refusals::STEP_NOT_ENABLED));
         };
-        let Some(records) = entry_at(self.held.as_slice(), place) else {
+        let Some(records) = entry_at(self.held.as_slice(), index) else {
             return Err(Fault::bare(refusals::STEP_NOT_ENABLED));
         };
         let Some(found) = records.record_numbered(number) else {
             return Err(Fault::bare(refusals::NO_RECORD_THERE));
         };
         let entry = found.copy();
-        let exporters = net.named_by(place);
+        let exporters = net.named_by(index);
         let (links, used) = chosen_links(alloc, net.exporters(), exporters, choices)?;
         if used < choices.len() {
             return Err(Fault::bare(refusals::WRONG_CHOICES));
@@ -285,7 +285,7 @@ impl Store {
         if let Err(_) = put_all(&mut self.carried, links.as_slice(), &entry) {
             return Err(Fault::bare(refusals::WANT_OF_MEMORY));
         }
-        take_out_at(&mut self.held, place, number);
+        take_out_at(&mut self.held, index, number);
         Ok(())
     }
 
@@ -308,17 +308,17 @@ impl Store {
             → steps.arrive_at net.now (steps.link_place link) number s choices.now
             ≡ Err e.number))) }
     {
-        let Some(place) = link_place(link) else {
+        let Some(index) = link_place(link) else {
             return Err(Fault::bare(refusals::STEP_NOT_ENABLED));
         };
-        let Some(records) = entry_at(self.carried.as_slice(), place) else {
+        let Some(records) = entry_at(self.carried.as_slice(), index) else {
             return Err(Fault::bare(refusals::STEP_NOT_ENABLED));
         };
         let Some(found) = records.record_numbered(number) else {
             return Err(Fault::bare(refusals::NO_RECORD_THERE));
         };
         let entry = found.copy();
-        let handling = handling_at(alloc, net, place, &entry.key)?;
+        let handling = handling_at(alloc, net, index, &entry.key)?;
         let (links, used) = chosen_links(alloc, net.exporters(), handling.exporters, choices)?;
         let left = choices_from(choices, used);
         hold_all(
@@ -340,7 +340,7 @@ impl Store {
             give_all_back(&mut self.held, self.log.as_slice());
             return Err(Fault::bare(refusals::WANT_OF_MEMORY));
         }
-        take_out_at(&mut self.carried, place, number);
+        take_out_at(&mut self.carried, index, number);
         Ok(())
     }
 }

@@ -17,9 +17,9 @@ fn place_of(totals: &[Record], key: &Key) -> Option<usize>
     ensures some { IfSome result (λ n. places.FirstAt n totals.now key.now) }
     ensures none { IfNone result (places.NoneBefore (length totals.now) totals.now key.now) }
 {
-    for place in 0..totals.len() {
-        if totals[place].key.same(key) {
-            return Some(place);
+    for index in 0..totals.len() {
+        if totals[index].key.same(key) {
+            return Some(index);
         }
     }
     None
@@ -30,8 +30,8 @@ fn add_at(totals: &mut Vec<Record>, key: Key, counts: &Counts) -> Result<(), All
     ensures ok { OnOk result (totals.new.items ≡ states.add_at totals.old.items key counts.now) }
     ensures err { OnErr result (totals.new.items ≡ totals.old.items) }
 {
-    if let Some(place) = place_of(totals, &key) {
-        let total = &mut totals[place];
+    if let Some(index) = place_of(totals, &key) {
+        let total = &mut totals[index];
         total.counts = total.counts.add(counts);
         return Ok(());
     }

@@ -53,13 +53,13 @@ fn aggregations_of(net: &Net, process: usize) -> &[AggregationEntry]
 
 impl Contents {
     /// Lets all records of the holder at this place leave, the least key first, and puts them on the links.
-    fn empty_out<L: Links>(&mut self, net: &Net, place: usize, links: &mut L) -> Result<(), Fault>
-        ensures ok { OnOk result (doings.Ended (doings.Empties net.now place)
+    fn empty_out<L: Links>(&mut self, net: &Net, index: usize, links: &mut L) -> Result<(), Fault>
+        ensures ok { OnOk result (doings.Ended (doings.Empties net.now index)
             (L.put_on links.old) self.old (L.put_on links.new) self.new) }
         ensures going { OnOk result (KeepsGoing (L.failed links.old) (L.failed links.new)) }
         ensures err { IfErr result (running.FailsOutside (L.failed links.new)) }
     {
-        self.empty(net, place)?;
+        self.empty(net, index)?;
         self.finish(links)
     }
 
@@ -75,8 +75,8 @@ impl Contents {
         ensures going { OnOk result (KeepsGoing (L.failed links.old) (L.failed links.new)) }
         ensures err { IfErr result (running.FailsOutside (L.failed links.new)) }
     {
-        for place in places {
-            self.empty_out(net, *place, links)?;
+        for index in places {
+            self.empty_out(net, *index, links)?;
         }
         Ok(())
     }

@@ -108,10 +108,10 @@ fn export(
 }
 
 /// Returns the number of the destination that the exporting process at this place uses, 0 if there is no such process.
-fn number_in_use(chosen: &[u64], place: usize) -> u64
-    ensures { result ≡ in_use.number_in_use chosen.now place }
+fn number_in_use(chosen: &[u64], index: usize) -> u64
+    ensures { result ≡ in_use.number_in_use chosen.now index }
 {
-    match chosen.get(place) {
+    match chosen.get(index) {
         None => 0,
         Some(number) => *number,
     }
@@ -122,18 +122,18 @@ fn export_at(
     links: &mut Vec<Link>,
     net: &Net,
     chosen: &[u64],
-    place: usize,
+    index: usize,
     time: u32,
     flow: &Record,
 ) -> Result<(), Fault>
     ensures ok { OnOk result (links.new.items
-        ≡ exporting.put_each time flow.now (in_use.used_at net.now chosen.now place)
+        ≡ exporting.put_each time flow.now (in_use.used_at net.now chosen.now index)
         links.old.items) }
     ensures err { IfErr result IsMemory }
 {
-    match net.exporters().get(place) {
+    match net.exporters().get(index) {
         None => Ok(()),
-        Some(exporter) => export(links, exporter, number_in_use(chosen, place), time, flow),
+        Some(exporter) => export(links, exporter, number_in_use(chosen, index), time, flow),
     }
 }
 

@@ -18,9 +18,9 @@ fn finish_all<L: Links>(lines: &mut Vec<Link>, time: u32, links: &mut L) -> Resu
     ensures err { IfErr result (λ e. IsMemory e
         ⊎ IsWriteFault (L.failed links.new) e) }
 {
-    for place in 0..lines.len() {
-        let line = &mut lines[place];
-        line.finish(time, place as u64 + 1, links)?;
+    for index in 0..lines.len() {
+        let line = &mut lines[index];
+        line.finish(time, index as u64 + 1, links)?;
     }
     Ok(())
 }

@@ -8,27 +8,27 @@ use crate::store::HolderStore;
 use fx_store::FlowStore;
 
 /// Returns the store of the holder at this place, `None` if it is an immediate cache.
-fn store_at(stores: &[Option<HolderStore>], place: usize) -> Option<&HolderStore>
-    ensures { now_of result ≡ contents.stored_at stores.now place }
+fn store_at(stores: &[Option<HolderStore>], index: usize) -> Option<&HolderStore>
+    ensures { now_of result ≡ contents.stored_at stores.now index }
 {
-    match stores.get(place) {
+    match stores.get(index) {
         None => None,
         Some(store) => store.as_ref(),
     }
 }
 
 /// Returns whether the holder at this place is an immediate cache, which holds nothing.
-pub(crate) fn is_immediate(stores: &[Option<HolderStore>], place: usize) -> bool
-    ensures { result ≡ contents.is_immediate (contents.stored_at stores.now place) }
+pub(crate) fn is_immediate(stores: &[Option<HolderStore>], index: usize) -> bool
+    ensures { result ≡ contents.is_immediate (contents.stored_at stores.now index) }
 {
-    store_at(stores, place).is_none()
+    store_at(stores, index).is_none()
 }
 
 /// Returns how many records the holder at this place has.
-pub(crate) fn count_at(stores: &[Option<HolderStore>], place: usize) -> usize
-    ensures { result ≡ leaving.count_of (contents.stored_at stores.now place) }
+pub(crate) fn count_at(stores: &[Option<HolderStore>], index: usize) -> usize
+    ensures { result ≡ leaving.count_of (contents.stored_at stores.now index) }
 {
-    match store_at(stores, place) {
+    match store_at(stores, index) {
         None => 0,
         Some(store) => store.len(),
     }

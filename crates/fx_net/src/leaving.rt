@@ -20,11 +20,11 @@ pub(crate) struct Leaver {
 }
 
 /// Removes and returns the entry of the least key of the holder at this place, if there is one.
-fn take_least(stores: &mut Vec<Option<HolderStore>>, place: usize) -> Option<(Key, Counts)>
-    ensures value { result ≡ leaving.least_of (contents.stored_at stores.old.items place) }
-    ensures rest { stores.new.items ≡ leaving.without_least stores.old.items place }
+fn take_least(stores: &mut Vec<Option<HolderStore>>, index: usize) -> Option<(Key, Counts)>
+    ensures value { result ≡ leaving.least_of (contents.stored_at stores.old.items index) }
+    ensures rest { stores.new.items ≡ leaving.without_least stores.old.items index }
 {
-    match stores.get_mut(place) {
+    match stores.get_mut(index) {
         None => None,
         Some(store) => match store {
             None => None,
@@ -60,16 +60,16 @@ impl Contents {
     /// Lets the record of the least key of the holder at this place leave, and returns whether there was one.
     ///
     /// Fails with 900, at no place, if out of memory.
-    pub(crate) fn expire_least(&mut self, net: &Net, place: usize) -> Result<bool, Fault>
-        ensures ok { OnOk result (self.new ≡ leaving.after_least net.now place self.old) }
-        ensures there { IfOk result (λ there. there ≡ is_some (leaving.least_at self.old place)) }
+    pub(crate) fn expire_least(&mut self, net: &Net, index: usize) -> Result<bool, Fault>
+        ensures ok { OnOk result (self.new ≡ leaving.after_least net.now index self.old) }
+        ensures there { IfOk result (λ there. there ≡ is_some (leaving.least_at self.old index)) }
         ensures err { IfErr result IsMemory }
     {
-        let Some((key, counts)) = take_least(&mut self.stores, place) else {
+        let Some((key, counts)) = take_least(&mut self.stores, index) else {
             return Ok(false);
         };
         let leaver = Leaver {
-            holder: place,
+            holder: index,
             flow: Record { key, counts },
         };
         self.leave(net, &leaver)?;
@@ -79,13 +79,13 @@ impl Contents {
     /// Lets all records of the holder at this place leave, the least key first.
     ///
     /// Fails with 900, at no place, if out of memory.
-    pub(crate) fn empty(&mut self, net: &Net, place: usize) -> Result<(), Fault>
-        ensures ok { OnOk result (self.new ≡ leaving.after_emptying net.now place self.old) }
+    pub(crate) fn empty(&mut self, net: &Net, index: usize) -> Result<(), Fault>
+        ensures ok { OnOk result (self.new ≡ leaving.after_emptying net.now index self.old) }
         ensures err { IfErr result IsMemory }
     {
-        let count = count_at(self.stores.as_slice(), place);
+        let count = count_at(self.stores.as_slice(), index);
         for _done in 0..count {
-            self.expire_least(net, place)?;
+            self.expire_least(net, index)?;
         }
         Ok(())
     }

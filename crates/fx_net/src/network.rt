@@ -155,10 +155,10 @@ impl<'a> Network<'a> {
     {
         let frame = capture.frame();
         let classes = self.traffic.classes().as_slice();
-        let Some(place) = class_place(classes, &frame.fields) else {
+        let Some(index) = class_place(classes, &frame.fields) else {
             return Ok(false);
         };
-        self.meter(&frame, place as u64 + 1, 1, met)?;
+        self.meter(&frame, index as u64 + 1, 1, met)?;
         Ok(true)
     }
 

@@ -42,10 +42,10 @@ fn is_in(classes: &[Class], fields: &Fields, class: u64, path: u64) -> bool
 }
 
 /// Makes the exporting process at this place use this destination from now on.
-fn choose(chosen: &mut Vec<u64>, place: usize, destination: u64)
-    ensures { chosen.new.items ≡ with_changed (λ _. destination) chosen.old.items place }
+fn choose(chosen: &mut Vec<u64>, index: usize, destination: u64)
+    ensures { chosen.new.items ≡ with_changed (λ _. destination) chosen.old.items index }
 {
-    if let Some(number) = chosen.get_mut(place) {
+    if let Some(number) = chosen.get_mut(index) {
         *number = destination;
     }
 }
@@ -127,13 +127,13 @@ impl<'a> Network<'a> {
             ⊎ ((s ≡ stop.Line nothing_there line) × running.HoldsNothing self.old name)) }
     {
         let net = self.plan.net();
-        let Some(place) = net.holder_place(name) else {
+        let Some(index) = net.holder_place(name) else {
             return Err(Stop::Line {
                 number: refusals::NOTHING_THERE,
                 line,
             });
         };
-        if !self.contents.expire_least(net, place)? {
+        if !self.contents.expire_least(net, index)? {
             return Err(Stop::Line {
                 number: refusals::NOTHING_THERE,
                 line,
@@ -157,8 +157,8 @@ impl<'a> Network<'a> {
                 line,
             });
         }
-        let place = (link - 1) as usize;
-        match queue_length_of(self.contents.links.as_slice(), place) {
+        let index = (link - 1) as usize;
+        match queue_length_of(self.contents.links.as_slice(), index) {
             None => return Err(Stop::Line {
                 number: refusals::NOTHING_THERE,
                 line,
@@ -173,7 +173,7 @@ impl<'a> Network<'a> {
             }
         }
         self.contents
-            .carry(self.alloc, self.plan.net(), place, octets as usize)?;
+            .carry(self.alloc, self.plan.net(), index, octets as usize)?;
         Ok(())
     }
 
@@ -193,18 +193,18 @@ impl<'a> Network<'a> {
             × running.HasNoDestination self.old.network device exporter
             destination)) }
     {
-        let Ok(place) = self.plan.exporter_place(self.alloc, device, exporter) else {
+        let Ok(index) = self.plan.exporter_place(self.alloc, device, exporter) else {
             return Err(Stop::Bare {
                 number: refusals::WANT_OF_MEMORY,
             });
         };
-        let Some(place) = place else {
+        let Some(index) = index else {
             return Err(Stop::Line {
                 number: refusals::NOTHING_THERE,
                 line,
             });
         };
-        let Some(named) = self.plan.net().exporters().get(place) else {
+        let Some(named) = self.plan.net().exporters().get(index) else {
             return Err(Stop::Line {
                 number: refusals::NOTHING_THERE,
                 line,
@@ -216,7 +216,7 @@ impl<'a> Network<'a> {
                 line,
             });
         };
-        choose(&mut self.contents.chosen, place, destination);
+        choose(&mut self.contents.chosen, index, destination);
         Ok(())
     }
 

@@ -141,18 +141,18 @@ fn take_all(
 fn add_packet(
     stores: &mut Vec<Option<HolderStore>>,
     left: &mut Vec<Leaver>,
-    place: usize,
+    index: usize,
     layout: &Layout,
     fields: &Fields,
     counts: Counts,
 ) -> Result<(), Fault>
     ensures ok { OnOk result (record { stores = stores.new.items; left = left.new.items }
         ≡ taking.with_holding counts
-        (record { holder = place; key = key_of layout.now fields.now })
+        (record { holder = index; key = key_of layout.now fields.now })
         (record { stores = stores.old.items; left = left.old.items })) }
     ensures err { IfErr result IsMemory }
 {
-    let Some(store) = stores.get_mut(place) else {
+    let Some(store) = stores.get_mut(index) else {
         return Ok(());
     };
     let Some(store) = store else {
@@ -161,7 +161,7 @@ fn add_packet(
     match store.add_packet(layout, fields, counts) {
         Err(fault) => Err(fault),
         Ok(None) => Ok(()),
-        Ok(Some((key, counts))) => push_leaver(left, place, key, counts),
+        Ok(Some((key, counts))) => push_leaver(left, index, key, counts),
     }
 }
 
@@ -183,15 +183,15 @@ fn take_packet(
         (holding_of net.now.holders fields.now occurrence.now)) }
     ensures err { IfErr result IsMemory }
 {
-    let place = occurrence.holder;
-    if is_immediate(stores.as_slice(), place) {
+    let index = occurrence.holder;
+    if is_immediate(stores.as_slice(), index) {
         return take(stores, leavers, net.holding(occurrence, fields), counts);
     }
-    match net.holders().get(place) {
+    match net.holders().get(index) {
         Some(holder) => add_packet(
             stores,
             &mut leavers.left,
-            place,
+            index,
             holder.layout(),
             fields,
             counts,

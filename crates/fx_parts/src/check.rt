@@ -197,11 +197,11 @@ fn all_aggregations_alike(
 }
 
 /// Returns whether a collecting process of the part sends on and aggregates like the one at this place in the whole.
-fn processes_alike(part: &Net, whole: &Net, places: &[usize], p: &Process, place: usize) -> bool
+fn processes_alike(part: &Net, whole: &Net, places: &[usize], p: &Process, index: usize) -> bool
     ensures { result ≡ checks.processes_alike part.now whole.now places.now p.now
-        (slice_get whole.now.processes place) }
+        (slice_get whole.now.processes index) }
 {
-    match whole.processes().get(place) {
+    match whole.processes().get(index) {
         Some(q) => {
             all_exporters_alike(part, whole, places, p.exporters(), q.exporters())
                 && all_aggregations_alike(part, whole, places, p.aggregations(), q.aggregations())

@@ -28,14 +28,14 @@ fn paths_alike(
     if inner.len() != outer.len() {
         return Ok(false);
     }
-    for place in 0..outer.len() {
+    for index in 0..outer.len() {
         let same = meters_the_same(
             alloc,
             part,
             whole,
             places,
-            inner[place].as_slice(),
-            outer[place].as_slice(),
+            inner[index].as_slice(),
+            outer[index].as_slice(),
         )?;
         if !same {
             return Ok(false);

@@ -26,8 +26,8 @@ fn push_all_cached(found: &mut Vec<Selection>, selections: &[Selection]) -> Resu
     ensures { OnOk result (found.new.items ≡ found.old.items
         ++ flat_map meters.cached selections.now) }
 {
-    for place in 0..selections.len() {
-        push_cached(found, &selections[place])?;
+    for index in 0..selections.len() {
+        push_cached(found, &selections[index])?;
     }
     Ok(())
 }
@@ -55,8 +55,8 @@ fn push_meters_of(
     ensures { OnOk result (found.new.items
         ≡ found.old.items ++ flat_map (meters.meters_at crossing.now) points.now) }
 {
-    for place in 0..points.len() {
-        push_meters_at(found, crossing, &points[place])?;
+    for index in 0..points.len() {
+        push_meters_at(found, crossing, &points[index])?;
     }
     Ok(())
 }
@@ -75,8 +75,8 @@ fn push_all_meters(
 ) -> Result<(), AllocError>
     ensures { OnOk result (found.new.items ≡ found.old.items ++ meters.meters net.now path.now) }
 {
-    for place in 0..path.len() {
-        push_meters(found, net, &path[place])?;
+    for index in 0..path.len() {
+        push_meters(found, net, &path[index])?;
     }
     Ok(())
 }

@@ -36,9 +36,9 @@ fn all_come(come: &[bool]) -> bool
 
 /// Returns whether all places are below `end`.
 fn all_below(places: &[usize], end: usize) -> bool
-    ensures { result ≡ list_all (λ place. nat_lt place end) places.now }
+    ensures { result ≡ list_all (λ index. nat_lt index end) places.now }
 {
-    places.iter().all(|place| *place < end)
+    places.iter().all(|index| *index < end)
 }
 
 fn judged(net: &Net, come: &[bool]) -> bool

@@ -46,9 +46,9 @@ fn process_numbers(
     ensures { IfOk result (λ v. v.items ≡ cycles.process_numbers devices.now) }
 {
     let mut numbers = Vec::new(alloc);
-    for (place, device) in devices.iter().enumerate() {
+    for (index, device) in devices.iter().enumerate() {
         let count = device.config.collecting_processes.as_slice().len();
-        push_numbers(&mut numbers, place + 1, count)?;
+        push_numbers(&mut numbers, index + 1, count)?;
     }
     Ok(numbers)
 }
@@ -56,21 +56,21 @@ fn process_numbers(
 /// Returns the places of the processes that are not in the rank order.
 fn places_left(alloc: Global, come: &[bool]) -> Result<Vec<usize>, AllocError>
     ensures { IfOk result (λ v. v.items ≡ filter
-        (λ place. not (slice_index_or come.now place false)) (range_with_len 0 (length come.now))) }
+        (λ index. not (slice_index_or come.now index false)) (range_with_len 0 (length come.now))) }
 {
     let mut places = Vec::new(alloc);
-    for (place, there) in come.iter().enumerate() {
+    for (index, there) in come.iter().enumerate() {
         if !*there {
-            places.push(place)?;
+            places.push(index)?;
         }
     }
     Ok(places)
 }
 
-fn number_at(numbers: &[ProcessNumber], place: usize) -> Option<ProcessNumber>
-    ensures { result ≡ slice_get numbers.now place }
+fn number_at(numbers: &[ProcessNumber], index: usize) -> Option<ProcessNumber>
+    ensures { result ≡ slice_get numbers.now index }
 {
-    numbers.get(place).copied()
+    numbers.get(index).copied()
 }
 
 fn numbers_at(
@@ -81,8 +81,8 @@ fn numbers_at(
     ensures { IfOk result (λ v. v.items ≡ machine.at_places numbers.now places.now) }
 {
     let mut found = Vec::new(alloc);
-    for place in places {
-        if let Some(number) = number_at(numbers, *place) {
+    for index in places {
+        if let Some(number) = number_at(numbers, *index) {
             found.push(number)?;
         }
     }

@@ -23,8 +23,8 @@ fn link_places(
 {
     let mut places = Vec::new(alloc);
     for destination in destinations {
-        let place = links.place_of(device, process, &destination.name)?;
-        places.push(place)?;
+        let index = links.place_of(device, process, &destination.name)?;
+        places.push(index)?;
     }
     Ok(places)
 }

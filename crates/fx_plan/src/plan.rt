@@ -263,9 +263,9 @@ fn plan_of_parts(
 }
 
 fn rank_in(ranked: &[usize], process: usize) -> Option<usize>
-    ensures { result ≡ position (λ place. place == process) ranked.now }
+    ensures { result ≡ position (λ index. index == process) ranked.now }
 {
-    ranked.iter().position(|place| *place == process)
+    ranked.iter().position(|index| *index == process)
 }
 
 /// Reads a network document and the network that it describes.

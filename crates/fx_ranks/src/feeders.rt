@@ -10,11 +10,11 @@ use std::alloc::{AllocError, Global};
 
 fn any_leads(linked: &LinkedProcesses<'_>, process: usize, places: &[usize]) -> bool
     requires { process < length linked.now.processes }
-    ensures { result ≡ list_any (λ place. feeding.leads_at linked.now process
-        (slice_get linked.now.exporters place)) places.now }
+    ensures { result ≡ list_any (λ index. feeding.leads_at linked.now process
+        (slice_get linked.now.exporters index)) places.now }
 {
-    for place in places {
-        if linked.leads_at(process, *place) {
+    for index in places {
+        if linked.leads_at(process, *index) {
             return true;
         }
     }

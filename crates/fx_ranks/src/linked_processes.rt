@@ -16,21 +16,21 @@ fn end_of(net: &Net, destination: Option<usize>) -> Option<usize>
     }
 }
 
-/// Sets the flag at the place, if there is one.
-fn set_flag(flags: &mut [bool], place: Option<usize>)
-    ensures { flags.new ≡ feeding.with_flag flags.old place }
+/// Sets the flag at the index, if there is one.
+fn set_flag(flags: &mut [bool], index: Option<usize>)
+    ensures { flags.new ≡ feeding.with_flag flags.old index }
 {
-    if let Some(place) = place {
-        if place < flags.len() {
-            flags[place] = true;
+    if let Some(index) = index {
+        if index < flags.len() {
+            flags[index] = true;
         }
     }
 }
 
-fn flag_at(flags: &[bool], place: usize) -> bool
-    ensures { result ≡ slice_index_or flags.now place false }
+fn flag_at(flags: &[bool], index: usize) -> bool
+    ensures { result ≡ slice_index_or flags.now index false }
 {
-    match flags.get(place) {
+    match flags.get(index) {
         Some(flag) => *flag,
         None => false,
     }
@@ -101,11 +101,11 @@ impl<'n> LinkedProcesses<'n> {
     }
 
     /// Returns whether the exporting process at the place, if there is one, has a destination linked to the process.
-    pub fn leads_at(&self, process: usize, place: usize) -> bool
+    pub fn leads_at(&self, process: usize, index: usize) -> bool
         requires { process < length self.now.processes }
-        ensures { result ≡ feeding.leads_at self.now process (slice_get self.now.exporters place) }
+        ensures { result ≡ feeding.leads_at self.now process (slice_get self.now.exporters index) }
     {
-        match self.rows.as_slice().get(place) {
+        match self.rows.as_slice().get(index) {
             Some(row) => flag_at(row.as_slice(), process),
             None => false,
         }

@@ -45,9 +45,9 @@ pub fn rank_order(alloc: Global, net: &Net) -> Result<RankOrder, AllocError>
     let feeders = all_feeders(alloc, net)?;
     let mut come = vec![in alloc; false; net.processes().len()]?;
     let mut order = Vec::new(alloc);
-    while let Some(place) = first_ready(feeders.as_slice(), come.as_slice()) {
-        come[place] = true;
-        order.push(place)?;
+    while let Some(index) = first_ready(feeders.as_slice(), come.as_slice()) {
+        come[index] = true;
+        order.push(index)?;
     }
     Ok(RankOrder { order, come })
 }

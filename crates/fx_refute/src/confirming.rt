@@ -66,12 +66,12 @@ fn make_steps(state: &mut State<'_>, steps: &[Step]) -> Result<(), Fault>
         ⊎ ((s : states.State) → state.old.state ≡ states.wrapped_state s
         → confirming.IsStopped state.old.net state.old.classes state.old.packets steps.now s e)) }
 {
-    for place in 0..steps.len() {
-        if let Err(e) = state.step(&steps[place]) {
+    for index in 0..steps.len() {
+        if let Err(e) = state.step(&steps[index]) {
             if e.number == refusals::WANT_OF_MEMORY {
                 return Err(e);
             }
-            return Err(Fault::at_line(refusals::REFUTATION_STEP, place as u64 + 3));
+            return Err(Fault::at_line(refusals::REFUTATION_STEP, index as u64 + 3));
         }
     }
     Ok(())

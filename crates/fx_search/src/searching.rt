@@ -172,8 +172,8 @@ fn grow_all<'a, 't, W: Watch>(
         growth.new.lines []) }
     ensures err { IfErr result IsMemory }
 {
-    'targets: for place in 0..targets.len() {
-        let target = &targets[place];
+    'targets: for index in 0..targets.len() {
+        let target = &targets[index];
         scratch.reserve(tables, target.crossings)?;
         let active = scratch.begin(tables, target.crossings);
         growth.open(target, active)?;
@@ -241,8 +241,8 @@ fn stopped(
 fn version_for(classes: &[Class]) -> Version
     ensures { result ≡ found.version_for classes.now }
 {
-    'classes: for place in 0..classes.len() {
-        if classes[place].exempt() {
+    'classes: for index in 0..classes.len() {
+        if classes[index].exempt() {
             return Version::Two;
         }
     }

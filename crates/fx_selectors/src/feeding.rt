@@ -46,14 +46,14 @@ fn has_cache(processes: &[SelectionProcess], name: &Name) -> bool
 fn next_fed(processes: &[SelectionProcess], names: &[Name], from: usize) -> Option<usize>
     ensures none { MatchOption result (numbers_with_cache processes.now (from
         + 1) (drop from names.now)
-        ≡ []) (λ place. numbers_with_cache processes.now (from + 1) (drop from names.now)
-        ≡ (place + 1) ∷ numbers_with_cache processes.now (place + 1
-        + 1) (drop (place + 1) names.now)) }
-    ensures bound { MatchOption result (Unit {0}) (λ place. place < length names.now) }
+        ≡ []) (λ index. numbers_with_cache processes.now (from + 1) (drop from names.now)
+        ≡ (index + 1) ∷ numbers_with_cache processes.now (index + 1
+        + 1) (drop (index + 1) names.now)) }
+    ensures bound { MatchOption result (Unit {0}) (λ index. index < length names.now) }
 {
-    for place in from..names.len() {
-        if has_cache(processes, &names[place]) {
-            return Some(place);
+    for index in from..names.len() {
+        if has_cache(processes, &names[index]) {
+            return Some(index);
         }
     }
     None
@@ -103,14 +103,14 @@ impl<'a> FedPairs<'a> {
     {
         let points = self.device.observation_points.as_slice();
         let processes = self.device.selection_processes.as_slice();
-        for place in self.point..points.len() {
-            let point = &points[place];
+        for index in self.point..points.len() {
+            let point = &points[index];
             if watches(point, self.interface, self.inwards) {
                 let names = point.selection_processes.as_slice();
                 if let Some(process) = next_fed(processes, names, self.process) {
-                    self.point = place;
+                    self.point = index;
                     self.process = process + 1;
-                    return Some((place + 1, process + 1));
+                    return Some((index + 1, process + 1));
                 }
             }
             self.process = 0;

@@ -141,10 +141,10 @@ pub(crate) fn read_record<'a>(
     let mut rest = octets;
     let fields = template.fields();
     let elements = template.elements();
-    for place in 0..fields.len() {
-        match cut_value(fields[place].field_length, rest) {
+    for index in 0..fields.len() {
+        match cut_value(fields[index].field_length, rest) {
             Some((content, behind)) => {
-                seen.note(elements[place], content);
+                seen.note(elements[index], content);
                 rest = behind;
             }
             None => return None,

@@ -67,8 +67,8 @@ fn same_fields(a: &[FieldSpecifier], b: &[FieldSpecifier]) -> bool
     if a.len() != b.len() {
         return false;
     }
-    for place in 0..a.len() {
-        if !same_field(&a[place], &b[place]) {
+    for index in 0..a.len() {
+        if !same_field(&a[index], &b[index]) {
             return false;
         }
     }

@@ -13,9 +13,9 @@ fn note(names: &mut [HolderName], net: &Net, name: HolderName)
     ensures kept { naming.Keep net.now names.old names.new }
     ensures noted { naming.Note net.now names.new name }
 {
-    if let Some(place) = net.holder_place(name) {
-        if place < names.len() {
-            names[place] = name;
+    if let Some(index) = net.holder_place(name) {
+        if index < names.len() {
+            names[index] = name;
         }
     }
 }
@@ -49,10 +49,10 @@ fn note_aggregations(names: &mut [HolderName], net: &Net, device: u64, process: 
 }
 
 /// Returns the number of aggregations of the collecting process at this place.
-fn count_aggregations(net: &Net, place: usize) -> usize
-    ensures { result ≡ length (network.aggregations_of (slice_get net.now.processes place)) }
+fn count_aggregations(net: &Net, index: usize) -> usize
+    ensures { result ≡ length (network.aggregations_of (slice_get net.now.processes index)) }
 {
-    match net.processes().get(place) {
+    match net.processes().get(index) {
         None => 0,
         Some(process) => process.aggregations().len(),
     }

@@ -19,24 +19,24 @@ use fx_tables::{AggregationEntry, Exporter, Net, Occurrence, Process};
 use std::alloc::AllocError;
 
 /// Returns the destination at this place.
-fn destination_at(destinations: &[Option<usize>], place: usize) -> Option<Option<usize>>
-    ensures { result ≡ slice_get destinations.now place }
+fn destination_at(destinations: &[Option<usize>], index: usize) -> Option<Option<usize>>
+    ensures { result ≡ slice_get destinations.now index }
 {
-    destinations.get(place).copied()
+    destinations.get(index).copied()
 }
 
 /// Returns the exporting process at this place.
-fn exporter_at(net: &Net, place: usize) -> Option<&Exporter>
-    ensures { views.now_of result ≡ slice_get net.now.exporters place }
+fn exporter_at(net: &Net, index: usize) -> Option<&Exporter>
+    ensures { views.now_of result ≡ slice_get net.now.exporters index }
 {
-    net.exporters().get(place)
+    net.exporters().get(index)
 }
 
 /// Returns the collecting process at this place.
-fn process_at(net: &Net, place: usize) -> Option<&Process>
-    ensures { views.now_of result ≡ slice_get net.now.processes place }
+fn process_at(net: &Net, index: usize) -> Option<&Process>
+    ensures { views.now_of result ≡ slice_get net.now.processes index }
 {
-    net.processes().get(place)
+    net.processes().get(index)
 }
 
 impl PacketCosts<'_, '_> {
@@ -153,14 +153,14 @@ impl StepPlan {
         &mut self,
         layout: usize,
         destinations: &[Option<usize>],
-        place: usize,
+        index: usize,
         fate: Fate,
     ) -> Result<(), AllocError>
         ensures { OnOk result (planning.AddsPlan self.old self.new
             (planning.pending_on_links layout (spread.records_to_one
-            (slice_get destinations.now place) fate)) []) }
+            (slice_get destinations.now index) fate)) []) }
     {
-        match destination_at(destinations, place) {
+        match destination_at(destinations, index) {
             None => Ok(()),
             Some(destination) => self.add_on_link(layout, destination, fate),
         }
@@ -181,9 +181,9 @@ impl StepPlan {
             destinations.now fate)) fate)) (Some
             (suc (spread.choice_of c.table c.tables.net layout destinations.now fate)) ∷ [])) }
     {
-        let place = costs.choice_of(layout, destinations, fate);
-        self.choices.push(Some(place as u64 + 1))?;
-        self.add_to_place(layout, destinations, place, fate)
+        let index = costs.choice_of(layout, destinations, fate);
+        self.choices.push(Some(index as u64 + 1))?;
+        self.add_to_place(layout, destinations, index, fate)
     }
 
     /// Appends what an exporting process sends and chooses.

@@ -71,14 +71,14 @@ impl PacketCosts<'_, '_> {
     }
 
     /// Returns the costs of what the exporting process at a place sends, if there is one, together with `others`.
-    fn with_send_costs(&self, layout: usize, place: usize, others: Costs) -> Costs
+    fn with_send_costs(&self, layout: usize, index: usize, others: Costs) -> Costs
         ensures { let c = self.now in
             let net = c.tables.net in (es : List network.Exporter)
             → others ≡ tabled.sent_costs c.table net layout es
             → result ≡ tabled.sent_costs c.table net layout
-            (network.before (slice_get net.exporters place) es) }
+            (network.before (slice_get net.exporters index) es) }
     {
-        match self.net().exporters().get(place) {
+        match self.net().exporters().get(index) {
             None => others,
             Some(exporter) => self.send_costs(layout, exporter).both(others),
         }

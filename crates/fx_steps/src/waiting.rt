@@ -22,22 +22,22 @@ fn zeros(alloc: Global, count: usize) -> Result<Vec<u64>, AllocError>
 }
 
 /// Adds one to the number at this place.
-fn raise(counts: &mut [u64], place: usize)
-    requires there { place < length counts.old }
+fn raise(counts: &mut [u64], index: usize)
+    requires there { index < length counts.old }
     requires room { waits.total counts.old < 2 ^ 63 }
-    ensures { counts.new ≡ waits.one_more_at counts.old place }
+    ensures { counts.new ≡ waits.one_more_at counts.old index }
 {
-    counts[place] += 1;
+    counts[index] += 1;
 }
 
 /// Takes one from the number at this place, and returns the number as it was before.
-fn lower(counts: &mut [u64], place: usize) -> u64
-    requires there { place < length counts.old }
-    requires some { waits.HasOneMore counts.old place }
-    ensures { waits.LastLeaves counts.old counts.new place result }
+fn lower(counts: &mut [u64], index: usize) -> u64
+    requires there { index < length counts.old }
+    requires some { waits.HasOneMore counts.old index }
+    ensures { waits.LastLeaves counts.old counts.new index result }
 {
-    let count = counts[place];
-    counts[place] = count - 1;
+    let count = counts[index];
+    counts[index] = count - 1;
     count
 }
 

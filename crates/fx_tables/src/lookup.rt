@@ -16,20 +16,20 @@ use fx_base::{entry_at, entry_numbered};
 use fx_layout::Layout;
 
 /// Returns the layout of the records of the holder at this index, or the empty one if there is no such holder.
-pub(crate) fn layout_at(holders: &[Holder], place: usize) -> Layout
-    ensures { result ≡ network.layout_of (slice_get holders.now place) }
+pub(crate) fn layout_at(holders: &[Holder], index: usize) -> Layout
+    ensures { result ≡ network.layout_of (slice_get holders.now index) }
 {
-    match entry_at(holders, place) {
+    match entry_at(holders, index) {
         None => Layout::new(),
         Some(holder) => holder.layout.copy(),
     }
 }
 
 /// Returns the exporting processes that the holder at this index names.
-fn named_by(holders: &[Holder], place: usize) -> &[usize]
-    ensures { result.now ≡ network.named_by (slice_get holders.now place) }
+fn named_by(holders: &[Holder], index: usize) -> &[usize]
+    ensures { result.now ≡ network.named_by (slice_get holders.now index) }
 {
-    match entry_at(holders, place) {
+    match entry_at(holders, index) {
         None => &[],
         Some(holder) => holder.exporters.as_slice(),
     }
@@ -66,12 +66,12 @@ fn processes_of(devices: &[DeviceEntry], number: u64) -> &[usize]
 }
 
 /// Returns the aggregations of the collecting process at this index.
-fn aggregations_at(processes: &[Process], place: Option<usize>) -> &[AggregationEntry]
-    ensures { result.now ≡ network.aggregations_of (network.process_at processes.now place) }
+fn aggregations_at(processes: &[Process], index: Option<usize>) -> &[AggregationEntry]
+    ensures { result.now ≡ network.aggregations_of (network.process_at processes.now index) }
 {
-    match place {
+    match index {
         None => &[],
-        Some(place) => match entry_at(processes, place) {
+        Some(index) => match entry_at(processes, index) {
             None => &[],
             Some(process) => process.aggregations.as_slice(),
         },
@@ -106,8 +106,8 @@ fn place_of_holder(
             process,
             aggregation,
         } => {
-            let place = entry_numbered(processes_of(devices, device), process).copied();
-            holder_of(aggregations_at(processes, place), aggregation)
+            let index = entry_numbered(processes_of(devices, device), process).copied();
+            holder_of(aggregations_at(processes, index), aggregation)
         }
     }
 }
@@ -128,18 +128,18 @@ fn path_of<'a>(classes: &'a [Class], packet: &Packet) -> &'a [Crossing]
 impl Net {
     /// Returns the layout of the records of the holder at this 0-based index of the network's table, or the empty one
     /// if there is no such holder.
-    pub fn layout_at(&self, place: usize) -> Layout
-        ensures { result ≡ network.layout_of (slice_get self.now.holders place) }
+    pub fn layout_at(&self, index: usize) -> Layout
+        ensures { result ≡ network.layout_of (slice_get self.now.holders index) }
     {
-        layout_at(self.holders.as_slice(), place)
+        layout_at(self.holders.as_slice(), index)
     }
 
     /// Returns the exporting processes, by their indices in the network's table, of the holder at this index, or none
     /// if there is no such holder.
-    pub fn named_by(&self, place: usize) -> &[usize]
-        ensures { result.now ≡ network.named_by (slice_get self.now.holders place) }
+    pub fn named_by(&self, index: usize) -> &[usize]
+        ensures { result.now ≡ network.named_by (slice_get self.now.holders index) }
     {
-        named_by(self.holders.as_slice(), place)
+        named_by(self.holders.as_slice(), index)
     }
 
     /// Returns the observation points of the device with this 1-based number, or none if there is no such device.

@@ -87,8 +87,8 @@ fn push_met_by(
     ensures { OnOk result (found.new.items
         ≡ found.old.items ++ met.met_by point 1 selections.now fields.now) }
 {
-    for place in 0..selections.len() {
-        push_met(found, point, place + 1, &selections[place], fields)?;
+    for index in 0..selections.len() {
+        push_met(found, point, index + 1, &selections[index], fields)?;
     }
     Ok(())
 }
@@ -121,17 +121,17 @@ fn push_met_of(
     ensures { OnOk result (found.new.items
         ≡ found.old.items ++ met.met_at 1 points.now crossing.now fields.now) }
 {
-    for place in 0..points.len() {
-        push_met_at(found, place + 1, &points[place], crossing, fields)?;
+    for index in 0..points.len() {
+        push_met_at(found, index + 1, &points[index], crossing, fields)?;
     }
     Ok(())
 }
 
 /// Returns the key of a packet with these fields in the holder at an index.
-fn key_at(holders: &[Holder], place: usize, fields: &Fields) -> Key
-    ensures { result ≡ keys.key_of (network.layout_of (slice_get holders.now place)) fields.now }
+fn key_at(holders: &[Holder], index: usize, fields: &Fields) -> Key
+    ensures { result ≡ keys.key_of (network.layout_of (slice_get holders.now index)) fields.now }
 {
-    match entry_at(holders, place) {
+    match entry_at(holders, index) {
         None => Layout::new().key_of(fields),
         Some(holder) => holder.layout.key_of(fields),
     }

@@ -91,7 +91,7 @@ pub(crate) fn is_reported(
 /// Returns whether this is the text of an answer, if pointers begin after the frame's.
 fn is_reported_in(found: &str, pointer: &str, wanted: &str) -> bool {
     match found.split_once(pointer) {
-        Some((number, place)) => wanted.strip_prefix(number) == Some(place),
+        Some((number, index)) => wanted.strip_prefix(number) == Some(index),
         None => found == wanted,
     }
 }

@@ -20,9 +20,9 @@ fn has_parts(key: &Key, known: &[Known]) -> bool {
     if parts.len() != known.len() || values.len() != known.len() {
         return false;
     }
-    for place in 0..known.len() {
-        let (axis, bits, value) = known[place];
-        if parts[place] != (Part { axis, bits }) || values[place] != value {
+    for index in 0..known.len() {
+        let (axis, bits, value) = known[index];
+        if parts[index] != (Part { axis, bits }) || values[index] != value {
             return false;
         }
     }

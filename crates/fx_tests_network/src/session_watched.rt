@@ -115,11 +115,11 @@ fn reports(
         .feed_watched(pieces[0], &mut events)
         .expect(rt, "a piece");
     let second = session.feed_watched(pieces[1], &mut events);
-    let place = pieces[0].len() as u64;
+    let index = pieces[0].len() as u64;
     let has_ended = if end == 0 {
         answers::ends(second, 0)
     } else {
-        answers::is_refused(second, &Fault::at_octet(end, place))
+        answers::is_refused(second, &Fault::at_octet(end, index))
     };
     has_ended & events.are(letters, numbers)
 }

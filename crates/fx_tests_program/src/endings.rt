@@ -37,8 +37,8 @@ fn ends_commands(rt: HostRuntime) {
 #[test]
 fn ends_commands_at_places(rt: HostRuntime) -> Result<(), Fail> {
     let root = Fault::at_text(103, String::new(rt.alloc()));
-    let place = String::from_str(rt.alloc(), "/report/a\tb")?;
-    let key = Fault::at_text(205, place);
+    let index = String::from_str(rt.alloc(), "/report/a\tb")?;
+    let key = Fault::at_text(205, index);
     assert!(rt;
         ends_with(&Err(Fault::at_line(855, 3)), 2, b"refused 855 line 3\n")
             && ends_with(&Err(root), 2, b"refused 103 \n")

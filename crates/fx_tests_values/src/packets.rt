@@ -91,8 +91,8 @@ fn changed(at: usize, octet: u8) -> [u8; 24] {
 }
 
 /// Returns the octets before an index, or all of them.
-fn front(octets: &[u8], place: usize) -> &[u8] {
-    octets.split_at(place.min(octets.len())).0
+fn front(octets: &[u8], index: usize) -> &[u8] {
+    octets.split_at(index.min(octets.len())).0
 }
 
 /// The tags of Ethernet frames: one of each kind, twice.

@@ -111,11 +111,11 @@ fn links_of(
         (map link_of (map view items.now)) result }
 {
     let mut links = LinkTable::new(alloc);
-    let mut place = 0;
+    let mut index = 0;
     for item in items {
-        let path = DocumentPath::Item(&*path, place);
+        let path = DocumentPath::Item(&*path, index);
         add_link(alloc, &path, item, devices, &mut links)?;
-        place += 1;
+        index += 1;
     }
     Ok(links)
 }

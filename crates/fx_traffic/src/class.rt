@@ -110,11 +110,11 @@ fn classes_of<T: Named>(
 {
     let mut names = Names::new(alloc);
     let mut classes = Vec::new(alloc);
-    let mut place = 0;
+    let mut index = 0;
     for item in items {
-        let path = DocumentPath::Item(&*path, place);
+        let path = DocumentPath::Item(&*path, index);
         classes.push(read_class(alloc, &path, item, devices, &mut names)?)?;
-        place += 1;
+        index += 1;
     }
     Ok(Sequence::from_vec(classes))
 }

@@ -19,8 +19,8 @@ use std::alloc::Global;
 fn number_in<T: Named>(devices: &[T], name: &Name) -> Option<u64>
     ensures { result ≡ number_in (map T.name devices.now) name.now }
 {
-    let place = place_of(devices, name)?;
-    Some(place as u64 + 1)
+    let index = place_of(devices, name)?;
+    Some(index as u64 + 1)
 }
 
 /// Returns the number of the device that the value names. Fails with 303 if none has its name.

@@ -44,11 +44,11 @@ fn values_among<T: FromValueAmong, D: Named>(
         Reads faults (map (T.meaning names) (map view items.now)) result }
 {
     let mut values = Vec::new(alloc);
-    let mut place = 0;
+    let mut index = 0;
     for item in items {
-        let path = DocumentPath::Item(&*path, place);
+        let path = DocumentPath::Item(&*path, index);
         values.push(T::from_value_among(alloc, &path, item, devices)?)?;
-        place += 1;
+        index += 1;
     }
     Ok(Sequence::from_vec(values))
 }

@@ -57,12 +57,12 @@ fn add_paths<'a>(
     let _greatest = region.far_corner();
     let exempt = class.exempt();
     let paths = class.paths();
-    'paths: for place in 0..paths.len() {
+    'paths: for index in 0..paths.len() {
         targets.push(Target {
             class: number,
-            path: place as u64 + 1,
+            path: index as u64 + 1,
             region,
-            crossings: paths[place].as_slice(),
+            crossings: paths[index].as_slice(),
             exempt,
         })?;
     }
@@ -75,8 +75,8 @@ fn targets_of<'a>(alloc: Global, classes: &'a [Class]) -> Result<Vec<Target<'a>>
     ensures regions { IfOk result (λ ts. of_targets.AreRegions ts.items) }
 {
     let mut targets: Vec<Target<'a>> = Vec::new(alloc);
-    'classes: for place in 0..classes.len() {
-        add_paths(&mut targets, place as u64 + 1, &classes[place])?;
+    'classes: for index in 0..classes.len() {
+        add_paths(&mut targets, index as u64 + 1, &classes[index])?;
     }
     Ok(targets)
 }

@@ -234,10 +234,10 @@ fn entries_of<T: Entry>(
 {
     let mut values = Vec::new(alloc);
     let mut names = Names::new(alloc);
-    let mut place = 0;
+    let mut index = 0;
     for item in items {
-        values.push(T::from_entry(alloc, &DocumentPath::Item(&*path, place), item, &mut names)?)?;
-        place += 1;
+        values.push(T::from_entry(alloc, &DocumentPath::Item(&*path, index), item, &mut names)?)?;
+        index += 1;
     }
     let names = EntryNames::new(alloc, names)?;
     Ok(Entries {

@@ -88,10 +88,10 @@ fn values_of<T: FromValue>(
         (map T.meaning (map view items.now)) result }
 {
     let mut values = Vec::new(alloc);
-    let mut place = 0;
+    let mut index = 0;
     for item in items {
-        values.push(T::from_value(alloc, &DocumentPath::Item(path, place), item)?)?;
-        place += 1;
+        values.push(T::from_value(alloc, &DocumentPath::Item(path, index), item)?)?;
+        index += 1;
     }
     Ok(Sequence::from_vec(values))
 }

@@ -45,10 +45,10 @@ fn each_refers<T: Refers>(
 ) -> Result<(), Fault>
     ensures { Reads (items_faults (T.faults known.now) (pointer path.now) 0 items.now) tt result }
 {
-    let mut place = 0;
+    let mut index = 0;
     for item in items {
-        item.refers(alloc, &DocumentPath::Item(&*path, place), known)?;
-        place += 1;
+        item.refers(alloc, &DocumentPath::Item(&*path, index), known)?;
+        index += 1;
     }
     Ok(())
 }

@@ -3,8 +3,8 @@ use Rattle.fx_cli.specs.OptionFlag.{IsUnmarked}
 use Rattle.fx_cli.proofs.option_flag.place_of_flag.Given as goal
 
 -- no word up to here is marked
-abbrev pub invariant-loop-place : goal.invariant-loop-place
-invariant-loop-place l = record {
-  unmarked : IsUnmarked l.flag string_bytes l.words l.place;
-  from : 1 ≤ l.place;
+abbrev pub invariant-loop-index : goal.invariant-loop-index
+invariant-loop-index l = record {
+  unmarked : IsUnmarked l.flag string_bytes l.words l.index;
+  from : 1 ≤ l.index;
 }

@@ -4,9 +4,9 @@ use Rattle.fx_cli.proofs.option_flag.take_flag.Goals as goal
 
 pub returns-in-Some : goal.returns-in-Some
 returns-in-Some c = (
-  c.in-Some.place,
+  c.in-Some.index,
   subst (λ (arguments : List _). IsFlagPlace c.args.flag.now string_bytes arguments
-      (Some c.in-Some.place)) c.as_slice.ensures.value c.in-Some.ensures.place,
+      (Some c.in-Some.index)) c.as_slice.ensures.value c.in-Some.ensures.place,
   c.remove.ensures.by_index.2,
 )
 

@@ -5,9 +5,9 @@ use Rattle.fx_cli.proofs.option_flag.take_option.Goals as goal
 
 pub returns-in-Some : goal.returns-in-Some
 returns-in-Some c =
-    found c.args.flag.now c.args.value.now string_bytes c.in-Some.place c.args.arguments.now.items
+    found c.args.flag.now c.args.value.now string_bytes c.in-Some.index c.args.arguments.now.items
     c.take_both.new.arguments.items c.take_both.result
-    (subst (λ (arguments : List _). IsFlagPlace c.args.flag.now string_bytes arguments (Some c.in-Some.place))
+    (subst (λ (arguments : List _). IsFlagPlace c.args.flag.now string_bytes arguments (Some c.in-Some.index))
     c.as_slice.ensures.value c.in-Some.ensures.place) c.take_both.ensures
 
 pub returns-in-None : goal.returns-in-None

@@ -10,9 +10,9 @@ invariant-loop-item l =
     let faults = cache_field_faults l.immediate in
     let meaning = cache_field_of l.immediate in
     record {
-      place : l.place ≡ l.item-index;
+      index : l.index ≡ l.item-index;
       faults : entries_faults faults (λ d. (meaning d).name) [] (pointer l.path) 0 (map view l.items)
-          ≡ entries_faults faults (λ d. (meaning d).name) l.names (pointer l.path) l.place
-          (map view (drop l.place l.items));
-      fields : l.fields.items ++ map meaning (map view (drop l.place l.items)) ≡ map meaning (map view l.items);
+          ≡ entries_faults faults (λ d. (meaning d).name) l.names (pointer l.path) l.index
+          (map view (drop l.index l.items));
+      fields : l.fields.items ++ map meaning (map view (drop l.index l.items)) ≡ map meaning (map view l.items);
     }

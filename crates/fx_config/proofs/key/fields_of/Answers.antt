@@ -10,23 +10,23 @@ pub returns-in_err-field : goal.returns-in_err-field
 returns-in_err-field c =
     let i = c.loop-item.invariant in
     let v = c.item-item.result in
-    let here = item_here c.args.items.now c.loop-item.place c.loop-item.item-index v i.place (omega arith)
+    let here = item_here c.args.items.now c.loop-item.index c.loop-item.item-index v i.place (omega arith)
     c.item-item.is in
     exit _ _ _ _ c.from_residual.ensures (rw
-    (i.faults, next_field c.loop-item.layout (pointer c.args.path.now) c.loop-item.place c.args.items.now v here)
+    (i.faults, next_field c.loop-item.layout (pointer c.args.path.now) c.loop-item.index c.args.items.now v here)
     (refuses_more _ _ _ (rw pointer-Item at c.in_err-field.ensures)))
 
 pub returns-in_err-layout : goal.returns-in_err-layout
 returns-in_err-layout c =
     let i = c.loop-item.invariant in
     let v = c.item-item.result in
-    let here = item_here c.args.items.now c.loop-item.place c.loop-item.item-index v i.place (omega arith)
+    let here = item_here c.args.items.now c.loop-item.index c.loop-item.item-index v i.place (omega arith)
     c.item-item.is in
     let field = rw pointer-Item at c.in_ok-field.ensures in
     exit _ _ _ _ c.from_residual-in_err-layout.ensures
     (rw (
       i.faults,
-      next_field c.loop-item.layout (pointer c.args.path.now) c.loop-item.place c.args.items.now v
+      next_field c.loop-item.layout (pointer c.args.path.now) c.loop-item.index c.args.items.now v
           here,
       field.0,
     ) (refuses_more _ _ _ (rw (pointer-Item, field.1) at c.in_err-layout.ensures)))
@@ -35,20 +35,20 @@ pub loop-item-preserved : goal.loop-item-preserved
 loop-item-preserved c =
     let i = c.loop-item.invariant in
     let v = c.item-item.result in
-    let here = item_here c.args.items.now c.loop-item.place c.loop-item.item-index v i.place (omega arith)
+    let here = item_here c.args.items.now c.loop-item.index c.loop-item.item-index v i.place (omega arith)
     c.item-item.is in
     let field = rw pointer-Item at c.in_ok-field.ensures in
     let layout = rw (pointer-Item, field.1) at c.in_ok-layout.ensures in
     record {
       place = ap (λ n. n + 1) i.place;
-      faults = i.faults ∙ next_field c.loop-item.layout (pointer c.args.path.now) c.loop-item.place c.args.items.now v
+      faults = i.faults ∙ next_field c.loop-item.layout (pointer c.args.path.now) c.loop-item.index c.args.items.now v
           here ∙ rw (field.0, layout.0, layout.1) refl;
-      layout = i.layout ∙ next_layout c.loop-item.layout c.loop-item.place c.args.items.now v here ∙ rw (layout.1) refl;
+      layout = i.layout ∙ next_layout c.loop-item.layout c.loop-item.index c.args.items.now v here ∙ rw (layout.1) refl;
     }
 
 pub returns : goal.returns
 returns c =
     let i = c.loop-item.invariant in
-    let none : drop c.loop-item.place c.args.items.now ≡ [] =
-    drop_all c.loop-item.place c.args.items.now (omega (arith, i.place)) in
+    let none : drop c.loop-item.index c.args.items.now ≡ [] =
+    drop_all c.loop-item.index c.args.items.now (omega (arith, i.place)) in
     (i.faults ∙ rw none refl, sym (i.layout ∙ rw none refl))

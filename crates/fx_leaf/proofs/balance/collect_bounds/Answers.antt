@@ -5,26 +5,26 @@ use Rattle.fx_leaf.proofs.PathSelectionVerdicts.{split_by_bound}
 use Rattle.fx_leaf.proofs.balance.collect_bounds.Goals as goal
 use Rattle.fx_leaf.proofs.balance.collect_bounds.Goals.{in-Some+in_ok-push_bounds, in_default}
 
-pub loop-place-init : goal.loop-place-init
-loop-place-init c = λ net path at meets there.
+pub loop-index-init : goal.loop-index-init
+loop-index-init c = λ net path at meets there.
     absurd (let within = there.1 in let none = ap length c.clear.ensures.items in omega (arith, within, none))
 
-pub loop-place-preserved : goal.loop-place-preserved
-loop-place-preserved c = λ net path at meets there. elim c.match-met.branch [
+pub loop-index-preserved : goal.loop-index-preserved
+loop-index-preserved c = λ net path at meets there. elim c.match-met.branch [
   | in-Some+in_ok-push_bounds w ↦ elim (w.in_ok-push_bounds.ensures at
       (subst (λ (v : Vec ℕ Global). Contains v.items at) w.values-is there)) [
-        | inl before ↦ c.loop-place.invariant net path at meets before
+        | inl before ↦ c.loop-index.invariant net path at meets before
         | inr by ↦
-            let x = c.index-selections-place.result in
+            let x = c.index-selections-index.result in
             let region = c.args.region.now in
             let met = subst (Meets net path) (ap (λ (s : PathSelection). s.selection) (sym c.met.view_is))
-            (meets x (c.loop-place.place, c.loop-place-test.true, sym c.index-selections-place.is)) in
+            (meets x (c.loop-index.index, c.loop-index-test.true, sym c.index-selections-index.is)) in
             split_by_bound net path region w.in-Some.other c.met.inside.selection.now c.args.axis at
             c.bounds_hold.ensures
-            (λ apart. c.requires c.loop-place.place x c.loop-place-test.true
-            (subst (λ (s : PathSelection). IsApart region s.selection) (c.met.view_is ∙ c.index-selections-place.is)
+            (λ apart. c.requires c.loop-index.index x c.loop-index-test.true
+            (subst (λ (s : PathSelection). IsApart region s.selection) (c.met.view_is ∙ c.index-selections-index.is)
             apart)) w.in-Some.is by met
       ]
-  | in_default w ↦ c.loop-place.invariant net path at meets
+  | in_default w ↦ c.loop-index.invariant net path at meets
       (subst (λ (v : Vec ℕ Global). Contains v.items at) w.values-is there)
 ]

@@ -4,6 +4,6 @@ use Rattle.fx_leaf.specs.PathTables.{HasNoMarkOrAggregation}
 use Rattle.fx_leaf.proofs.path_scratch.take_none_in.Given as goal
 
 -- none takes records in so far
-abbrev pub invariant-loop-place : goal.invariant-loop-place
-invariant-loop-place l = (k : ℕ) (p : Process) → k < l.place → slice_get l.processes k ≡ Some p
+abbrev pub invariant-loop-index : goal.invariant-loop-index
+invariant-loop-index l = (k : ℕ) (p : Process) → k < l.index → slice_get l.processes k ≡ Some p
     → HasNoMarkOrAggregation (slice_index l.marks k) p

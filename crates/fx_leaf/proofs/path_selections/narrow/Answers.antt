@@ -4,41 +4,41 @@ use Rattle.fx_leaf.proofs.Narrowing.{IsParted, none_parted, apart_more, kept_mor
 use Rattle.fx_leaf.proofs.path_selections.narrow.Goals.{then-not-is_apart, else-not-is_apart}
 use Rattle.fx_leaf.proofs.path_selections.narrow.Goals as goal
 
-pub loop-place-init : goal.loop-place-init
-loop-place-init c = none_parted c.args.region.now c.args.selections.now
+pub loop-index-init : goal.loop-index-init
+loop-index-init c = none_parted c.args.region.now c.args.selections.now
 
-pub loop-place-preserved : goal.loop-place-preserved
-loop-place-preserved c =
+pub loop-index-preserved : goal.loop-index-preserved
+loop-index-preserved c =
     let region = c.args.region.now in
     let old = c.args.selections.now in
-    let at = c.loop-place in
-    let x = c.index-selections-place.result in
-    let same = ap (λ (s : PathSelection). s.selection) (c.index-selections-place.is ∙ sym c.met.view_is) in
+    let at = c.loop-index in
+    let x = c.index-selections-index.result in
+    let same = ap (λ (s : PathSelection). s.selection) (c.index-selections-index.is ∙ sym c.met.view_is) in
     let within = c.requires.within in
-    let lt : at.place < length at.selections = let less = c.loop-place-test.true in
+    let lt : at.index < length at.selections = let less = c.loop-index-test.true in
     omega (arith, less, within, at.auto.selections) in
     elim c.if-not-is_apart.branch [
       | then-not-is_apart w ↦
           let counts = λ (apart : IsApart region x.selection). let reported : c.is_apart.result ≡ true =
           c.is_apart.ensures.1 (subst (IsApart region) same apart) in let reported_not = w.if-not-is_apart.true in
           absurd cc in
-          subst (λ (n : ℕ). IsParted region old c.if-not-is_apart.selections n (at.place + 1)) (sym w.kept-is)
-          (subst (λ (xs : List PathSelection). IsParted region old xs (at.kept + 1) (at.place + 1))
-          (sym w.selections-is) (kept_more region old at.selections at.kept at.place x lt
-          c.index-selections-place.is at.invariant w.swap.new.self w.swap.ensures.after counts))
+          subst (λ (n : ℕ). IsParted region old c.if-not-is_apart.selections n (at.index + 1)) (sym w.kept-is)
+          (subst (λ (xs : List PathSelection). IsParted region old xs (at.kept + 1) (at.index + 1))
+          (sym w.selections-is) (kept_more region old at.selections at.kept at.index x lt
+          c.index-selections-index.is at.invariant w.swap.new.self w.swap.ensures.after counts))
       | else-not-is_apart w ↦
           let apart = subst (IsApart region) (sym same) (c.is_apart.ensures.0 w.if-not-is_apart.false) in
-          subst (λ (n : ℕ). IsParted region old c.if-not-is_apart.selections n (at.place + 1)) (sym w.kept-is)
-          (subst (λ (xs : List PathSelection). IsParted region old xs at.kept (at.place + 1)) (sym w.selections-is)
-          (apart_more region old at.selections at.kept at.place x lt c.index-selections-place.is at.invariant
+          subst (λ (n : ℕ). IsParted region old c.if-not-is_apart.selections n (at.index + 1)) (sym w.kept-is)
+          (subst (λ (xs : List PathSelection). IsParted region old xs at.kept (at.index + 1)) (sym w.selections-is)
+          (apart_more region old at.selections at.kept at.index x lt c.index-selections-index.is at.invariant
           apart))
     ]
 
 pub returns : goal.returns
 returns c =
-    let at = c.loop-place in
-    let past = c.loop-place-test.false in
-    let end : at.place ≡ c.args.active = omega arith in
+    let at = c.loop-index in
+    let past = c.loop-index-test.false in
+    let end : at.index ≡ c.args.active = omega arith in
     let h = subst (IsParted c.args.region.now c.args.selections.now at.selections at.kept) end at.invariant in
     record {
       narrowed = all_narrowed c.args.region.now c.args.selections.now at.selections at.kept c.args.active

@@ -1,5 +1,5 @@
 use Rattle.fx_leaf.proofs.Narrowing.{IsParted}
 use Rattle.fx_leaf.proofs.path_selections.narrow.Given as goal
 
-abbrev pub invariant-loop-place : goal.invariant-loop-place
-invariant-loop-place l = IsParted l.region l.initial.selections l.selections l.kept l.place
+abbrev pub invariant-loop-index : goal.invariant-loop-index
+invariant-loop-index l = IsParted l.region l.initial.selections l.selections l.kept l.index

@@ -8,7 +8,7 @@ pub returns-in_default : goal.returns-in_default
 returns-in_default c =
     let net = c.args.net.now in
     sym (ap (λ (e : Option Exporter). marks_by net c.args.layouts c.args.marks.now (before e []))
-    (past_too c.exporters.result.now net.exporters c.args.place c.exporters.ensures c.in_default.ensures.lookup.3))
+    (past_too c.exporters.result.now net.exporters c.args.index c.exporters.ensures c.in_default.ensures.lookup.3))
 
 pub returns-in-Some : goal.returns-in-Some
 returns-in-Some c =
@@ -17,4 +17,4 @@ returns-in-Some c =
     let at = c.in-Some.ensures.lookup.3 in
     c.mark_to.ensures ∙ ap (marks_to net c.args.layouts c.args.marks.now) c.destinations.ensures
     ∙ sym (ap (λ (e : Option Exporter). marks_by net c.args.layouts c.args.marks.now (before e []))
-    (there_too c.exporters.result.now net.exporters c.args.place exporter c.exporters.ensures at.0 (at.1 exporter)))
+    (there_too c.exporters.result.now net.exporters c.args.index exporter c.exporters.ensures at.0 (at.1 exporter)))

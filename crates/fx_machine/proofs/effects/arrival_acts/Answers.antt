@@ -10,9 +10,9 @@ returns-clause-ok c s e classes packets choices =
     let carried = c.args.store.now.carried in
     let rs = c.in-Some-entry_at.records.now in
     let h = c.in_ok-handling.handling in
-    let there : Some rs ≡ slice_get carried c.in-Some.place = c.in-Some-entry_at.ensures
-    ∙ ap (λ (rss : List (List Record)). slice_get rss c.in-Some.place) c.carried.ensures in
-    arrival_handled net classes packets c.args.link c.args.position choices s carried c.in-Some.place rs
+    let there : Some rs ≡ slice_get carried c.in-Some.index = c.in-Some-entry_at.ensures
+    ∙ ap (λ (rss : List (List Record)). slice_get rss c.in-Some.index) c.carried.ensures in
+    arrival_handled net classes packets c.args.link c.args.position choices s carried c.in-Some.index rs
     c.in-Some-record_numbered.found.now c.tally_when.result h.tallies h.exporters.now h.holdings.items
     (ap (λ (t : State). t.carried) e) c.in-Some.ensures there c.in-Some-record_numbered.ensures
     c.in_ok-handling.ensures c.tally_when.ensures

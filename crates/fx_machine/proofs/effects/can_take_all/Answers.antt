@@ -16,46 +16,46 @@ returns-then-holdings-choices-clause-exact c counts =
     ap (λ (o : Option Lists). is_some o) (sym
     (hold_unequal counts c.args.holdings.now c.args.held.now c.args.choices.now c.if-holdings-choices.true))
 
-pub loop-place-init : goal.loop-place-init
-loop-place-init c counts = (c.args.held.now, refl, refl)
+pub loop-index-init : goal.loop-index-init
+loop-index-init c counts = (c.args.held.now, refl, refl)
 
 pub returns-then-not-can_take-clause-exact : goal.returns-then-not-can_take-clause-exact
 returns-then-not-can_take-clause-exact c counts =
     let hs = c.args.holdings.now in
     let cs = c.args.choices.now in
-    let n = c.loop-place.place in
-    let lt = c.loop-place-test.true in
-    let h = c.index-holdings-place.result in
-    let inv = c.loop-place.invariant counts in
+    let n = c.loop-index.index in
+    let lt = c.loop-index-test.true in
+    let h = c.index-holdings-index.result in
+    let inv = c.loop-index.invariant counts in
     let no : is_some (held_with inv.0 counts h (get_or cs n None)) ≡ false = sym (c.can_take.ensures counts inv.0 inv.1)
     ∙ c.if-not-can_take.true in
     let refused : hold_all counts (drop n hs) inv.0 (drop n cs) ≡ None =
     one_refuses counts (drop n hs) (drop (n + 1) hs) (drop n cs) (drop (n + 1) cs) h (get_or cs n None) inv.0
-    (rest_at hs n h lt c.index-holdings-place.is)
+    (rest_at hs n h lt c.index-holdings-index.is)
     (at_drop_more (λ (rest : Choices). rest) cs n None (omega (arith, lt, c.if-holdings-choices.false)))
     (none_where_false (held_with inv.0 counts h (get_or cs n None)) no) in
     ap (λ (o : Option Lists). is_some o) (sym (inv.2 ∙ refused))
 
-pub loop-place-preserved : goal.loop-place-preserved
-loop-place-preserved c counts =
+pub loop-index-preserved : goal.loop-index-preserved
+loop-index-preserved c counts =
     let hs = c.args.holdings.now in
     let cs = c.args.choices.now in
     let held = c.args.held.now in
-    let n = c.loop-place.place in
-    let lt = c.loop-place-test.true in
+    let n = c.loop-index.index in
+    let lt = c.loop-index-test.true in
     let lt' : n < length cs = omega (arith, lt, c.if-holdings-choices.false) in
-    let h = c.index-holdings-place.result in
-    let inv = c.loop-place.invariant counts in
+    let h = c.index-holdings-index.result in
+    let inv = c.loop-index.invariant counts in
     let yes : is_some (held_with inv.0 counts h (get_or cs n None)) ≡ true = sym (c.can_take.ensures counts inv.0 inv.1)
     ∙ c.if-not-can_take.false in
     let next = some_where_true (held_with inv.0 counts h (get_or cs n None)) yes in
     let more_hs : take (n + 1) hs ≡ take n hs ++ h ∷ [] = take_more hs n h lt
-    ∙ ap (λ (x : Holding). take n hs ++ x ∷ []) (sym c.index-holdings-place.is) in (
+    ∙ ap (λ (x : Holding). take n hs ++ x ∷ []) (sym c.index-holdings-index.is) in (
       next.0,
       ap₂ (λ (xs : List Holding) (ys : Choices). hold_all counts xs held ys) more_hs (take_more cs n None lt')
           ∙ one_more counts (take n hs) held (take n cs) inv.0 next.0 h (get_or cs n None) inv.1 next.1,
       inv.2 ∙ one_holds counts (drop n hs) (drop (n + 1) hs) (drop n cs) (drop (n + 1) cs) h (get_or cs n None) inv.0
-          next.0 (rest_at hs n h lt c.index-holdings-place.is) (at_drop_more (λ (rest : Choices). rest) cs n None lt')
+          next.0 (rest_at hs n h lt c.index-holdings-index.is) (at_drop_more (λ (rest : Choices). rest) cs n None lt')
           next.1,
     )
 
@@ -63,8 +63,8 @@ pub returns-clause-exact : goal.returns-clause-exact
 returns-clause-exact c counts =
     let hs = c.args.holdings.now in
     let cs = c.args.choices.now in
-    let n = c.loop-place.place in
-    let inv = c.loop-place.invariant counts in
+    let n = c.loop-index.index in
+    let inv = c.loop-index.invariant counts in
     ap (λ (o : Option Lists). is_some o) (sym
-    (inv.2 ∙ none_holds counts (drop n hs) (drop n cs) inv.0 (drop_all n hs c.loop-place-test.false)
-    (drop_all n cs (omega (arith, c.loop-place-test.false, c.if-holdings-choices.false)))))
+    (inv.2 ∙ none_holds counts (drop n hs) (drop n cs) inv.0 (drop_all n hs c.loop-index-test.false)
+    (drop_all n cs (omega (arith, c.loop-index-test.false, c.if-holdings-choices.false)))))

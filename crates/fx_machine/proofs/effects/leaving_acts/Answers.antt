@@ -13,10 +13,10 @@ returns-clause-ok c s e classes packets choices =
     let net = c.args.net.now in
     let held = c.args.store.now.held in
     let rs = c.in-Some-entry_at.records.now in
-    let there : Some rs ≡ slice_get held c.in-Some.place = c.in-Some-entry_at.ensures
-    ∙ ap (λ (rss : List (List Record)). slice_get rss c.in-Some.place) c.held.ensures in
+    let there : Some rs ≡ slice_get held c.in-Some.index = c.in-Some-entry_at.ensures
+    ∙ ap (λ (rss : List (List Record)). slice_get rss c.in-Some.index) c.held.ensures in
     subst (λ (hs : List Holding). IsHandled net classes packets (Expire c.args.holder c.args.position choices) s
     Untallied c.named_by.result.now hs) (sym c.new.ensures.items)
-    (leaving_handled net classes packets c.args.holder c.args.position choices s held c.in-Some.place rs
+    (leaving_handled net classes packets c.args.holder c.args.position choices s held c.in-Some.index rs
     c.in-Some-record_numbered._found.now c.named_by.result.now (ap (λ (t : State). t.held) e) c.in-Some.ensures
     there c.in-Some-record_numbered.ensures c.named_by.ensures)

@@ -18,54 +18,54 @@ returns-then-met-choices-clause-err c =
     λ e. c.if-met-choices.true (sym (length-map met (holding_of holders packet.fields)) ∙ e) in
     inr (c.bare.ensures, hold_unequal (one_packet packet) hs c.args.held.now.items c.args.choices.now differ)
 
-pub loop-place-init : goal.loop-place-init
-loop-place-init c = record {
+pub loop-index-init : goal.loop-index-init
+loop-index-init c = record {
   so_far = refl;
   back =
       ap (λ (log : List Taking). undone log c.args.held.now.items) c.clear.ensures.items;
 }
 
-pub loop-place-preserved : goal.loop-place-preserved
-loop-place-preserved c =
+pub loop-index-preserved : goal.loop-index-preserved
+loop-index-preserved c =
     let met = c.args.met.now in
     let cs = c.args.choices.now in
-    let n = c.loop-place.place in
+    let n = c.loop-index.index in
     let of = met_holdings c.args.net.now.holders c.args.packet.now.fields in
     let first = ap of (at_drop_more (λ (rest : List Occurrence). rest) met n
-    (record { point = 0; process = 0; holder = 0 }) c.loop-place-test.true) in
+    (record { point = 0; process = 0; holder = 0 }) c.loop-index-test.true) in
     record {
-      so_far = c.loop-place.invariant.so_far ∙ one_holds (one_packet c.args.packet.now) (of (drop n met))
+      so_far = c.loop-index.invariant.so_far ∙ one_holds (one_packet c.args.packet.now) (of (drop n met))
           (of (drop (n + 1) met)) (drop n cs) (drop (n + 1) cs)
           (holding_of c.args.net.now.holders c.args.packet.now.fields
-          (get_or met n (record { point = 0; process = 0; holder = 0 }))) _ c.loop-place.held.items
+          (get_or met n (record { point = 0; process = 0; holder = 0 }))) _ c.loop-index.held.items
           c.hold_next.new.held.items first (at_drop_more (λ (rest : List (Option ℕ)). rest) cs n _
-          (omega (arith, c.loop-place-test.true, c.if-met-choices.false))) c.in_default.ensures.ok.0;
-      back = c.in_default.ensures.ok.1 ∙ c.loop-place.invariant.back;
+          (omega (arith, c.loop-index-test.true, c.if-met-choices.false))) c.in_default.ensures.ok.0;
+      back = c.in_default.ensures.ok.1 ∙ c.loop-index.invariant.back;
     }
 
 pub returns-in-Err : goal.returns-in-Err
 returns-in-Err c =
     let met = c.args.met.now in
     let cs = c.args.choices.now in
-    let n = c.loop-place.place in
+    let n = c.loop-index.index in
     let of = met_holdings c.args.net.now.holders c.args.packet.now.fields in
     let first = ap of (at_drop_more (λ (rest : List Occurrence). rest) met n
-    (record { point = 0; process = 0; holder = 0 }) c.loop-place-test.true) in
+    (record { point = 0; process = 0; holder = 0 }) c.loop-index-test.true) in
     record {
       ok = tt;
-      same = all_undone c.loop-place.log.items c.hold_next.new.log.items c.as_slice.result.now c.loop-place.held.items
+      same = all_undone c.loop-index.log.items c.hold_next.new.log.items c.as_slice.result.now c.loop-index.held.items
           c.hold_next.new.held.items c.args.held.now.items c.give_all_back.new.held.items c.give_all_back.ensures
-          c.as_slice.ensures.value c.in-Err.ensures.same.0 c.in-Err.ensures.same.1 c.loop-place.invariant.back;
+          c.as_slice.ensures.value c.in-Err.ensures.same.0 c.in-Err.ensures.same.1 c.loop-index.invariant.back;
       err = elim c.in-Err.ensures.err [
         | inl memory ↦ inl memory
         | inr wrong ↦ inr (
           wrong.0,
-          c.loop-place.invariant.so_far
+          c.loop-index.invariant.so_far
               ∙ one_refuses (one_packet c.args.packet.now) (of (drop n met)) (of (drop (n + 1) met)) (drop n cs)
               (drop (n + 1) cs) (holding_of c.args.net.now.holders c.args.packet.now.fields
-              (get_or met n (record { point = 0; process = 0; holder = 0 }))) _ c.loop-place.held.items first
+              (get_or met n (record { point = 0; process = 0; holder = 0 }))) _ c.loop-index.held.items first
               (at_drop_more (λ (rest : List (Option ℕ)). rest) cs n _
-              (omega (arith, c.loop-place-test.true, c.if-met-choices.false))) wrong.1,
+              (omega (arith, c.loop-index-test.true, c.if-met-choices.false))) wrong.1,
         )
       ];
     }
@@ -74,12 +74,12 @@ pub returns : goal.returns
 returns c =
     let met = c.args.met.now in
     let cs = c.args.choices.now in
-    let n = c.loop-place.place in
+    let n = c.loop-index.index in
     let of = met_holdings c.args.net.now.holders c.args.packet.now.fields in
     record {
-      ok = c.loop-place.invariant.so_far ∙ none_holds (one_packet c.args.packet.now) (of (drop n met)) (drop n cs)
-          c.loop-place.held.items (ap of (drop_all n met c.loop-place-test.false))
-          (drop_all n cs (omega (arith, c.loop-place-test.false, c.if-met-choices.false)));
+      ok = c.loop-index.invariant.so_far ∙ none_holds (one_packet c.args.packet.now) (of (drop n met)) (drop n cs)
+          c.loop-index.held.items (ap of (drop_all n met c.loop-index-test.false))
+          (drop_all n cs (omega (arith, c.loop-index-test.false, c.if-met-choices.false)));
       same = tt;
       err = tt;
     }

@@ -10,22 +10,22 @@ returns-then-values-parts c =
     let value = λ (part : Part). leading_bits (axis_width part.axis) part.bits (field c.args.fields.now part.axis) in
     sym (not_as_many value c.args.values.now c.args.parts.now c.if-values-parts.true)
 
-pub loop-place-preserved : goal.loop-place-preserved
-loop-place-preserved c =
+pub loop-index-preserved : goal.loop-index-preserved
+loop-index-preserved c =
     let value = λ (part : Part). leading_bits (axis_width part.axis) part.bits (field c.args.fields.now part.axis) in
-    c.loop-place.invariant ∙ one_same value c.args.values.now c.args.parts.now c.loop-place.place _
-    c.loop-place-test.true (omega (arith, c.loop-place-test.true, c.if-values-parts.false))
-    (c.if-values-place.false ∙ c.value_for.ensures)
+    c.loop-index.invariant ∙ one_same value c.args.values.now c.args.parts.now c.loop-index.index _
+    c.loop-index-test.true (omega (arith, c.loop-index-test.true, c.if-values-parts.false))
+    (c.if-values-index.false ∙ c.value_for.ensures)
 
-pub returns-then-values-place : goal.returns-then-values-place
-returns-then-values-place c =
+pub returns-then-values-index : goal.returns-then-values-index
+returns-then-values-index c =
     let value = λ (part : Part). leading_bits (axis_width part.axis) part.bits (field c.args.fields.now part.axis) in
-    sym (c.loop-place.invariant ∙ one_differs value c.args.values.now c.args.parts.now c.loop-place.place _
-    c.loop-place-test.true (omega (arith, c.loop-place-test.true, c.if-values-parts.false))
-    (λ same. c.if-values-place.true (same ∙ sym c.value_for.ensures)))
+    sym (c.loop-index.invariant ∙ one_differs value c.args.values.now c.args.parts.now c.loop-index.index _
+    c.loop-index-test.true (omega (arith, c.loop-index-test.true, c.if-values-parts.false))
+    (λ same. c.if-values-index.true (same ∙ sym c.value_for.ensures)))
 
 pub returns : goal.returns
 returns c =
     let value = λ (part : Part). leading_bits (axis_width part.axis) part.bits (field c.args.fields.now part.axis) in
-    sym (c.loop-place.invariant ∙ all_same value c.args.values.now c.args.parts.now c.loop-place.place
-    c.loop-place-test.false (omega (arith, c.loop-place-test.false, c.if-values-parts.false)))
+    sym (c.loop-index.invariant ∙ all_same value c.args.values.now c.args.parts.now c.loop-index.index
+    c.loop-index-test.false (omega (arith, c.loop-index-test.false, c.if-values-parts.false)))

@@ -9,7 +9,7 @@ returns-in-None c = record {
   ok = (
     omega arith,
     λ rest. ap (λ o. chosen_from c.args.links.now.items (before o rest) c.args.choices.now)
-        (slice_get_past c.args.exporters.now c.args.place c.in-None.ensures.lookup.3),
+        (slice_get_past c.args.exporters.now c.args.index c.in-None.ensures.lookup.3),
   );
   err = tt;
 }
@@ -18,6 +18,6 @@ pub returns-in-Some : goal.returns-in-Some
 returns-in-Some c =
     let exporter = c.in-Some.exporter.now in
     let there = c.in-Some.ensures.lookup.3 in
-    let found : slice_get c.args.exporters.now c.args.place ≡ Some exporter =
-    slice_get-get_or c.args.exporters.now c.args.place exporter there.0 ∙ ap Some (sym (there.1 exporter)) in
+    let found : slice_get c.args.exporters.now c.args.index ≡ Some exporter =
+    slice_get-get_or c.args.exporters.now c.args.index exporter there.0 ∙ ap Some (sym (there.1 exporter)) in
     rw found (record { ok = c.choose.ensures.ok; err = c.choose.ensures.err })

@@ -9,8 +9,8 @@ pub returns-in-Some-clause-ok : goal.returns-in-Some-clause-ok
 returns-in-Some-clause-ok c =
     let old = c.index_mut-total.result.now in
     let with' : Counts → Record = λ x. record { key = old.key; counts = x } in
-    first_found c.in-Some.place c.args.totals.now.items c.args.key c.args.counts.now old (with' c.add-total.result)
-    (subst (λ (xs : List Record). FirstAt c.in-Some.place xs c.args.key) c.deref.ensures.value
+    first_found c.in-Some.index c.args.totals.now.items c.args.key c.args.counts.now old (with' c.add-total.result)
+    (subst (λ (xs : List Record). FirstAt c.in-Some.index xs c.args.key) c.deref.ensures.value
     c.in-Some.ensures.some) c.index_mut-total.ensures.value (ap with' c.add-total.ensures)
 
 pub returns-clause-ok : goal.returns-clause-ok

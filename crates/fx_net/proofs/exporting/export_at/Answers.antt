@@ -8,19 +8,19 @@ use Rattle.fx_net.proofs.exporting.export_at.Goals as goal
 
 pub returns-in-None-clause-ok : goal.returns-in-None-clause-ok
 returns-in-None-clause-ok c =
-    let number = number_in_use c.args.chosen.now c.args.place in
+    let number = number_in_use c.args.chosen.now c.args.index in
     sym (ap (λ (e : Option Exporter). put_each c.args.time c.args.flow.now (used_by e number) c.args.links.now.items)
-    (none_in c.exporters.result.now c.args.net.now.exporters c.args.place c.exporters.ensures
+    (none_in c.exporters.result.now c.args.net.now.exporters c.args.index c.exporters.ensures
     c.in-None.ensures.lookup.3))
 
 pub returns-in-Some-clause-ok : goal.returns-in-Some-clause-ok
 returns-in-Some-clause-ok c =
     let links = c.args.links.now.items in
-    let number = number_in_use c.args.chosen.now c.args.place in
+    let number = number_in_use c.args.chosen.now c.args.index in
     let exporter = c.in-Some.exporter.now in
     let at = c.in-Some.ensures.lookup.3 in
-    let there : slice_get c.args.net.now.exporters c.args.place ≡ Some exporter =
-    found_in c.exporters.result.now c.args.net.now.exporters c.args.place exporter c.exporters.ensures at.0
+    let there : slice_get c.args.net.now.exporters c.args.index ≡ Some exporter =
+    found_in c.exporters.result.now c.args.net.now.exporters c.args.index exporter c.exporters.ensures at.0
     (at.1 exporter) in
     on_ok_weaker c.export.result
     (λ sent. sent ∙ ap (λ (n : ℕ). put_each c.args.time c.args.flow.now (links_of_exporter exporter n) links)

@@ -5,10 +5,10 @@ use Rattle.fx_net.specs.Finishing.{PutsAll}
 use Rattle.fx_net.proofs.ChangedLists.{mapped}
 use Rattle.fx_net.proofs.finishing.finish_all.Given as goal
 
-abbrev pub invariant-loop-place : goal.invariant-loop-place
-invariant-loop-place g l = record {
-  lines : l.lines.items ≡ mapped (after_finish l.time) l.place l.initial.lines.items;
+abbrev pub invariant-loop-index : goal.invariant-loop-index
+invariant-loop-index g l = record {
+  lines : l.lines.items ≡ mapped (after_finish l.time) l.index l.initial.lines.items;
   put : PutsAll (g.L.Links.put_on l.initial.links) (g.L.Links.put_on l.links) l.time
-      (take l.place l.initial.lines.items);
+      (take l.index l.initial.lines.items);
   going : g.L.Links.failed l.initial.links ≡ false → g.L.Links.failed l.links ≡ false;
 }

@@ -25,7 +25,7 @@ returns-in-Some-store-clause-value c = c.take_least.ensures.value
 pub returns-in-Some-store-clause-rest : goal.returns-in-Some-store-clause-rest
 returns-in-Some-store-clause-rest c =
     let xs = c.args.stores.now.items in
-    let n = c.args.place in
+    let n = c.args.index in
     let old = c.in-Some-store.store in
     without_some xs n old c.take_least.new.self c.take_least.result c.in-Some.ensures.item.3.0
     (subst (λ (x : Option Stored). x ≡ get_or xs n x) c.in-Some-store.is c.in-Some.ensures.value)

@@ -8,18 +8,18 @@ use Rattle.fx_net.proofs.taking.add_packet.Goals as goal
 
 pub returns-in_default-clause-ok : goal.returns-in_default-clause-ok
 returns-in_default-clause-ok c =
-    let h : Holding = record { holder = c.args.place; key = key_of c.args.layout.now c.args.fields.now } in
+    let h : Holding = record { holder = c.args.index; key = key_of c.args.layout.now c.args.fields.now } in
     holding_past c.args.counts h c.args.stores.now.items c.args.left.now.items c.in_default.ensures.item.3
 
 pub returns-in_default-store-clause-ok : goal.returns-in_default-store-clause-ok
 returns-in_default-store-clause-ok c =
-    let h : Holding = record { holder = c.args.place; key = key_of c.args.layout.now c.args.fields.now } in
+    let h : Holding = record { holder = c.args.index; key = key_of c.args.layout.now c.args.fields.now } in
     holding_none c.args.counts h c.args.stores.now.items c.args.left.now.items c.in-Some.store.now
     c.in-Some.ensures.item.3.0 c.in-Some.ensures.value c.in_default-store.is
 
 pub returns-in-Ok-None-clause-ok : goal.returns-in-Ok-None-clause-ok
 returns-in-Ok-None-clause-ok c =
-    let h : Holding = record { holder = c.args.place; key = key_of c.args.layout.now c.args.fields.now } in
+    let h : Holding = record { holder = c.args.index; key = key_of c.args.layout.now c.args.fields.now } in
     let counts = c.args.counts in
     let stores = c.args.stores.now.items in
     let left = c.args.left.now.items in
@@ -31,7 +31,7 @@ returns-in-Ok-None-clause-ok c =
 
 pub returns-in-Ok-Some-clause-ok : goal.returns-in-Ok-Some-clause-ok
 returns-in-Ok-Some-clause-ok c =
-    let h : Holding = record { holder = c.args.place; key = key_of c.args.layout.now c.args.fields.now } in
+    let h : Holding = record { holder = c.args.index; key = key_of c.args.layout.now c.args.fields.now } in
     let counts = c.args.counts in
     let stores = c.args.stores.now.items in
     let left = c.args.left.now.items in

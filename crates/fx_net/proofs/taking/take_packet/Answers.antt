@@ -38,12 +38,12 @@ returns-in-None-clause-passing c =
 pub returns-in-Some-clause-ok : goal.returns-in-Some-clause-ok
 returns-in-Some-clause-ok c =
     let net = c.args.net.now in
-    let place = c.args.occurrence.now.holder in
+    let index = c.args.occurrence.now.holder in
     let holder = c.in-Some.holder.now in
     let at = c.in-Some.ensures.lookup.3 in
-    let with : Layout → Holding = λ l. record { holder = place; key = key_of l c.args.fields.now } in
-    let layout : c.layout.result.now ≡ layout_of (slice_get net.holders place) =
-    c.layout.ensures ∙ sym (ap layout_of (found_in c.holders.result.now net.holders place holder c.holders.ensures at.0
+    let with : Layout → Holding = λ l. record { holder = index; key = key_of l c.args.fields.now } in
+    let layout : c.layout.result.now ≡ layout_of (slice_get net.holders index) =
+    c.layout.ensures ∙ sym (ap layout_of (found_in c.holders.result.now net.holders index holder c.holders.ensures at.0
     (at.1 holder))) in
     let adding : Adding = record { stores = c.args.stores.now.items; left = c.args.leavers.now.left.items } in
     on_ok_weaker c.add_packet.result (λ added. added
@@ -52,14 +52,14 @@ returns-in-Some-clause-ok c =
 pub returns-in-Some-clause-passing : goal.returns-in-Some-clause-passing
 returns-in-Some-clause-passing c =
     let stores = c.args.stores.now.items in
-    let place = c.args.occurrence.now.holder in
+    let index = c.args.occurrence.now.holder in
     let h : Holding = record {
-      holder = place;
+      holder = index;
       key =
-          key_of (layout_of (slice_get c.args.net.now.holders place)) c.args.fields.now;
+          key_of (layout_of (slice_get c.args.net.now.holders index)) c.args.fields.now;
     } in
-    let holds : is_immediate (stored_at stores place) ≡ false =
-    sym (c.is_immediate.ensures ∙ ap (λ xs. is_immediate (stored_at xs place)) c.as_slice.ensures.value)
+    let holds : is_immediate (stored_at stores index) ≡ false =
+    sym (c.is_immediate.ensures ∙ ap (λ xs. is_immediate (stored_at xs index)) c.as_slice.ensures.value)
     ∙ c.if-is_immediate.false in
     on_ok_weaker c.add_packet.result (λ _. none_at_once stores c.args.counts h c.args.leavers.now.passing.items holds)
     c.add_packet.ensures.ok

@@ -7,20 +7,20 @@ use Rattle.fx_parts.specs.Meters.{cached}
 use Rattle.fx_parts.proofs.Metered.{flat_step}
 use Rattle.fx_parts.proofs.meters.push_all_cached.Goals as goal
 
-pub loop-place-preserved : goal.loop-place-preserved
-loop-place-preserved c =
-    let x = c.index-selections-place.result in
-    let k = c.loop-place.place in
+pub loop-index-preserved : goal.loop-index-preserved
+loop-index-preserved c =
+    let x = c.index-selections-index.result in
+    let k = c.loop-index.index in
     let front = c.args.found.now.items in
     let xs = c.args.selections.now in
     let new = cached x in
-    c.in_ok-push_cached.ensures ∙ ap (λ (ys : List Selection). ys ++ new) c.loop-place.invariant
+    c.in_ok-push_cached.ensures ∙ ap (λ (ys : List Selection). ys ++ new) c.loop-index.invariant
     ∙ append_assoc front (flat_map cached (take k xs)) new
     ∙ ap (λ (ys : List Selection). front ++ ys)
-    (sym (flat_step cached xs k x c.loop-place-test.true c.index-selections-place.is))
+    (sym (flat_step cached xs k x c.loop-index-test.true c.index-selections-index.is))
 
-pub loop-place-init : goal.loop-place-init
-loop-place-init c = sym (append-nil c.args.found.now.items)
+pub loop-index-init : goal.loop-index-init
+loop-index-init c = sym (append-nil c.args.found.now.items)
 
 pub returns-in_err-push_cached : goal.returns-in_err-push_cached
 returns-in_err-push_cached c =
@@ -30,5 +30,5 @@ returns-in_err-push_cached c =
 pub returns : goal.returns
 returns c =
     let front = c.args.found.now.items in
-    c.loop-place.invariant ∙ ap (λ ys. front ++ flat_map cached ys)
-    (take_all c.loop-place.place c.args.selections.now c.loop-place-test.false)
+    c.loop-index.invariant ∙ ap (λ ys. front ++ flat_map cached ys)
+    (take_all c.loop-index.index c.args.selections.now c.loop-index-test.false)

@@ -3,5 +3,5 @@ use Rattle.std.specs.Prelude.{flat_map}
 use Rattle.fx_parts.specs.Meters.{cached}
 use Rattle.fx_parts.proofs.meters.push_all_cached.Given as goal
 
-abbrev pub invariant-loop-place : goal.invariant-loop-place
-invariant-loop-place l = l.found.items ≡ l.initial.found.items ++ flat_map cached (take l.place l.selections)
+abbrev pub invariant-loop-index : goal.invariant-loop-index
+invariant-loop-index l = l.found.items ≡ l.initial.found.items ++ flat_map cached (take l.index l.selections)

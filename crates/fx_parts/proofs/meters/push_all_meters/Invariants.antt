@@ -3,5 +3,5 @@ use Rattle.std.specs.Prelude.{flat_map}
 use Rattle.fx_parts.specs.Meters.{meters_of}
 use Rattle.fx_parts.proofs.meters.push_all_meters.Given as goal
 
-abbrev pub invariant-loop-place : goal.invariant-loop-place
-invariant-loop-place l = l.found.items ≡ l.initial.found.items ++ flat_map (meters_of l.net) (take l.place l.path)
+abbrev pub invariant-loop-index : goal.invariant-loop-index
+invariant-loop-index l = l.found.items ≡ l.initial.found.items ++ flat_map (meters_of l.net) (take l.index l.path)

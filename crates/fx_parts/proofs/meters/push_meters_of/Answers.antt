@@ -7,20 +7,20 @@ use Rattle.fx_parts.specs.Meters.{meters_at}
 use Rattle.fx_parts.proofs.Metered.{flat_step}
 use Rattle.fx_parts.proofs.meters.push_meters_of.Goals as goal
 
-pub loop-place-preserved : goal.loop-place-preserved
-loop-place-preserved c =
-    let x = c.index-points-place.result in
-    let k = c.loop-place.place in
+pub loop-index-preserved : goal.loop-index-preserved
+loop-index-preserved c =
+    let x = c.index-points-index.result in
+    let k = c.loop-index.index in
     let front = c.args.found.now.items in
     let xs = c.args.points.now in
     let new = (meters_at c.args.crossing.now) x in
-    c.in_ok-push_meters_at.ensures ∙ ap (λ (ys : List Selection). ys ++ new) c.loop-place.invariant
+    c.in_ok-push_meters_at.ensures ∙ ap (λ (ys : List Selection). ys ++ new) c.loop-index.invariant
     ∙ append_assoc front (flat_map (meters_at c.args.crossing.now) (take k xs)) new
     ∙ ap (λ (ys : List Selection). front ++ ys)
-    (sym (flat_step (meters_at c.args.crossing.now) xs k x c.loop-place-test.true c.index-points-place.is))
+    (sym (flat_step (meters_at c.args.crossing.now) xs k x c.loop-index-test.true c.index-points-index.is))
 
-pub loop-place-init : goal.loop-place-init
-loop-place-init c = sym (append-nil c.args.found.now.items)
+pub loop-index-init : goal.loop-index-init
+loop-index-init c = sym (append-nil c.args.found.now.items)
 
 pub returns-in_err-push_meters_at : goal.returns-in_err-push_meters_at
 returns-in_err-push_meters_at c =
@@ -30,5 +30,5 @@ returns-in_err-push_meters_at c =
 pub returns : goal.returns
 returns c =
     let front = c.args.found.now.items in
-    c.loop-place.invariant ∙ ap (λ ys. front ++ flat_map (meters_at c.args.crossing.now) ys)
-    (take_all c.loop-place.place c.args.points.now c.loop-place-test.false)
+    c.loop-index.invariant ∙ ap (λ ys. front ++ flat_map (meters_at c.args.crossing.now) ys)
+    (take_all c.loop-index.index c.args.points.now c.loop-index-test.false)

@@ -14,17 +14,17 @@ none_more : (numbers found now : List ProcessNumber) (p : ℕ) (rest : List ℕ)
     → now ++ at_places numbers rest ≡ found ++ at_places numbers (p ∷ rest)
 none_more numbers found now p rest is e = rw (e, ← is) refl
 
-pub loop-place-preserved : goal.loop-place-preserved
-loop-place-preserved c =
+pub loop-index-preserved : goal.loop-index-preserved
+loop-index-preserved c =
     let xs = c.args.places.now in
-    let n = c.loop-place.place-index in
-    let left : drop n xs ≡ get_or xs n 0 ∷ drop (n + 1) xs = drop_more xs n 0 c.loop-place-test.true in
+    let n = c.loop-index.index-index in
+    let left : drop n xs ≡ get_or xs n 0 ∷ drop (n + 1) xs = drop_more xs n 0 c.loop-index-test.true in
     elim c.match-number_at.branch [
-      | in-Some+in_ok-push w ↦ one_more c.args.numbers.now c.loop-place.found.items c.match-number_at.found.items
+      | in-Some+in_ok-push w ↦ one_more c.args.numbers.now c.loop-index.found.items c.match-number_at.found.items
           (get_or xs n 0) (drop (n + 1) xs) w.in-Some.number w.in-Some.ensures
           (ap (λ (v : Vec ProcessNumber Global). v.items) w.found-is ∙ w.in_ok-push.ensures.items)
-          ∙ (rw left at c.loop-place.invariant)
-      | in_default w ↦ none_more c.args.numbers.now c.loop-place.found.items c.match-number_at.found.items
+          ∙ (rw left at c.loop-index.invariant)
+      | in_default w ↦ none_more c.args.numbers.now c.loop-index.found.items c.match-number_at.found.items
           (get_or xs n 0) (drop (n + 1) xs) w.in_default.ensures
-          (ap (λ (v : Vec ProcessNumber Global). v.items) w.found-is) ∙ (rw left at c.loop-place.invariant)
+          (ap (λ (v : Vec ProcessNumber Global). v.items) w.found-is) ∙ (rw left at c.loop-index.invariant)
     ]

@@ -4,6 +4,6 @@ use Rattle.fx_ranks.specs.Feeding.{leads_at}
 use Rattle.fx_ranks.proofs.feeders.any_leads.Given as goal
 
 -- none at the places so far leads to the process
-abbrev pub invariant-loop-place : goal.invariant-loop-place
-invariant-loop-place l = list_any (λ place. leads_at l.linked l.process (slice_get l.linked.exporters place))
-    (take l.place-index l.places) ≡ false
+abbrev pub invariant-loop-index : goal.invariant-loop-index
+invariant-loop-index l = list_any (λ index. leads_at l.linked l.process (slice_get l.linked.exporters index))
+    (take l.index-index l.places) ≡ false

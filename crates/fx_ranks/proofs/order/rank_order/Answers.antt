@@ -18,43 +18,43 @@ next_here net order rows come e c = ready_position (λ (row : Vec Bool Global). 
     (λ q p. feeds net p q) (length net.processes) rows come (λ q. refl) e c
 
 -- the flags after a process came
-record Flags (net : Net) (order : List ℕ) (come : List Bool) (place : ℕ) : Type 0 where
-  within : place < length come
-  set : slice_set come place true ≡ map (is_in (order ++ place ∷ [])) (places_of net)
-  counted : count_by (λ c. not c) (slice_set come place true) + 1 ≡ count_by (λ c. not c) come
+record Flags (net : Net) (order : List ℕ) (come : List Bool) (index : ℕ) : Type 0 where
+  within : index < length come
+  set : slice_set come index true ≡ map (is_in (order ++ index ∷ [])) (places_of net)
+  counted : count_by (λ c. not c) (slice_set come index true) + 1 ≡ count_by (λ c. not c) come
 
-others_kept : (order : List ℕ) (place k : ℕ) → (k ≡ place → ⊥) → is_in (order ++ place ∷ []) k ≡ is_in order k
-others_kept order place k other =
+others_kept : (order : List ℕ) (index k : ℕ) → (k ≡ index → ⊥) → is_in (order ++ index ∷ []) k ≡ is_in order k
+others_kept order index k other =
     elim (cases_Bool (is_in order k)) [
-      | inl e ↦ come_kept order place k e ∙ sym e
+      | inl e ↦ come_kept order index k e ∙ sym e
       | inr e ↦
-          elim (cases_Bool (is_in (order ++ place ∷ []) k)) [
-            | inl f ↦ elim (come_more order place k f)
+          elim (cases_Bool (is_in (order ++ index ∷ []) k)) [
+            | inl f ↦ elim (come_more order index k f)
                 [ inl g ↦ absurd (both_ways (is_in order k) e g) | inr g ↦ absurd (other (sym g)) ]
             | inr f ↦ f ∙ sym e
           ]
     ]
 
-flags_here : (net : Net) (order : List ℕ) (come : List Bool) (place : ℕ) → come ≡ map (is_in order) (places_of net)
-    → next net order ≡ Some place → Flags net order come place
-flags_here net order come place e n =
-    let ready = next_is_ready net order place n in
-    let low : place < length net.processes = ready.within in
+flags_here : (net : Net) (order : List ℕ) (come : List Bool) (index : ℕ) → come ≡ map (is_in order) (places_of net)
+    → next net order ≡ Some index → Flags net order come index
+flags_here net order come index e n =
+    let ready = next_is_ready net order index n in
+    let low : index < length net.processes = ready.within in
     let long : length come ≡ length net.processes = ap length e
     ∙ length-map-range_with_len (is_in order) 0 (length net.processes) in
-    let within : place < length come = omega arith in
-    let clear : get_or come place true ≡ false = ap (λ (l : List Bool). get_or l place true) e
-    ∙ (get_or-map-range_with_len (is_in order) 0 (length net.processes) place place true low (omega arith)
+    let within : index < length come = omega arith in
+    let clear : get_or come index true ≡ false = ap (λ (l : List Bool). get_or l index true) e
+    ∙ (get_or-map-range_with_len (is_in order) 0 (length net.processes) index index true low (omega arith)
     ∙ ready.new) in
     record {
       within = within;
-      set = flags_set (is_in order) (is_in (order ++ place ∷ [])) place (length net.processes) come e low
-          (come_last order place) (others_kept order place);
-      counted = count_set come place within clear;
+      set = flags_set (is_in order) (is_in (order ++ index ∷ [])) index (length net.processes) come e low
+          (come_last order index) (others_kept order index);
+      counted = count_set come index within clear;
     }
 
-pub loop-place-init : goal.loop-place-init
-loop-place-init c =
+pub loop-index-init : goal.loop-index-init
+loop-index-init c =
     let count : length c.processes.result.now ≡ length c.args.net.now.processes = ap length c.processes.ensures in
     let made = c.in_ok-come.ensures.items_if_clones_equal (λ y e. e) in
     record {
@@ -66,53 +66,53 @@ loop-place-init c =
 
 pub index_mut-requires : goal.index_mut-requires
 index_mut-requires c =
-    let i = c.loop-place.invariant in
-    let n = c.in-Some.ensures ∙ next_here c.args.net.now c.loop-place.order.items c.as_slice.result.now
-    c.as_slice-in-loop-place.result.now (ap (map (λ (row : Vec Bool Global). row.items)) c.as_slice.ensures.value
-    ∙ c.in_ok-feeders.ensures) (c.as_slice-in-loop-place.ensures.value ∙ i.flags) in
-    let low : c.in-Some.place < length c.loop-place.come.items =
-    (flags_here c.args.net.now c.loop-place.order.items c.loop-place.come.items c.in-Some.place i.flags
+    let i = c.loop-index.invariant in
+    let n = c.in-Some.ensures ∙ next_here c.args.net.now c.loop-index.order.items c.as_slice.result.now
+    c.as_slice-in-loop-index.result.now (ap (map (λ (row : Vec Bool Global). row.items)) c.as_slice.ensures.value
+    ∙ c.in_ok-feeders.ensures) (c.as_slice-in-loop-index.ensures.value ∙ i.flags) in
+    let low : c.in-Some.index < length c.loop-index.come.items =
+    (flags_here c.args.net.now c.loop-index.order.items c.loop-index.come.items c.in-Some.index i.flags
     (sym n)).within in
-    subst (λ (x : ℕ). c.in-Some.place < x) (ap length (sym c.as_slice-in-loop-place.ensures.value)
-    ∙ c.as_slice-in-loop-place.ensures.len) low
+    subst (λ (x : ℕ). c.in-Some.index < x) (ap length (sym c.as_slice-in-loop-index.ensures.value)
+    ∙ c.as_slice-in-loop-index.ensures.len) low
 
-pub loop-place-smaller : goal.loop-place-smaller
-loop-place-smaller c =
-    let i = c.loop-place.invariant in
-    let n = c.in-Some.ensures ∙ next_here c.args.net.now c.loop-place.order.items c.as_slice.result.now
-    c.as_slice-in-loop-place.result.now (ap (map (λ (row : Vec Bool Global). row.items)) c.as_slice.ensures.value
-    ∙ c.in_ok-feeders.ensures) (c.as_slice-in-loop-place.ensures.value ∙ i.flags) in
-    let less : count_by (λ c. not c) (slice_set c.loop-place.come.items c.in-Some.place true) + 1
-    ≡ count_by (λ c. not c) c.loop-place.come.items =
-    (flags_here c.args.net.now c.loop-place.order.items c.loop-place.come.items c.in-Some.place i.flags
+pub loop-index-smaller : goal.loop-index-smaller
+loop-index-smaller c =
+    let i = c.loop-index.invariant in
+    let n = c.in-Some.ensures ∙ next_here c.args.net.now c.loop-index.order.items c.as_slice.result.now
+    c.as_slice-in-loop-index.result.now (ap (map (λ (row : Vec Bool Global). row.items)) c.as_slice.ensures.value
+    ∙ c.in_ok-feeders.ensures) (c.as_slice-in-loop-index.ensures.value ∙ i.flags) in
+    let less : count_by (λ c. not c) (slice_set c.loop-index.come.items c.in-Some.index true) + 1
+    ≡ count_by (λ c. not c) c.loop-index.come.items =
+    (flags_here c.args.net.now c.loop-index.order.items c.loop-index.come.items c.in-Some.index i.flags
     (sym n)).counted in
     omega (arith, less)
 
-pub loop-place-preserved : goal.loop-place-preserved
-loop-place-preserved c =
-    let i = c.loop-place.invariant in
+pub loop-index-preserved : goal.loop-index-preserved
+loop-index-preserved c =
+    let i = c.loop-index.invariant in
     let net = c.args.net.now in
-    let order = c.loop-place.order.items in
-    let place = c.in-Some.place in
-    let n = sym (c.in-Some.ensures ∙ next_here c.args.net.now c.loop-place.order.items c.as_slice.result.now
-    c.as_slice-in-loop-place.result.now (ap (map (λ (row : Vec Bool Global). row.items)) c.as_slice.ensures.value
-    ∙ c.in_ok-feeders.ensures) (c.as_slice-in-loop-place.ensures.value ∙ i.flags)) in
-    let here = flags_here net order c.loop-place.come.items place i.flags n in
+    let order = c.loop-index.order.items in
+    let index = c.in-Some.index in
+    let n = sym (c.in-Some.ensures ∙ next_here c.args.net.now c.loop-index.order.items c.as_slice.result.now
+    c.as_slice-in-loop-index.result.now (ap (map (λ (row : Vec Bool Global). row.items)) c.as_slice.ensures.value
+    ∙ c.in_ok-feeders.ensures) (c.as_slice-in-loop-index.ensures.value ∙ i.flags)) in
+    let here = flags_here net order c.loop-index.come.items index i.flags n in
     let longer = c.in_ok-push.ensures.items in
-    let less : count_by (λ c. not c) (slice_set c.loop-place.come.items c.in-Some.place true) + 1
-    ≡ count_by (λ c. not c) c.loop-place.come.items = here.counted in
-    let before : length order + count_by (λ c. not c) c.loop-place.come.items ≡ length net.processes = i.counted in
+    let less : count_by (λ c. not c) (slice_set c.loop-index.come.items c.in-Some.index true) + 1
+    ≡ count_by (λ c. not c) c.loop-index.come.items = here.counted in
+    let before : length order + count_by (λ c. not c) c.loop-index.come.items ≡ length net.processes = i.counted in
     record {
       flags = rw longer here.set;
-      so_far = λ rest h. rw longer (rw (append_assoc order (place ∷ []) rest)
-          (i.so_far (place ∷ rest) (n, rw longer at h)));
-      counted = rw longer (rw (length-append order (place ∷ [])) (omega (arith, less, before)));
+      so_far = λ rest h. rw longer (rw (append_assoc order (index ∷ []) rest)
+          (i.so_far (index ∷ rest) (n, rw longer at h)));
+      counted = rw longer (rw (length-append order (index ∷ [])) (omega (arith, less, before)));
     }
 
 pub returns-clause-order : goal.returns-clause-order
 returns-clause-order c =
-    let i = c.loop-place.invariant in
-    let n = c.in_default.ensures ∙ next_here c.args.net.now c.loop-place.order.items c.as_slice.result.now
-    c.as_slice-in-loop-place.result.now (ap (map (λ (row : Vec Bool Global). row.items)) c.as_slice.ensures.value
-    ∙ c.in_ok-feeders.ensures) (c.as_slice-in-loop-place.ensures.value ∙ i.flags) in
+    let i = c.loop-index.invariant in
+    let n = c.in_default.ensures ∙ next_here c.args.net.now c.loop-index.order.items c.as_slice.result.now
+    c.as_slice-in-loop-index.result.now (ap (map (λ (row : Vec Bool Global). row.items)) c.as_slice.ensures.value
+    ∙ c.in_ok-feeders.ensures) (c.as_slice-in-loop-index.ensures.value ∙ i.flags) in
     rw append-nil at (i.so_far [] (sym n))

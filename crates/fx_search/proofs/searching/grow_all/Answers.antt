@@ -9,7 +9,7 @@ use Rattle.fx_search.proofs.searching.grow_all.Goals as goal
 
 pub grow-requires-clause-ahead : goal.grow-requires-clause-ahead
 grow-requires-clause-ahead g c =
-    let t = c.index-targets-place.result in
+    let t = c.index-targets-index.result in
     let w : Waiting = record { ahead = root t; active = c.begin-active.result } in
     let one : c.open.new.self.ahead.items ≡ w ∷ [] = c.in_ok-open.ensures.ahead
     ∙ ap (λ (ws : List Waiting). ws ++ w ∷ []) c.targets.invariant.empty in
@@ -18,16 +18,16 @@ grow-requires-clause-ahead g c =
 
 pub returns-then-is_some-clause-grown : goal.returns-then-is_some-clause-grown
 returns-then-is_some-clause-grown g c all version grew =
-    let t = c.index-targets-place.result in
+    let t = c.index-targets-index.result in
     let w : Waiting = record { ahead = root t; active = c.begin-active.result } in
     let one : c.open.new.self.ahead.items ≡ w ∷ [] = c.in_ok-open.ensures.ahead
     ∙ ap (λ (ws : List Waiting). ws ++ w ∷ []) c.targets.invariant.empty in
     let same : c.open.new.self.items.items ≡ c.targets.growth.items.items = let e = c.in_ok-open.ensures.items in cc in
     let begun = opened c.args.tables.now.net all version c.args.most c.targets.growth.items.items
-    c.open.new.self.items.items c.targets.growth.lines c.open.new.self.lines c.args.targets.now c.targets.place t
-    c.open.new.self.ahead.items c.begin-active.result c.targets-test.true c.index-targets-place.is one same
+    c.open.new.self.items.items c.targets.growth.lines c.open.new.self.lines c.args.targets.now c.targets.index t
+    c.open.new.self.ahead.items c.begin-active.result c.targets-test.true c.index-targets-index.is one same
     c.in_ok-open.ensures.lines (c.targets.invariant.growing all version grew) in
-    let later = map root (drop (c.targets.place + 1) c.args.targets.now) in
+    let later = map root (drop (c.targets.index + 1) c.args.targets.now) in
     some_grown c.args.tables.now.net all version c.args.most c.grow.new.growth.items.items c.grow.new.growth.lines later
     c.in_ok-stop.stop (sym c.is_some.ensures ∙ c.if-is_some.true)
     (c.in_ok-stop.ensures.grown all version later begun)
@@ -41,7 +41,7 @@ targets-preserved g c =
       empty = done.0;
       few = done.1;
       growing = λ all version grew.
-          let t = c.index-targets-place.result in
+          let t = c.index-targets-index.result in
           let w : Waiting = record { ahead = root t; active = c.begin-active.result } in
           let one : c.open.new.self.ahead.items ≡ w ∷ [] = c.in_ok-open.ensures.ahead
           ∙ ap (λ (ws : List Waiting). ws ++ w ∷ []) c.targets.invariant.empty in
@@ -49,10 +49,10 @@ targets-preserved g c =
           cc in
           let begun = opened c.args.tables.now.net all version c.args.most c.targets.growth.items.items
           c.open.new.self.items.items c.targets.growth.lines c.open.new.self.lines c.args.targets.now
-          c.targets.place t c.open.new.self.ahead.items c.begin-active.result c.targets-test.true
-          c.index-targets-place.is one same c.in_ok-open.ensures.lines
+          c.targets.index t c.open.new.self.ahead.items c.begin-active.result c.targets-test.true
+          c.index-targets-index.is one same c.in_ok-open.ensures.lines
           (c.targets.invariant.growing all version grew) in
-          let later = map root (drop (c.targets.place + 1) c.args.targets.now) in
+          let later = map root (drop (c.targets.index + 1) c.args.targets.now) in
           subst (IsGrown c.args.tables.now.net all version c.args.most c.grow.new.growth.items.items
           c.grow.new.growth.lines later) none (c.in_ok-stop.ensures.grown all version later begun);
     }
@@ -61,5 +61,5 @@ pub returns-clause-grown : goal.returns-clause-grown
 returns-clause-grown g c all version grew =
     let past = c.targets-test.false in
     subst (λ (ts : List Target). IsGrowing c.args.tables.now.net all version c.args.most c.targets.growth.items.items
-    c.targets.growth.lines (map root ts)) (drop_none c.args.targets.now c.targets.place past)
+    c.targets.growth.lines (map root ts)) (drop_none c.args.targets.now c.targets.index past)
     (c.targets.invariant.growing all version grew)

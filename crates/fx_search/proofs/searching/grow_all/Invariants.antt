@@ -15,5 +15,5 @@ invariant-targets g l = record {
   growing : (all : List Target) (version : Version)
       → IsGrowing l.tables.net all version l.most l.fn.growth.items.items l.fn.growth.lines (map root l.targets)
       → IsGrowing l.tables.net all version l.most l.growth.items.items l.growth.lines
-      (map root (drop l.place l.targets));
+      (map root (drop l.index l.targets));
 }

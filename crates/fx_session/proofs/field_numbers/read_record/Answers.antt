@@ -7,29 +7,29 @@ use Rattle.fx_session.proofs.field_numbers.read_record.Goals as goal
 
 pub returns-in-None-clause-none : goal.returns-in-None-clause-none
 returns-in-None-clause-none c =
-    let inv = c.loop-place.invariant in
+    let inv = c.loop-index.invariant in
     ap (λ (fs : List FieldSpecifier). record_at fs c.args.octets.now) (sym c.fields-fields.ensures) ∙ inv.2
-    ∙ ap (before_values inv.0) (record_at-cut_at c.fields-fields.result.now c.loop-place.place _
-    c.loop-place.rest.now c.loop-place-test.true c.in-None.ensures)
+    ∙ ap (before_values inv.0) (record_at-cut_at c.fields-fields.result.now c.loop-index.index _
+    c.loop-index.rest.now c.loop-index-test.true c.in-None.ensures)
 
-pub loop-place-preserved : goal.loop-place-preserved
-loop-place-preserved c =
-    let inv = c.loop-place.invariant in (
+pub loop-index-preserved : goal.loop-index-preserved
+loop-index-preserved c =
+    let inv = c.loop-index.invariant in (
       inv.0 ++ _ ∷ [],
-      c.note.ensures inv.0 _ (element_at c.fields-fields.result.now _ c.elements-elements.result.now c.loop-place.place
-          _ _ c.fields-fields.ensures c.elements-elements.ensures c.loop-place-test.true) inv.1,
-      inv.2 ∙ ap (before_values inv.0) (record_at-some_at c.fields-fields.result.now c.loop-place.place _
-          c.loop-place.rest.now _ c.loop-place-test.true c.in-Some.ensures)
+      c.note.ensures inv.0 _ (element_at c.fields-fields.result.now _ c.elements-elements.result.now c.loop-index.index
+          _ _ c.fields-fields.ensures c.elements-elements.ensures c.loop-index-test.true) inv.1,
+      inv.2 ∙ ap (before_values inv.0) (record_at-some_at c.fields-fields.result.now c.loop-index.index _
+          c.loop-index.rest.now _ c.loop-index-test.true c.in-Some.ensures)
           ∙ before_values-again inv.0 _ _,
     )
 
 pub returns-clause-some : goal.returns-clause-some
 returns-clause-some c =
-    let inv = c.loop-place.invariant in (
+    let inv = c.loop-index.invariant in (
       inv.0,
       ap (λ (fs : List FieldSpecifier). record_at fs c.args.octets.now) (sym c.fields-fields.ensures) ∙ inv.2
-          ∙ ap (before_values inv.0) (record_at-all c.fields-fields.result.now c.loop-place.place c.loop-place.rest.now
-          c.loop-place-test.false)
-          ∙ ap (λ (l : List Value). Some (l, c.loop-place.rest.now)) (append-nil inv.0),
+          ∙ ap (before_values inv.0) (record_at-all c.fields-fields.result.now c.loop-index.index c.loop-index.rest.now
+          c.loop-index-test.false)
+          ∙ ap (λ (l : List Value). Some (l, c.loop-index.rest.now)) (append-nil inv.0),
       inv.1,
     )

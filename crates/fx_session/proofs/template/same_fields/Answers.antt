@@ -6,15 +6,15 @@ pub returns-then-a-b : goal.returns-then-a-b
 returns-then-a-b c = sym (same_fields-apart c.args.a.now c.args.b.now c.if-a-b.true)
 
 pub returns-then-not-same_field : goal.returns-then-not-same_field
-returns-then-not-same_field c = sym (c.loop-place.invariant
-    ∙ same_fields-differ c.args.a.now c.args.b.now c.loop-place.place _ _ _ (omega arith) (omega arith)
+returns-then-not-same_field c = sym (c.loop-index.invariant
+    ∙ same_fields-differ c.args.a.now c.args.b.now c.loop-index.index _ _ _ (omega arith) (omega arith)
     c.same_field.ensures c.if-not-same_field.true)
 
-pub loop-place-preserved : goal.loop-place-preserved
-loop-place-preserved c = c.loop-place.invariant
-    ∙ same_fields-agree c.args.a.now c.args.b.now c.loop-place.place _ _ _ (omega arith) (omega arith)
+pub loop-index-preserved : goal.loop-index-preserved
+loop-index-preserved c = c.loop-index.invariant
+    ∙ same_fields-agree c.args.a.now c.args.b.now c.loop-index.index _ _ _ (omega arith) (omega arith)
     c.same_field.ensures c.if-not-same_field.false
 
 pub returns : goal.returns
-returns c = sym (c.loop-place.invariant
-    ∙ same_fields-end c.args.a.now c.args.b.now c.loop-place.place (omega arith) (omega arith))
+returns c = sym (c.loop-index.invariant
+    ∙ same_fields-end c.args.a.now c.args.b.now c.loop-index.index (omega arith) (omega arith))

@@ -7,22 +7,22 @@ use Rattle.fx_tables.specs.Occurrences.{watches, met_by, met_at}
 use Rattle.fx_tables.proofs.Meterings.{met_at_first}
 use Rattle.fx_tables.proofs.metering.push_met_of.Goals as goal
 
-pub loop-place-preserved : goal.loop-place-preserved
-loop-place-preserved c =
-    let p = c.index-points-place.result in
-    let k = c.loop-place.place in
+pub loop-index-preserved : goal.loop-index-preserved
+loop-index-preserved c =
+    let p = c.index-points-index.result in
+    let k = c.loop-index.index in
     let front = c.args.found.now.items in
     let ps = c.args.points.now in
     let f = c.args.fields.now in
     let x = c.args.crossing.now in
     let new = cond (watches p x) (met_by (k + 1) 1 p.selections f) [] in
-    c.in_ok-push_met_at.ensures ∙ ap (λ (xs : List Occurrence). xs ++ new) c.loop-place.invariant
+    c.in_ok-push_met_at.ensures ∙ ap (λ (xs : List Occurrence). xs ++ new) c.loop-index.invariant
     ∙ append_assoc front (met_at 1 (take k ps) x f) new
     ∙ ap (λ (xs : List Occurrence). front ++ xs)
-    (sym (met_at_first k ps x f p c.loop-place-test.true c.index-points-place.is))
+    (sym (met_at_first k ps x f p c.loop-index-test.true c.index-points-index.is))
 
-pub loop-place-init : goal.loop-place-init
-loop-place-init c = sym (append-nil c.args.found.now.items)
+pub loop-index-init : goal.loop-index-init
+loop-index-init c = sym (append-nil c.args.found.now.items)
 
 pub returns-in_err-push_met_at : goal.returns-in_err-push_met_at
 returns-in_err-push_met_at c =
@@ -32,5 +32,5 @@ returns-in_err-push_met_at c =
 pub returns : goal.returns
 returns c =
     let front = c.args.found.now.items in
-    c.loop-place.invariant ∙ ap (λ (ps : List Point). front ++ met_at 1 ps c.args.crossing.now c.args.fields.now)
-    (take_all c.loop-place.place c.args.points.now c.loop-place-test.false)
+    c.loop-index.invariant ∙ ap (λ (ps : List Point). front ++ met_at 1 ps c.args.crossing.now c.args.fields.now)
+    (take_all c.loop-index.index c.args.points.now c.loop-index-test.false)

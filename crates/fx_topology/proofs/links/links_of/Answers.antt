@@ -13,7 +13,7 @@ loop-item-preserved c =
     let i = c.loop-item.invariant in
     let item = c.item-item.result in
     let xs = c.args.items.now in
-    let n = c.loop-item.place in
+    let n = c.loop-item.index in
     let link = link_of (view item) in
     let before = c.loop-item.links in
     let left = ap (λ (vs : List Value). map view vs)
@@ -32,15 +32,15 @@ returns-in_err-add_link c =
     let i = c.loop-item.invariant in
     let item = c.item-item.result in
     let left = ap (λ (vs : List Value). map view vs)
-    (drop_item c.args.items.now c.loop-item.place c.loop-item.item-index item i.place c.loop-item-test.true
+    (drop_item c.args.items.now c.loop-item.index c.loop-item.item-index item i.place c.loop-item-test.true
     c.item-item.is) in
     exit _ _ _ _ c.from_residual.ensures (rw i.faults
-    (refused_here c.args.devices.now c.loop-item.links (pointer c.args.path.now) c.loop-item.place (view item) _ _ _
+    (refused_here c.args.devices.now c.loop-item.links (pointer c.args.path.now) c.loop-item.index (view item) _ _ _
     left (rw pointer-Item at c.in_err-add_link.ensures.reads)))
 
 pub returns : goal.returns
 returns c =
     let i = c.loop-item.invariant in
-    let none : drop c.loop-item.place c.args.items.now ≡ [] =
-    drop_all c.loop-item.place c.args.items.now (omega (arith, i.place)) in
+    let none : drop c.loop-item.index c.args.items.now ≡ [] =
+    drop_all c.loop-item.index c.args.items.now (omega (arith, i.place)) in
     (i.faults ∙ rw none refl, rw (none, append-nil) at i.links)

@@ -7,8 +7,8 @@ use Rattle.fx_topology.proofs.links.links_of.Given as goal
 abbrev pub invariant-loop-item : goal.invariant-loop-item
 invariant-loop-item l =
     record {
-      place : l.place ≡ l.item-index;
+      index : l.index ≡ l.item-index;
       faults : links_faults l.devices [] (pointer l.path) 0 (map view l.items)
-          ≡ links_faults l.devices l.links (pointer l.path) l.place (map view (drop l.place l.items));
-      links : l.links ++ map link_of (map view (drop l.place l.items)) ≡ map link_of (map view l.items);
+          ≡ links_faults l.devices l.links (pointer l.path) l.index (map view (drop l.index l.items));
+      links : l.links ++ map link_of (map view (drop l.index l.items)) ≡ map link_of (map view l.items);
     }

@@ -10,8 +10,8 @@ invariant-loop-item g l =
     let faults = class_faults (map g.T.Named.name l.devices) in
     let meaning = class_of (map g.T.Named.name l.devices) in
     record {
-      place : l.place ≡ l.item-index;
+      index : l.index ≡ l.item-index;
       faults : entries_faults faults class_name [] (pointer l.path) 0 (map view l.items)
-          ≡ entries_faults faults class_name l.names (pointer l.path) l.place (map view (drop l.place l.items));
-      classes : l.classes.items ++ map meaning (map view (drop l.place l.items)) ≡ map meaning (map view l.items);
+          ≡ entries_faults faults class_name l.names (pointer l.path) l.index (map view (drop l.index l.items));
+      classes : l.classes.items ++ map meaning (map view (drop l.index l.items)) ≡ map meaning (map view l.items);
     }

@@ -9,8 +9,8 @@ invariant-loop-item g l =
     let faults = g.T.FromValueAmong.faults (map g.D.Named.name l.devices) in
     let meaning = g.T.FromValueAmong.meaning (map g.D.Named.name l.devices) in
     record {
-      place : l.place ≡ l.item-index;
+      index : l.index ≡ l.item-index;
       faults : items_faults faults (pointer l.path) 0 (map view l.items)
-          ≡ items_faults faults (pointer l.path) l.place (map view (drop l.place l.items));
-      values : l.values.items ++ map meaning (map view (drop l.place l.items)) ≡ map meaning (map view l.items);
+          ≡ items_faults faults (pointer l.path) l.index (map view (drop l.index l.items));
+      values : l.values.items ++ map meaning (map view (drop l.index l.items)) ≡ map meaning (map view l.items);
     }

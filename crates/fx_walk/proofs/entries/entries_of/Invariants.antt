@@ -10,11 +10,11 @@ invariant-loop-item g l =
     let meaning = g.T.Entry.meaning in
     let name = g.T.Entry.name in
     record {
-      place : l.place ≡ l.item-index;
+      index : l.index ≡ l.item-index;
       faults : entries_faults faults (λ d. name (meaning d)) [] (pointer l.path) 0 (map view l.items)
-          ≡ entries_faults faults (λ d. name (meaning d)) l.names (pointer l.path) l.place
-          (map view (drop l.place l.items));
-      values : l.values.items ++ map meaning (map view (drop l.place l.items)) ≡ map meaning (map view l.items);
-      names : l.names ++ map name (map meaning (map view (drop l.place l.items)))
+          ≡ entries_faults faults (λ d. name (meaning d)) l.names (pointer l.path) l.index
+          (map view (drop l.index l.items));
+      values : l.values.items ++ map meaning (map view (drop l.index l.items)) ≡ map meaning (map view l.items);
+      names : l.names ++ map name (map meaning (map view (drop l.index l.items)))
           ≡ map name (map meaning (map view l.items));
     }

@@ -7,7 +7,7 @@ abbrev pub invariant-loop-item : goal.invariant-loop-item
 invariant-loop-item g l =
     let faults = g.T.Refers.faults l.known in
     record {
-      place : l.place ≡ l.item-index;
+      index : l.index ≡ l.item-index;
       faults : items_faults faults (pointer l.path) 0 l.items
-          ≡ items_faults faults (pointer l.path) l.place (drop l.place l.items);
+          ≡ items_faults faults (pointer l.path) l.index (drop l.index l.items);
     }

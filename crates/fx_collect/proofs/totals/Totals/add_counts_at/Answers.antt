@@ -23,7 +23,7 @@ invariant_of-self c =
     let values = c.args.values.now in
     kept c.args.self.now c.self.inside.layout c.self.inside.counts.entries _ values _
     (ap (λ (t : Totals). t.layout) c.self.view_is) c.requires c.self.invariant
-    (put_at c.self.inside.counts.entries values c.in-Some.place c.index_mut-total.result.now c.args.counts.now
+    (put_at c.self.inside.counts.entries values c.in-Some.index c.index_mut-total.result.now c.args.counts.now
     c.add.result (sym c.in-Some.ensures.index) (sym c.in-Some.ensures.value ∙ c.index_mut-total.ensures.value)
     c.add.ensures)
 
@@ -57,7 +57,7 @@ returns-clause-ok c =
     elim c.match-get_index_of.branch [
       | in-Some w ↦ w.self-is ∙ counted c.args.self.now c.self.inside.layout es _ c.self.inside.unassigned values
           c.args.counts.now c.self.view_is
-          (put_at es values w.in-Some.place w.index_mut-total.result.now c.args.counts.now w.add.result
+          (put_at es values w.in-Some.index w.index_mut-total.result.now c.args.counts.now w.add.result
           (sym w.in-Some.ensures.index) (sym w.in-Some.ensures.value ∙ w.index_mut-total.ensures.value)
           w.add.ensures)
       | in-None+in_ok-insert-in-None w ↦ w.self-is

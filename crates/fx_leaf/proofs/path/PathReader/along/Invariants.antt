@@ -3,8 +3,8 @@ use Rattle.fx_leaf.specs.Leaves.{AddsVerdicts}
 use Rattle.fx_leaf.specs.Verdicts.{verdict, path_verdicts}
 use Rattle.fx_leaf.proofs.path.PathReader.along.Given as goal
 
-abbrev pub invariant-loop-place : goal.invariant-loop-place
-invariant-loop-place l =
+abbrev pub invariant-loop-index : goal.invariant-loop-index
+invariant-loop-index l =
     let net = l.self.verdicts.tables.now.net in
     let region = l.self.verdicts.region.now in
-    AddsVerdicts l.initial.known l.known (path_verdicts (verdict net region) net region 1 (take l.place l.path))
+    AddsVerdicts l.initial.known l.known (path_verdicts (verdict net region) net region 1 (take l.index l.path))

@@ -9,19 +9,19 @@ use Rattle.fx_leaf.proofs.PathSelectionVerdicts.{known_more, of_one}
 use Rattle.fx_leaf.proofs.PathSplits.{exit_with}
 use Rattle.fx_leaf.proofs.path.PathReader.known_of.Goals as goal
 
-pub loop-place-init : goal.loop-place-init
-loop-place-init c = adds_nothing nothing_known
+pub loop-index-init : goal.loop-index-init
+loop-index-init c = adds_nothing nothing_known
 
-pub loop-place-preserved : goal.loop-place-preserved
-loop-place-preserved c =
+pub loop-index-preserved : goal.loop-index-preserved
+loop-index-preserved c =
     let net = c.args.self.now.verdicts.tables.now.net in
     let region = c.args.self.now.verdicts.region.now in
-    let x = c.index-selections-place.result in
+    let x = c.index-selections-index.result in
     let same = c.met.view_is in
-    let new = subst (λ (s : PathSelection). AddsVerdicts c.loop-place.known c.in_ok-known.known
+    let new = subst (λ (s : PathSelection). AddsVerdicts c.loop-index.known c.in_ok-known.known
     (of_one (verdict net region) net region s)) same c.in_ok-known.ensures.ok in
-    known_more (verdict net region) net region c.loop-place.place c.args.selections.now x nothing_known
-    c.loop-place.known c.in_ok-known.known c.loop-place-test.true c.index-selections-place.is c.loop-place.invariant
+    known_more (verdict net region) net region c.loop-index.index c.args.selections.now x nothing_known
+    c.loop-index.known c.in_ok-known.known c.loop-index-test.true c.index-selections-index.is c.loop-index.invariant
     new
 
 pub selection-requires-clause-along : goal.selection-requires-clause-along
@@ -30,8 +30,8 @@ selection-requires-clause-along c =
     let same = c.met.view_is in
     subst (HoldsBehindSelection t.net t.numbering (IsMarked c.args.self.now.marks.now))
     (ap (λ (s : PathSelection). s.selection) (sym same))
-    (c.requires.along c.index-selections-place.result
-    (c.loop-place.place, c.loop-place-test.true, sym c.index-selections-place.is))
+    (c.requires.along c.index-selections-index.result
+    (c.loop-index.index, c.loop-index-test.true, sym c.index-selections-index.is))
 
 pub returns-in_err-known-clause-err : goal.returns-in_err-known-clause-err
 returns-in_err-known-clause-err c =
@@ -39,8 +39,8 @@ returns-in_err-known-clause-err c =
     exit_with _ _ _ c.from_residual.ensures
     (λ path. λ all. c.in_err-known.ensures.err path
     (subst (Meets c.args.self.now.verdicts.tables.now.net path) (ap (λ (s : PathSelection). s.selection) (sym same))
-    (all c.index-selections-place.result (
-      c.loop-place.place,
-      c.loop-place-test.true,
-      sym c.index-selections-place.is,
+    (all c.index-selections-index.result (
+      c.loop-index.index,
+      c.loop-index-test.true,
+      sym c.index-selections-index.is,
     ))))

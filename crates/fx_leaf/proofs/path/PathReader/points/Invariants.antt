@@ -3,9 +3,9 @@ use Rattle.fx_leaf.specs.Leaves.{AddsVerdicts}
 use Rattle.fx_leaf.specs.Verdicts.{verdict, crossing_verdicts}
 use Rattle.fx_leaf.proofs.path.PathReader.points.Given as goal
 
-abbrev pub invariant-loop-place : goal.invariant-loop-place
-invariant-loop-place l =
+abbrev pub invariant-loop-index : goal.invariant-loop-index
+invariant-loop-index l =
     let net = l.self.verdicts.tables.now.net in
     let region = l.self.verdicts.region.now in
     AddsVerdicts l.initial.known l.known (crossing_verdicts (verdict net region) net region l.number 1
-    (take l.place l.points) l.crossing)
+    (take l.index l.points) l.crossing)

@@ -3,9 +3,9 @@ use Rattle.fx_leaf.specs.Leaves.{AddsVerdicts}
 use Rattle.fx_leaf.specs.Verdicts.{verdict, point_verdicts}
 use Rattle.fx_leaf.proofs.path.PathReader.selections.Given as goal
 
-abbrev pub invariant-loop-place : goal.invariant-loop-place
-invariant-loop-place l =
+abbrev pub invariant-loop-index : goal.invariant-loop-index
+invariant-loop-index l =
     let net = l.self.verdicts.tables.now.net in
     let region = l.self.verdicts.region.now in
     AddsVerdicts l.initial.known l.known (point_verdicts (verdict net region) net region l.crossing l.point 1
-    (take l.place l.selections))
+    (take l.index l.selections))

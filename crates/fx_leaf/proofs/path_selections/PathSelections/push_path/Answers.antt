@@ -9,19 +9,19 @@ use Rattle.fx_leaf.proofs.path_selections.PathSelections.push_path.Goals as goal
 
 pub push_points-requires : goal.push_points-requires
 push_points-requires c =
-    let at = c.loop-place in
-    let x = c.index-path-place.result in
+    let at = c.loop-index in
+    let x = c.index-path-index.result in
     let net = c.args.net.now in
     let cs = c.args.path.now in
     let ps = points_of (entry_numbered net.devices x.device) in
-    let here : drop at.place cs ≡ x ∷ drop (at.place + 1) cs = drop_here cs at.place x c.loop-place-test.true
-    ∙ ap (λ (y : Crossing). y ∷ drop (at.place + 1) cs) (sym c.index-path-place.is) in
+    let here : drop at.index cs ≡ x ∷ drop (at.index + 1) cs = drop_here cs at.index x c.loop-index-test.true
+    ∙ ap (λ (y : Crossing). y ∷ drop (at.index + 1) cs) (sym c.index-path-index.is) in
     let every = path_selections net 1 cs in
     let all = length-append c.args.self.now.items every in
     let room = at.invariant.1 in
-    let fits = room_for at.self.items (crossing_selections (at.place + 1) 1 ps x)
-    (path_selections net (at.place + 1 + 1) (drop (at.place + 1) cs)) (c.args.self.now.items ++ every) at.self.room
-    (ap (λ (xs : List Crossing). at.self.items ++ path_selections net (at.place + 1) xs) (sym here)
+    let fits = room_for at.self.items (crossing_selections (at.index + 1) 1 ps x)
+    (path_selections net (at.index + 1 + 1) (drop (at.index + 1) cs)) (c.args.self.now.items ++ every) at.self.room
+    (ap (λ (xs : List Crossing). at.self.items ++ path_selections net (at.index + 1) xs) (sym here)
     ∙ at.invariant.0) (omega (arith, all, room, c.requires)) in
-    subst (λ (qs : List Point). length at.self.items + length (crossing_selections (at.place + 1) 1 qs x)
+    subst (λ (qs : List Point). length at.self.items + length (crossing_selections (at.index + 1) 1 qs x)
     ≤ at.self.room) (sym c.points_of.ensures) fits

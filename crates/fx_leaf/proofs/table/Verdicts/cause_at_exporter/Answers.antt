@@ -10,7 +10,7 @@ use Rattle.fx_leaf.proofs.table.Verdicts.cause_at_exporter.Goals as goal
 pub returns-in-Some-clause-none : goal.returns-in-Some-clause-none
 returns-in-Some-clause-none c =
     let there = c.in-Some.ensures.lookup.3 in
-    by_place_none c.args.self.now.rows.now c.args.self.now.tables.now.net c.args.number c.args.place
+    by_place_none c.args.self.now.rows.now c.args.self.now.tables.now.net c.args.number c.args.index
     c.exporters.result.now c.in-Some.exporter.now c.destinations.result.now c.cause_among_destinations.result
     (c.exporters.ensures ∙ ap (λ (n : Net). n.exporters) c.net.ensures) there.0 (there.1 c.in-Some.exporter.now)
     c.destinations.ensures c.cause_among_destinations.ensures.none
@@ -22,13 +22,13 @@ returns-in-None-clause-none c = λ h.
     let sent : Option Exporter → Verdict = λ e. sent_verdict (entry c.args.self.now.rows.now) net c.args.number
     (before e []) in
     let none : Some Never ≡ None = sym (ap sent
-    (past_too c.exporters.result.now net.exporters c.args.place same c.in-None.ensures.lookup.3)) ∙ h in
+    (past_too c.exporters.result.now net.exporters c.args.index same c.in-None.ensures.lookup.3)) ∙ h in
     absurd (cc)
 
 pub returns-in-Some-clause-some : goal.returns-in-Some-clause-some
 returns-in-Some-clause-some c =
     let there = c.in-Some.ensures.lookup.3 in
-    by_place c.args.self.now.rows.now c.args.self.now.tables.now.net c.args.number c.args.place c.exporters.result.now
+    by_place c.args.self.now.rows.now c.args.self.now.tables.now.net c.args.number c.args.index c.exporters.result.now
     c.in-Some.exporter.now c.destinations.result.now c.cause_among_destinations.result
     (c.exporters.ensures ∙ ap (λ (n : Net). n.exporters) c.net.ensures) there.0 (there.1 c.in-Some.exporter.now)
     c.destinations.ensures c.cause_among_destinations.ensures.some

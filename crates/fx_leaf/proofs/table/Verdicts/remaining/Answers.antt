@@ -16,8 +16,8 @@ returns-clause-remain c =
     let matches = c.args.self.now.matches.now in
     let found = c.in-Some.matches.now in
     let at = c.in-Some.ensures.lookup.3 in
-    let there = there_too matches matches c.args.place found refl at.0 (at.1 found) in
-    let same = c.args.self.now.listed c.args.place found there
+    let there = there_too matches matches c.args.index found refl at.0 (at.1 found) in
+    let same = c.args.self.now.listed c.args.index found there
     ∙ ap (λ (p : Option Process). aggregations_of p) c.requires.there in
     subst (λ (l : List AggregationEntry). AreRemaining c.args.self.now.region.now l c.remaining.result) same
     c.remaining.ensures.remain

@@ -20,13 +20,13 @@ pub returns-in_err-links-clause-err : goal.returns-in_err-links-clause-err
 returns-in_err-links-clause-err c =
     let in' = c.self.inside in
     let net = c.args.net.now in
-    let place = c.in-Some.place in
+    let index = c.in-Some.index in
     let rs = c.in-Some-entry_at.records.now in
     let r = c.copy-entry.result in
     let cs = c.args.choices.now in
     let h' = c.in_ok-handling.handling in
-    let k : Some rs ≡ slice_get in'.carried.items place = c.in-Some-entry_at.ensures
-    ∙ ap (λ (x : List (List Record)). slice_get x place) c.as_slice.ensures.value in
+    let k : Some rs ≡ slice_get in'.carried.items index = c.in-Some-entry_at.ensures
+    ∙ ap (λ (x : List (List Record)). slice_get x index) c.as_slice.ensures.value in
     let n : Some r ≡ entry_numbered rs c.args.number = ap Some c.copy-entry.ensures ∙ c.in-Some-record_numbered.ensures
     in
     let p = err_from_is_err_and c.from_residual-in_err-links.result c.from_residual-in_err-links.ensures.1 in
@@ -35,7 +35,7 @@ returns-in_err-links-clause-err c =
       | inr b ↦ (
         ap (λ (f : Fault). f.place) b.0,
         inr (λ s e. arrive_is net c.args.link c.args.number cs (coming_of 1 in'.to_come.items) in'.held.items
-            in'.carried.items in'.totals.items in'.unassigned s (c.self.view_is ∙ e) place rs r h'.tallies
+            in'.carried.items in'.totals.items in'.unassigned s (c.self.view_is ∙ e) index rs r h'.tallies
             h'.exporters.now h'.holdings.items None c.in-Some.ensures k n c.in_ok-handling.ensures
             (ap (λ (xs : List Exporter). chosen_from [] (at_places xs h'.exporters.now) cs) (sym c.exporters.ensures)
             ∙ b.1) ∙ ap (λ (f : Fault). Err f.number) (sym b.0)),
@@ -46,15 +46,15 @@ pub returns-in_err-hold_all-clause-err : goal.returns-in_err-hold_all-clause-err
 returns-in_err-hold_all-clause-err c =
     let in' = c.self.inside in
     let net = c.args.net.now in
-    let place = c.in-Some.place in
+    let index = c.in-Some.index in
     let rs = c.in-Some-entry_at.records.now in
     let r = c.copy-entry.result in
     let cs = c.args.choices.now in
     let h' = c.in_ok-handling.handling in
     let links = c.in_ok-links.links.items in
     let rest = drop c.in_ok-links.used cs in
-    let k : Some rs ≡ slice_get in'.carried.items place = c.in-Some-entry_at.ensures
-    ∙ ap (λ (x : List (List Record)). slice_get x place) c.as_slice.ensures.value in
+    let k : Some rs ≡ slice_get in'.carried.items index = c.in-Some-entry_at.ensures
+    ∙ ap (λ (x : List (List Record)). slice_get x index) c.as_slice.ensures.value in
     let n : Some r ≡ entry_numbered rs c.args.number = ap Some c.copy-entry.ensures ∙ c.in-Some-record_numbered.ensures
     in
     let picked : chosen_from [] (at_places net.exporters h'.exporters.now) cs
@@ -67,7 +67,7 @@ returns-in_err-hold_all-clause-err c =
       | inr b ↦ (
         ap (λ (f : Fault). f.place) b.0,
         inr (λ s e. refused_holds net c.args.link c.args.number cs (coming_of 1 in'.to_come.items) in'.held.items
-            in'.carried.items in'.totals.items in'.unassigned s (c.self.view_is ∙ e) place rs r h'.tallies
+            in'.carried.items in'.totals.items in'.unassigned s (c.self.view_is ∙ e) index rs r h'.tallies
             h'.exporters.now h'.holdings.items links rest c.in-Some.ensures k n c.in_ok-handling.ensures picked
             (ap₂ (λ (xs : List Holding) (ys : List (Option ℕ)). hold_all r.counts xs in'.held.items ys)
             (sym c.as_slice-2.ensures.value) (sym c.choices_from-left.ensures) ∙ b.1)
@@ -79,7 +79,7 @@ pub returns-clause-ok : goal.returns-clause-ok
 returns-clause-ok c s e =
     let in' = c.self.inside in
     let net = c.args.net.now in
-    let place = c.in-Some.place in
+    let index = c.in-Some.index in
     let rs = c.in-Some-entry_at.records.now in
     let r = c.copy-entry.result in
     let cs = c.args.choices.now in
@@ -87,8 +87,8 @@ returns-clause-ok c s e =
     let links = c.in_ok-links.links.items in
     let rest = drop c.in_ok-links.used cs in
     let t = h'.tallies in
-    let k : Some rs ≡ slice_get in'.carried.items place = c.in-Some-entry_at.ensures
-    ∙ ap (λ (x : List (List Record)). slice_get x place) c.as_slice.ensures.value in
+    let k : Some rs ≡ slice_get in'.carried.items index = c.in-Some-entry_at.ensures
+    ∙ ap (λ (x : List (List Record)). slice_get x index) c.as_slice.ensures.value in
     let n : Some r ≡ entry_numbered rs c.args.number = ap Some c.copy-entry.ensures ∙ c.in-Some-record_numbered.ensures
     in
     let picked : chosen_from [] (at_places net.exporters h'.exporters.now) cs
@@ -99,13 +99,13 @@ returns-clause-ok c s e =
     ap₂ (λ (xs : List Holding) (ys : List (Option ℕ)). hold_all r.counts xs in'.held.items ys)
     (sym c.as_slice-2.ensures.value) (sym c.choices_from-left.ensures) ∙ c.in_ok-hold_all.ensures.ok.0 in
     let done = c.in_default-send_and_tally.ensures.ok in
-    let out : c.take_out_at.new.lists.items ≡ taken_out (put_all links r in'.carried.items) place c.args.number =
-    c.take_out_at.ensures ∙ ap (λ (x : List (List Record)). taken_out x place c.args.number)
+    let out : c.take_out_at.new.lists.items ≡ taken_out (put_all links r in'.carried.items) index c.args.number =
+    c.take_out_at.ensures ∙ ap (λ (x : List (List Record)). taken_out x index c.args.number)
     (done.0 ∙ ap (λ (ls : List ℕ). put_all ls r in'.carried.items) c.as_slice-3.ensures.value) in
     let totals : c.send_and_tally.new.totals.items ≡ totals_when t net.report_layout r.key r.counts in'.totals.items =
     done.1 ∙ ap (λ (l : Layout). totals_when t l r.key r.counts in'.totals.items) c.report_layout.ensures.value in
     arrived net c.args.link c.args.number cs (coming_of 1 in'.to_come.items) in'.held.items in'.carried.items
-    in'.totals.items in'.unassigned s (c.self.view_is ∙ e) place rs r t h'.exporters.now h'.holdings.items links
+    in'.totals.items in'.unassigned s (c.self.view_is ∙ e) index rs r t h'.exporters.now h'.holdings.items links
     rest c.hold_all.new.held.items c.take_out_at.new.lists.items c.send_and_tally.new.totals.items
     c.send_and_tally.new.unassigned c.in-Some.ensures k n c.in_ok-handling.ensures picked taken out totals
     (λ v h. done.2 v h ∙ ap (λ (l : Layout). unassigned_when t l r.key v % 2 ^ 64) c.report_layout.ensures.value)
@@ -116,7 +116,7 @@ returns-in_default c = record {
   same = refl;
   err = (
     ap (λ (f : Fault). f.place) c.bare.ensures,
-    inr (λ s e. ap (λ (place : Option ℕ). arrive_at c.args.net.now place c.args.number s c.args.choices.now)
+    inr (λ s e. ap (λ (index : Option ℕ). arrive_at c.args.net.now index c.args.number s c.args.choices.now)
         (sym c.in_default.ensures) ∙ ap (λ (f : Fault). Err f.number) (sym c.bare.ensures)),
   );
 }
@@ -125,20 +125,20 @@ pub returns-in_default-entry_at : goal.returns-in_default-entry_at
 returns-in_default-entry_at c =
     let in' = c.self.inside in
     let net = c.args.net.now in
-    let place = c.in-Some.place in
+    let index = c.in-Some.index in
     let cs = c.args.choices.now in
-    let none : None ≡ slice_get in'.carried.items place = c.in_default-entry_at.ensures
-    ∙ ap (λ (x : List (List Record)). slice_get x place) c.as_slice.ensures.value in
+    let none : None ≡ slice_get in'.carried.items index = c.in_default-entry_at.ensures
+    ∙ ap (λ (x : List (List Record)). slice_get x index) c.as_slice.ensures.value in
     record {
       ok = tt;
       same = refl;
       err = (
         ap (λ (f : Fault). f.place) c.bare-in_default-entry_at.ensures,
         inr (λ s e.
-            ap (λ (place : Option ℕ). arrive_at net place c.args.number s cs) (sym c.in-Some.ensures)
-            ∙ ap (λ (x : State). arrive_from net place (slice_get x.carried place) c.args.number s cs)
+            ap (λ (index : Option ℕ). arrive_at net index c.args.number s cs) (sym c.in-Some.ensures)
+            ∙ ap (λ (x : State). arrive_from net index (slice_get x.carried index) c.args.number s cs)
             (sym (c.self.view_is ∙ e))
-            ∙ ap (λ (o : Option (List Record)). arrive_from net place o c.args.number s cs) (sym none)
+            ∙ ap (λ (o : Option (List Record)). arrive_from net index o c.args.number s cs) (sym none)
             ∙ ap (λ (f : Fault). Err f.number) (sym c.bare-in_default-entry_at.ensures)),
       );
     }
@@ -147,22 +147,22 @@ pub returns-in_default-record_numbered : goal.returns-in_default-record_numbered
 returns-in_default-record_numbered c =
     let in' = c.self.inside in
     let net = c.args.net.now in
-    let place = c.in-Some.place in
+    let index = c.in-Some.index in
     let rs = c.in-Some-entry_at.records.now in
     let cs = c.args.choices.now in
-    let k : Some rs ≡ slice_get in'.carried.items place = c.in-Some-entry_at.ensures
-    ∙ ap (λ (x : List (List Record)). slice_get x place) c.as_slice.ensures.value in
+    let k : Some rs ≡ slice_get in'.carried.items index = c.in-Some-entry_at.ensures
+    ∙ ap (λ (x : List (List Record)). slice_get x index) c.as_slice.ensures.value in
     record {
       ok = tt;
       same = refl;
       err = (
         ap (λ (f : Fault). f.place) c.bare-in_default-record_numbered.ensures,
         inr (λ s e.
-            ap (λ (place : Option ℕ). arrive_at net place c.args.number s cs) (sym c.in-Some.ensures)
-            ∙ ap (λ (x : State). arrive_from net place (slice_get x.carried place) c.args.number s cs)
+            ap (λ (index : Option ℕ). arrive_at net index c.args.number s cs) (sym c.in-Some.ensures)
+            ∙ ap (λ (x : State). arrive_from net index (slice_get x.carried index) c.args.number s cs)
             (sym (c.self.view_is ∙ e))
-            ∙ ap (λ (o : Option (List Record)). arrive_from net place o c.args.number s cs) (sym k)
-            ∙ ap (λ (o : Option Record). after_arrive net place rs c.args.number o s cs)
+            ∙ ap (λ (o : Option (List Record)). arrive_from net index o c.args.number s cs) (sym k)
+            ∙ ap (λ (o : Option Record). after_arrive net index rs c.args.number o s cs)
             (sym c.in_default-record_numbered.ensures)
             ∙ ap (λ (f : Fault). Err f.number) (sym c.bare-in_default-record_numbered.ensures)),
       );

@@ -4,5 +4,5 @@ use Rattle.fx_net.specs.Leaving.{after_leasts}
 use Rattle.fx_net.proofs.contents.Contents.empty.Given as goal
 
 abbrev pub invariant-loop-done : goal.invariant-loop-done
-invariant-loop-done l = after_leasts l.net l.place (l.count - l._done) l.self
-    ≡ after_leasts l.net l.place l.count l.fn.self
+invariant-loop-done l = after_leasts l.net l.index (l.count - l._done) l.self
+    ≡ after_leasts l.net l.index l.count l.fn.self

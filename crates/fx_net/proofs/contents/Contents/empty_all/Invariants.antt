@@ -4,9 +4,9 @@ use Rattle.fx_net.specs.Doings.{Ended, Empties}
 use Rattle.fx_net.proofs.OneAfterAnother.{Completes}
 use Rattle.fx_net.proofs.contents.Contents.empty_all.Given as goal
 
-abbrev pub invariant-loop-place : goal.invariant-loop-place
-invariant-loop-place g l = record {
-  done : Completes (λ place. Ended (Empties l.net place)) l.places (g.L.Links.put_on l.initial.links) l.fn.self
-      (drop l.place-index l.places) (g.L.Links.put_on l.links) l.self;
+abbrev pub invariant-loop-index : goal.invariant-loop-index
+invariant-loop-index g l = record {
+  done : Completes (λ index. Ended (Empties l.net index)) l.places (g.L.Links.put_on l.initial.links) l.fn.self
+      (drop l.index-index l.places) (g.L.Links.put_on l.links) l.self;
   going : g.L.Links.failed l.initial.links ≡ false → g.L.Links.failed l.links ≡ false;
 }

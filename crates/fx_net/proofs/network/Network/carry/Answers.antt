@@ -40,16 +40,16 @@ returns-then-queued-octets-clause-err c =
 pub returns-clause-ok : goal.returns-clause-ok
 returns-clause-ok c =
     let old = c.args.self.now in
-    let place = c.args.link - 1 in
+    let index = c.args.link - 1 in
     let inside = c.self.inside.contents in
     let links : c.as_slice.result.now ≡ old.contents.links =
     c.as_slice.ensures.value ∙ ap (λ n. n.contents.links) c.self-inside.view_is
     ∙ ap (λ (r : RunningNetwork). r.contents.links) c.self.view_is in
-    carries_on (net_of old.network) c.args.link place c.args.octets c.in-Some.queued old.contents c.carry.new.self
+    carries_on (net_of old.network) c.args.link index c.args.octets c.in-Some.queued old.contents c.carry.new.self
     (omega arith)
-    (sym (c.queue_length_of.ensures ∙ ap (λ (ls : List Ongoing). queued_at ls place) links) ∙ c.in-Some.is)
+    (sym (c.queue_length_of.ensures ∙ ap (λ (ls : List Ongoing). queued_at ls index) links) ∙ c.in-Some.is)
     (omega (arith, c.if-queued-octets.false))
     (c.in_ok-carry.ensures.ok
-    ∙ ap (λ (n : Net). after_carrying n place c.args.octets inside)
+    ∙ ap (λ (n : Net). after_carrying n index c.args.octets inside)
     (c.net.ensures.value ∙ ap (λ (r : RunningNetwork). net_of r.network) c.self.view_is)
-    ∙ ap (λ (r : RunningNetwork). after_carrying (net_of old.network) place c.args.octets r.contents) c.self.view_is)
+    ∙ ap (λ (r : RunningNetwork). after_carrying (net_of old.network) index c.args.octets r.contents) c.self.view_is)

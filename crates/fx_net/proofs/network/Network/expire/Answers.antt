@@ -10,29 +10,29 @@ use Rattle.fx_net.proofs.network.Network.expire.Goals as goal
 pub returns-then-not-branch-clause-err : goal.returns-then-not-branch-clause-err
 returns-then-not-branch-clause-err c =
     let old = c.args.self.now in
-    let place = c.in-Some.place in
+    let index = c.in-Some.index in
     let net : c.net-net.result.now ≡ net_of old.network = c.net-net.ensures.value
     ∙ ap (λ (r : RunningNetwork). net_of r.network) c.self.view_is in
     inr (
       refl,
-      λ q there. nothing_held old.contents c.holder_place.result place q c.in-Some.is
+      λ q there. nothing_held old.contents c.holder_place.result index q c.in-Some.is
           (c.holder_place.ensures ∙ ap (λ (n : Net). holder_place n c.args.name) net ∙ there)
           (sym (c.in_ok-expire_least.ensures.there
-          ∙ ap (λ (r : RunningNetwork). is_some (least_at r.contents place)) c.self.view_is)
+          ∙ ap (λ (r : RunningNetwork). is_some (least_at r.contents index)) c.self.view_is)
           ∙ c.if-not-branch.true),
     )
 
 pub returns-clause-ok : goal.returns-clause-ok
 returns-clause-ok c =
     let old = c.args.self.now in
-    let place = c.in-Some.place in
+    let index = c.in-Some.index in
     let net : c.net-net.result.now ≡ net_of old.network = c.net-net.ensures.value
     ∙ ap (λ (r : RunningNetwork). net_of r.network) c.self.view_is in
     record {
-      place = place;
+      place = index;
       named = sym (c.holder_place.ensures ∙ ap (λ (n : Net). holder_place n c.args.name) net) ∙ c.in-Some.is;
       there = sym (c.in_ok-expire_least.ensures.there
-          ∙ ap (λ (r : RunningNetwork). is_some (least_at r.contents place)) c.self.view_is) ∙ c.if-not-branch.false;
-      done_is = c.in_ok-expire_least.ensures.ok ∙ ap (λ (n : Net). after_least n place c.self.inside.contents) net
-          ∙ ap (λ (r : RunningNetwork). after_least (net_of old.network) place r.contents) c.self.view_is;
+          ∙ ap (λ (r : RunningNetwork). is_some (least_at r.contents index)) c.self.view_is) ∙ c.if-not-branch.false;
+      done_is = c.in_ok-expire_least.ensures.ok ∙ ap (λ (n : Net). after_least n index c.self.inside.contents) net
+          ∙ ap (λ (r : RunningNetwork). after_least (net_of old.network) index r.contents) c.self.view_is;
     }

@@ -14,7 +14,7 @@ returns-clause-read g c = λ _.
     let old = c.args.self.now in
     let classes : c.as_slice-classes.result.now ≡ old.classes = c.as_slice-classes.ensures ∙ c.classes.ensures
     ∙ ap (λ (r : RunningNetwork). r.classes) c.self.view_is in
-    reads_first (net_of old.network) old.classes frame c.args.capture.now.seen c.class_place.result c.in-Some.place
+    reads_first (net_of old.network) old.classes frame c.args.capture.now.seen c.class_place.result c.in-Some.index
     old.contents c.meter.new.self.contents
     c.frame-frame.ensures.fields c.frame-frame.ensures.octets c.frame-frame.ensures.second c.meter.ensures.frame
     c.meter.ensures.soon

@@ -9,26 +9,26 @@ use Rattle.fx_net.specs.Running.{HasNoDestination, RunningNetwork}
 use Rattle.fx_net.proofs.Lookups.{found_in}
 use Rattle.fx_net.proofs.network.Network.use_destination.Goals as goal
 
-module _ (network own : NetworkDocument) (same : own ≡ network) (device exporter destination place : ℕ)
-    (found : Option ℕ) (is : found ≡ exporter_place own device exporter) (some : found ≡ Some place)
+module _ (network own : NetworkDocument) (same : own ≡ network) (device exporter destination index : ℕ)
+    (found : Option ℕ) (is : found ≡ exporter_place own device exporter) (some : found ≡ Some index)
     (xs : List Exporter) (are : xs ≡ (net_of own).exporters) where
   -- it is the one at this place
   alone : (p : ℕ) (e : Exporter) → exporter_place network device exporter ≡ Some p
-      → slice_get (net_of network).exporters p ≡ Some e → slice_get xs place ≡ Some e
+      → slice_get (net_of network).exporters p ≡ Some e → slice_get xs index ≡ Some e
   alone p e there at =
-      let one : place ≡ p = let all : Some place ≡ Some p = sym some ∙ is
+      let one : index ≡ p = let all : Some index ≡ Some p = sym some ∙ is
       ∙ ap (λ (w : NetworkDocument). exporter_place w device exporter) same ∙ there in cc in
       ap (slice_get xs) one ∙ ap (λ (ys : List Exporter). slice_get ys p)
       (are ∙ ap (λ (w : NetworkDocument). (net_of w).exporters) same) ∙ at
 
-  none_there : length xs ≤ place → HasNoDestination network device exporter destination
-  none_there le p e there at = let none : None ≡ Some e = sym (slice_get_past xs place le) ∙ alone p e there at in
+  none_there : length xs ≤ index → HasNoDestination network device exporter destination
+  none_there le p e there at = let none : None ≡ Some e = sym (slice_get_past xs index le) ∙ alone p e there at in
       absurd (cc)
 
-  none_named : (named : Exporter) (ds : List (Option ℕ)) → place < length xs → named ≡ get_or xs place named → ds
+  none_named : (named : Exporter) (ds : List (Option ℕ)) → index < length xs → named ≡ get_or xs index named → ds
       ≡ named.destinations → None ≡ entry_numbered ds destination → HasNoDestination network device exporter destination
   none_named named ds lt here of none p e there at =
-      let all : Some named ≡ Some e = ap Some here ∙ sym (slice_get-get_or xs place named lt) ∙ alone p e there at in
+      let all : Some named ≡ Some e = ap Some here ∙ sym (slice_get-get_or xs index named lt) ∙ alone p e there at in
       let one : named ≡ e = cc in
       subst (λ (x : Exporter). entry_numbered x.destinations destination ≡ None) one
       (ap (λ (ys : List (Option ℕ)). entry_numbered ys destination) (sym of) ∙ sym none)
@@ -41,7 +41,7 @@ returns-in_default-get-clause-err c =
     inr (
       refl,
       none_there c.args.self.now.network own same c.args.device c.args.exporter c.args.destination
-          c.in-Some.place c.in-Ok.place c.in-Ok.ensures c.in-Some.is c.exporters.result.now
+          c.in-Some.index c.in-Ok.index c.in-Ok.ensures c.in-Some.is c.exporters.result.now
           (c.exporters.ensures ∙ ap (λ (n : Net). n.exporters) c.net.ensures.value) c.in_default-get.ensures.lookup.3,
     )
 
@@ -55,7 +55,7 @@ returns-in_default-entry_numbered-clause-err c =
     inr (
       refl,
       none_named c.args.self.now.network own same c.args.device c.args.exporter c.args.destination
-          c.in-Some.place c.in-Ok.place c.in-Ok.ensures c.in-Some.is c.exporters.result.now
+          c.in-Some.index c.in-Ok.index c.in-Ok.ensures c.in-Some.is c.exporters.result.now
           (c.exporters.ensures ∙ ap (λ (n : Net). n.exporters) c.net.ensures.value) named c.destinations.result.now
           here.0
           (here.1 named) c.destinations.ensures c.in_default-entry_numbered.ensures,
@@ -70,11 +70,11 @@ returns-clause-ok c =
     let here = c.in-Some-get.ensures.lookup.3 in
     let named = c.in-Some-get.named.now in
     record {
-      place = c.in-Some.place;
+      place = c.in-Some.index;
       there = sym (c.in-Ok.ensures ∙ ap (λ (w : NetworkDocument). exporter_place w c.args.device c.args.exporter) same)
           ∙ c.in-Some.is;
       names = named;
-      exporter_is = found_in c.exporters.result.now (net_of network).exporters c.in-Some.place named
+      exporter_is = found_in c.exporters.result.now (net_of network).exporters c.in-Some.index named
           (c.exporters.ensures ∙ ap (λ (n : Net). n.exporters) c.net.ensures.value
           ∙ ap (λ (w : NetworkDocument). (net_of w).exporters) same) here.0 (here.1 named);
       destination_there = λ none.

@@ -13,11 +13,11 @@ returns-in-Some c =
     subst (λ (n : Net). map (λ (row : Vec Bool Global). row.items) c.self.inside.rows.items
     ≡ map (linked_processes n) n.exporters) c.self.view_is c.self.invariant in
     let found = rw c.as_slice.ensures.value at c.in-Some.ensures.lookup in
-    let here : slice_get all c.args.place ≡ Some c.in-Some.row.now =
-    slice_get_read all (length all) c.args.place c.in-Some.row.now refl found.3.0 found.1 in
+    let here : slice_get all c.args.index ≡ Some c.in-Some.row.now =
+    slice_get_read all (length all) c.args.index c.in-Some.row.now refl found.3.0 found.1 in
     c.flag_at.ensures
     ∙ (ap (λ (r : List Bool). get_or r c.args.process false) c.as_slice-in-Some.ensures.value
-    ∙ leads_in_row c.args.self.now (λ (row : Vec Bool Global). row.items) all c.args.process c.args.place
+    ∙ leads_in_row c.args.self.now (λ (row : Vec Bool Global). row.items) all c.args.process c.args.index
     (Some c.in-Some.row.now) (sym here) rows c.requires)
 
 pub returns-in-None : goal.returns-in-None
@@ -28,5 +28,5 @@ returns-in-None c =
     subst (λ (n : Net). map (λ (row : Vec Bool Global). row.items) c.self.inside.rows.items
     ≡ map (linked_processes n) n.exporters) c.self.view_is c.self.invariant in
     let past = rw c.as_slice.ensures.value at c.in-None.ensures.lookup in
-    leads_in_row c.args.self.now (λ (row : Vec Bool Global). row.items) all c.args.process c.args.place None
-    (sym (slice_get_past all c.args.place past.3)) rows c.requires
+    leads_in_row c.args.self.now (λ (row : Vec Bool Global). row.items) all c.args.process c.args.index None
+    (sym (slice_get_past all c.args.index past.3)) rows c.requires
