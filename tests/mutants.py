@@ -24,7 +24,8 @@ Functions that no mutant changes are taken by their contracts if the crate's own
 
 A mutant is refused if each function that it changes (of a constant: one that names it) has a goal that the tactics do not prove. Where
 an answer that is stored for a goal no longer fits, the goal is tried anew by two tactics (tests/mutation/answers.py) before it counts.
-Where an edit names a goal without a stored answer, the same two must prove that goal of the function's own body. A mutant is a BAD EDIT if it
+Where an edit names a goal without a stored answer, the same two must prove that goal of the function's own body, unless that has no such
+goal. A mutant is a BAD EDIT if it
 cannot be applied or does not compile, if it changes a contract, if its function is refused only because a proof file names something
 that the mutant removed, or if it has no line `shows:` and is not in tests/unshown.txt.
 

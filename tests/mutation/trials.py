@@ -170,8 +170,9 @@ class Trial:
         return [*self.home_of(part.path, part.function)[:-1], part.function.name]
 
     def judge_alone(self, part, control):
-        """Gives the part its verdict if a goal that its edit names is open, and the tactics prove it of the function's own body."""
-        unproved = {it.goal for it in self.errors if control and it.folder == self.twin_home(control)}
+        """Gives the part its verdict if a goal that its edit names is open, and the tactics prove it of the function's own body, or that
+        body has no such goal."""
+        unproved = {it.goal for it in self.errors if control and it.folder == self.twin_home(control) and not it.is_gone}
         own, names = self.twin_home(part), [goal for goal, _ in part.alone]
         for it in self.errors:
             if it.folder == own and it.goal in names and it.is_open and it.goal not in unproved:

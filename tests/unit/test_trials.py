@@ -15,6 +15,7 @@ ENDED = "only=1\n"
 PROOF = "./proofs/kept_twin_%d/Answers.antt:2:3: error: `%s`: %s\n"
 MISFIT = "the two types differ only where one has `a` (expected) and the other has `b` (found)"
 UNPROVED = "`search`: no proof of `R.a` was found"
+GONE_GOAL = "`goal.loop-preserved`: module `R.Goals` has no `loop-preserved` that can be named from here"
 GONE = "record `R.Lts.After-x`\n  has no field `y`"
 
 
@@ -266,7 +267,20 @@ def test_a_goal_whose_stored_answer_does_not_fit_is_named(trial):
         assert edits[0].verdict.is_refused and it.read().endswith("goal: returns\n")
 
 
-def test_goals_that_only_the_wrong_body_has_are_not_named(trial):
-    gone = with_control(open_alone("loop-preserved"), refused(("loop-preserved", GONE)))
-    edit, text = named(trial, offering, gone, with_control(open_goal, proved))
-    assert edit.verdict.is_refused and "goal:" not in text
+def test_a_goal_that_only_the_wrong_body_has_is_named(trial):
+    gone = with_control(open_alone("loop-preserved"), refused(("loop-preserved", GONE_GOAL)))
+    edit, text = named(trial, offering, gone)
+    assert edit.verdict.is_refused and text.endswith("new:     value + 1\ngoal: loop-preserved g c\n")
+
+
+def test_a_goal_that_only_the_wrong_body_has_refuses_alone(trial):
+    name_goal(trial, "loop-preserved g c")
+    edit, _ = verdict_of(trial, with_control(open_alone("loop-preserved"), refused(("loop-preserved", GONE_GOAL))))
+    assert edit.verdict.is_refused
+
+
+def test_such_a_goal_does_not_refuse_if_the_tactics_prove_it(trial):
+    name_goal(trial, "loop-preserved g c")
+    holds = with_control(open_goal, refused(("loop-preserved", GONE_GOAL)))
+    edit, _ = verdict_of(trial, holds, with_control(proved, proved))
+    assert not edit.verdict.is_refused
