@@ -10,7 +10,7 @@ pub returns-in_err-field : goal.returns-in_err-field
 returns-in_err-field c =
     let i = c.loop-item.invariant in
     let v = c.item-item.result in
-    let here = item_here c.args.items.now c.loop-item.index c.loop-item.item-index v i.place (omega arith)
+    let here = item_here c.args.items.now c.loop-item.index c.loop-item.item-index v i.index (omega arith)
     c.item-item.is in
     exit _ _ _ _ c.from_residual.ensures (rw
     (i.faults, next_field c.loop-item.layout (pointer c.args.path.now) c.loop-item.index c.args.items.now v here)
@@ -20,7 +20,7 @@ pub returns-in_err-layout : goal.returns-in_err-layout
 returns-in_err-layout c =
     let i = c.loop-item.invariant in
     let v = c.item-item.result in
-    let here = item_here c.args.items.now c.loop-item.index c.loop-item.item-index v i.place (omega arith)
+    let here = item_here c.args.items.now c.loop-item.index c.loop-item.item-index v i.index (omega arith)
     c.item-item.is in
     let field = rw pointer-Item at c.in_ok-field.ensures in
     exit _ _ _ _ c.from_residual-in_err-layout.ensures
@@ -35,12 +35,12 @@ pub loop-item-preserved : goal.loop-item-preserved
 loop-item-preserved c =
     let i = c.loop-item.invariant in
     let v = c.item-item.result in
-    let here = item_here c.args.items.now c.loop-item.index c.loop-item.item-index v i.place (omega arith)
+    let here = item_here c.args.items.now c.loop-item.index c.loop-item.item-index v i.index (omega arith)
     c.item-item.is in
     let field = rw pointer-Item at c.in_ok-field.ensures in
     let layout = rw (pointer-Item, field.1) at c.in_ok-layout.ensures in
     record {
-      place = ap (λ n. n + 1) i.place;
+      index = ap (λ n. n + 1) i.index;
       faults = i.faults ∙ next_field c.loop-item.layout (pointer c.args.path.now) c.loop-item.index c.args.items.now v
           here ∙ rw (field.0, layout.0, layout.1) refl;
       layout = i.layout ∙ next_layout c.loop-item.layout c.loop-item.index c.args.items.now v here ∙ rw (layout.1) refl;
@@ -50,5 +50,5 @@ pub returns : goal.returns
 returns c =
     let i = c.loop-item.invariant in
     let none : drop c.loop-item.index c.args.items.now ≡ [] =
-    drop_all c.loop-item.index c.args.items.now (omega (arith, i.place)) in
+    drop_all c.loop-item.index c.args.items.now (omega (arith, i.index)) in
     (i.faults ∙ rw none refl, sym (i.layout ∙ rw none refl))

@@ -17,10 +17,10 @@ loop-item-preserved c =
     let link = link_of (view item) in
     let before = c.loop-item.links in
     let left = ap (λ (vs : List Value). map view vs)
-    (drop_item xs n c.loop-item.item-index item i.place c.loop-item-test.true c.item-item.is) in
+    (drop_item xs n c.loop-item.item-index item i.index c.loop-item-test.true c.item-item.is) in
     let read = rw pointer-Item at c.in_ok-add_link.ensures.reads in
     record {
-      place = omega (arith, i.place);
+      index = omega (arith, i.index);
       faults = i.faults ∙ next_faults c.args.devices.now before c.add_link.new.earlier (pointer c.args.path.now) n
           (view item) _ _ link left c.in_ok-add_link.ensures.links read.0 refl;
       links = next_values before c.add_link.new.earlier (view item) _ _ link left c.in_ok-add_link.ensures.links refl
@@ -32,7 +32,7 @@ returns-in_err-add_link c =
     let i = c.loop-item.invariant in
     let item = c.item-item.result in
     let left = ap (λ (vs : List Value). map view vs)
-    (drop_item c.args.items.now c.loop-item.index c.loop-item.item-index item i.place c.loop-item-test.true
+    (drop_item c.args.items.now c.loop-item.index c.loop-item.item-index item i.index c.loop-item-test.true
     c.item-item.is) in
     exit _ _ _ _ c.from_residual.ensures (rw i.faults
     (refused_here c.args.devices.now c.loop-item.links (pointer c.args.path.now) c.loop-item.index (view item) _ _ _
@@ -42,5 +42,5 @@ pub returns : goal.returns
 returns c =
     let i = c.loop-item.invariant in
     let none : drop c.loop-item.index c.args.items.now ≡ [] =
-    drop_all c.loop-item.index c.args.items.now (omega (arith, i.place)) in
+    drop_all c.loop-item.index c.args.items.now (omega (arith, i.index)) in
     (i.faults ∙ rw none refl, rw (none, append-nil) at i.links)

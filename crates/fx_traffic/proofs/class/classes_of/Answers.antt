@@ -10,11 +10,11 @@ pub loop-item-preserved : goal.loop-item-preserved
 loop-item-preserved g c =
     let i = c.loop-item.invariant in
     let v = c.item-item.result in
-    let here = item_here c.args.items.now c.loop-item.index c.loop-item.item-index v i.place (omega arith)
+    let here = item_here c.args.items.now c.loop-item.index c.loop-item.item-index v i.index (omega arith)
     c.item-item.is in
     let ok = rw pointer-Item at c.in_ok-read_class.ensures.reads in
     record {
-      place = ap (λ n. n + 1) i.place;
+      index = ap (λ n. n + 1) i.index;
       faults = i.faults ∙ next_entry (class_faults (map g.T.Named.name c.args.devices.now)) class_name c.loop-item.names
           (pointer c.args.path.now) c.loop-item.index c.args.items.now v here
           ∙ rw (ok.0, c.in_ok-read_class.ensures.names) refl;
@@ -27,7 +27,7 @@ pub returns-in_err-read_class : goal.returns-in_err-read_class
 returns-in_err-read_class g c =
     let i = c.loop-item.invariant in
     let v = c.item-item.result in
-    let here = item_here c.args.items.now c.loop-item.index c.loop-item.item-index v i.place (omega arith)
+    let here = item_here c.args.items.now c.loop-item.index c.loop-item.item-index v i.index (omega arith)
     c.item-item.is in
     let next = next_entry (class_faults (map g.T.Named.name c.args.devices.now)) class_name c.loop-item.names
     (pointer c.args.path.now) c.loop-item.index c.args.items.now v here in
@@ -38,5 +38,5 @@ pub returns : goal.returns
 returns g c =
     let i = c.loop-item.invariant in
     let none : drop c.loop-item.index c.args.items.now ≡ [] =
-    drop_all c.loop-item.index c.args.items.now (omega (arith, i.place)) in
+    drop_all c.loop-item.index c.args.items.now (omega (arith, i.index)) in
     (i.faults ∙ rw none refl, c.from_vec.ensures ∙ rw (none, append-nil) at i.classes)

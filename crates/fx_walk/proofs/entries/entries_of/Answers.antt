@@ -12,11 +12,11 @@ loop-item-preserved g c =
     let name = g.T.Entry.name in
     let i = c.loop-item.invariant in
     let v = c.item-item.result in
-    let here = item_here c.args.items.now c.loop-item.index c.loop-item.item-index v i.place (omega arith)
+    let here = item_here c.args.items.now c.loop-item.index c.loop-item.item-index v i.index (omega arith)
     c.item-item.is in
     let ok = rw pointer-Item at c.in_ok-from_entry.ensures.reads in
     record {
-      place = ap (λ n. n + 1) i.place;
+      index = ap (λ n. n + 1) i.index;
       faults = i.faults ∙ next_entry faults (λ d. name (meaning d)) c.loop-item.names (pointer c.args.path.now)
           c.loop-item.index c.args.items.now v here ∙ rw (ok.0, c.in_ok-from_entry.ensures.names) refl;
       values = rw (c.in_ok-push.ensures.items, ok.1)
@@ -29,7 +29,7 @@ pub returns-in_err-from_entry : goal.returns-in_err-from_entry
 returns-in_err-from_entry g c =
     let i = c.loop-item.invariant in
     let v = c.item-item.result in
-    let here = item_here c.args.items.now c.loop-item.index c.loop-item.item-index v i.place (omega arith)
+    let here = item_here c.args.items.now c.loop-item.index c.loop-item.item-index v i.index (omega arith)
     c.item-item.is in
     let next = next_entry g.T.Entry.faults (λ d. g.T.Entry.name (g.T.Entry.meaning d)) c.loop-item.names
     (pointer c.args.path.now) c.loop-item.index c.args.items.now v here in
@@ -40,7 +40,7 @@ pub returns : goal.returns
 returns g c =
     let i = c.loop-item.invariant in
     let none : drop c.loop-item.index c.args.items.now ≡ [] =
-    drop_all c.loop-item.index c.args.items.now (omega (arith, i.place)) in (
+    drop_all c.loop-item.index c.args.items.now (omega (arith, i.index)) in (
       i.faults ∙ rw none refl,
       rw (
         c.from_vec.ensures,

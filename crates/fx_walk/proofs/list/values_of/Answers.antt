@@ -9,11 +9,11 @@ pub loop-item-preserved : goal.loop-item-preserved
 loop-item-preserved g c =
     let i = c.loop-item.invariant in
     let v = c.item-item.result in
-    let here = item_here c.args.items.now c.loop-item.index c.loop-item.item-index v i.place (omega arith)
+    let here = item_here c.args.items.now c.loop-item.index c.loop-item.item-index v i.index (omega arith)
     c.item-item.is in
     let ok = rw pointer-Item at c.in_ok-from_value.ensures in
     record {
-      place = ap (λ n. n + 1) i.place;
+      index = ap (λ n. n + 1) i.index;
       faults = i.faults ∙ next_item g.T.FromValue.faults (pointer c.args.path.now) c.loop-item.index c.args.items.now v
           here ∙ rw (ok.0) refl;
       values = rw (c.in_ok-push.ensures.items, ok.1)
@@ -25,7 +25,7 @@ pub returns-in_err-from_value : goal.returns-in_err-from_value
 returns-in_err-from_value g c =
     let i = c.loop-item.invariant in
     let v = c.item-item.result in
-    let here = item_here c.args.items.now c.loop-item.index c.loop-item.item-index v i.place (omega arith)
+    let here = item_here c.args.items.now c.loop-item.index c.loop-item.item-index v i.index (omega arith)
     c.item-item.is in
     let next = next_item g.T.FromValue.faults (pointer c.args.path.now) c.loop-item.index c.args.items.now v here in
     exit _ _ _ _ c.from_residual.ensures (rw (i.faults ∙ next)
@@ -35,5 +35,5 @@ pub returns : goal.returns
 returns g c =
     let i = c.loop-item.invariant in
     let none : drop c.loop-item.index c.args.items.now ≡ [] =
-    drop_all c.loop-item.index c.args.items.now (omega (arith, i.place)) in
+    drop_all c.loop-item.index c.args.items.now (omega (arith, i.index)) in
     (i.faults ∙ rw none refl, c.from_vec.ensures ∙ rw (none, append-nil) at i.values)
