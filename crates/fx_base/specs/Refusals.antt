@@ -182,6 +182,20 @@ too_many_lines = 414
 abbrev pub exempt_counted : ℕ
 exempt_counted = 415
 
+-- ---- joins of certified parts
+
+-- the documents or the certificate of a part aren't accepted
+abbrev pub part_refused : ℕ
+part_refused = 421
+
+-- the network of a part isn't a part of the whole network
+abbrev pub not_a_part : ℕ
+not_a_part = 422
+
+-- no part covers a class of the whole network
+abbrev pub class_not_covered : ℕ
+class_not_covered = 423
+
 -- ---- refutations
 
 -- the first refusal number of refutations
@@ -355,7 +369,8 @@ refusal_numbers =
     ∷ certificate_order ∷ split_not_inside ∷ certificate_cut ∷ cut_region
     ∷ never_counted ∷ counted_more_than_once ∷ destinations_differ ∷ counted_elsewhere
     ∷ line_behind_end ∷ split_too_deep ∷ unassigned_record ∷ too_many_lines
-    ∷ exempt_counted ∷ refutation_form ∷ refutation_packet ∷ refutation_step
+    ∷ exempt_counted ∷ part_refused ∷ not_a_part ∷ class_not_covered
+    ∷ refutation_form ∷ refutation_packet ∷ refutation_step
     ∷ run_not_complete ∷ totals_agree ∷ search_too_large ∷ message_version
     ∷ message_length ∷ set_length ∷ template_form ∷ reserved_set
     ∷ template_changed ∷ no_template ∷ template_counter_length ∷ record_past_set

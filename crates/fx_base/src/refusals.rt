@@ -94,6 +94,13 @@ pub const TOO_MANY_LINES: u16 = 414;
 /// The packets of a leaf belong to an exempt class, but each is counted once.
 pub const EXEMPT_COUNTED: u16 = 415;
 
+/// The documents or the certificate of a part aren't accepted.
+pub const PART_REFUSED: u16 = 421;
+/// The network of a part isn't a part of the whole network.
+pub const NOT_A_PART: u16 = 422;
+/// No part covers a class of the whole network.
+pub const CLASS_NOT_COVERED: u16 = 423;
+
 /// The first number of a refutation's refusals.
 pub const REFUTATION_FIRST: u16 = 501;
 /// The last number of a refutation's refusals.

@@ -62,7 +62,7 @@ pub fn read_groups(text: &[u8]) -> Option<u128>
 {
     let mut address: u128 = 0;
     let mut rest = text;
-    for _place in 0..COLONS {
+    for _index in 0..COLONS {
         let (group, behind) = split_at_byte(rest, b':')?;
         address = address * 0x1_0000 + read_group(group)?;
         rest = behind;
