@@ -24,7 +24,7 @@ networks = map (λ r. words_at r.0 r.1.now r.2.now r.3.now r.4.now) NETWORKS.now
 unfoldable pub traffic : List Words
 traffic = map (λ r. words_at r.0 r.1.now r.2.now r.3.now r.4.now) TRAFFIC.now
 
--- the refusals of certificates
+-- the refusals of certificates and of joins of certified parts
 unfoldable pub certificates : List Words
 certificates = map (λ r. words_at r.0 r.1.now r.2.now r.3.now r.4.now) CERTIFICATES.now
 

@@ -1,4 +1,4 @@
-//! The refusals of certificates.
+//! The refusals of certificates and of joins of certified parts.
 ghost use Rattle.std.specs.Prelude.{◌≡◌, map};
 ghost use Rattle.fx_words.specs.Table.{certificates};
 ghost use Rattle.fx_words.specs.Words.{words_at};
@@ -148,6 +148,32 @@ pub const CERTIFICATES: &[Row] = &[
         "Keep the packets out by filters (filterMatch), give the class a region that leaves out \
          the packets that are to be counted, or take `exempt` off it.",
         "FORMATS, traffic and a certificate",
+    ),
+    (
+        refusals::PART_REFUSED,
+        "A check of a part doesn't accept its documents or its certificate.",
+        "a certificate of another part, or of this part before its documents were changed; a \
+         refutation in its place; a part that exceeds a limit of one check.",
+        "Take the part out of PARTS and run `once check --explain` on its three texts. If the \
+         audit of the part found a refutation, mend the network and cut it again.",
+        "FORMATS, parts; SCALE",
+    ),
+    (
+        refusals::NOT_A_PART,
+        "The network of a part isn't a part of the whole network.",
+        "the whole was changed after it was cut, or the part after that; a device was left out \
+         to which records of the part are sent; a renamed device or collecting process.",
+        "Cut the whole again with `once-part cut`, and audit the parts again.",
+        "FORMATS, parts; SCALE",
+    ),
+    (
+        refusals::CLASS_NOT_COVERED,
+        "No part covers a class of the whole network.",
+        "a part is missing in PARTS, or the class was changed after the cut: a part covers a \
+         class if it has one of the same name, region and `exempt`, and for each of its paths \
+         one on which the same selection processes meter the packets.",
+        "Add the part that has the class, or cut the whole again with `once-part cut`.",
+        "FORMATS, parts; SCALE",
     ),
 ];
 

@@ -10,13 +10,15 @@ use fx_base::refusals;
 pub const RUNS: &[Row] = &[
     (
         refusals::SCHEDULE_OR_BUNDLE,
-        "A line of a schedule has no form of such lines; or, if no line is named, standard \
-         input is no bundle.",
+        "A line of a schedule has no form of such lines; if a part is named, no part begins \
+         there; if nothing is named, standard input is no bundle.",
         "a misspelled word, a blank too many, or lines that end in CR and LF. A bundle that is \
          refused lacks its last line %%, or has another command than audit, check, confirm and \
-         replay, or another number of texts; without arguments, once reads a bundle.",
+         replay, or another number of texts; without arguments, once reads a bundle. A part is \
+         a bundle of the command check.",
         "Write the line as docs/FORMATS.md has it. A bundle is a line with the command, then \
-         its texts, each followed by a line %%, and nothing after the last.",
+         its texts, each followed by a line %%, and nothing after the last; parts follow one \
+         directly after another.",
         "FORMATS, a schedule and a bundle",
     ),
     (
