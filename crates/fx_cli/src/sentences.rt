@@ -368,7 +368,7 @@ impl CheckExplainer for Sentences<'_> {
         if self.are_wanted() && is_explained(fault) {
             self.put_name(self.names.traffic);
             let sink = self.words.sink();
-            let written = put_refused_traffic(self.alloc, octets, plan, fault, sink);
+            let written = put_refused_traffic(self.alloc, octets, plan.network(), fault, sink);
             self.words.note(written);
         }
     }

@@ -22,7 +22,7 @@ use crate::pointers::last_member;
 use crate::values::{write_allowed, write_wrong};
 use fx_base::{Fault, Place, Sink, put_text, refusals};
 use fx_explanation::{Explanation, value_of_document};
-use fx_plan::Plan;
+use fx_plan::NetworkDocument;
 use serde_json::Value;
 use std::alloc::Global;
 
@@ -47,7 +47,7 @@ enum RefusedDocument<'a> {
     /// A network document.
     Network(&'a Value),
     /// A traffic declaration for this network.
-    Traffic(&'a Value, &'a Plan),
+    Traffic(&'a Value, &'a NetworkDocument),
 }
 
 impl<'a> RefusedDocument<'a> {
@@ -146,9 +146,9 @@ fn write_names_at(
 ) {
     match refused {
         RefusedDocument::Network(network) => write_names(out, network, value, pointer, number),
-        RefusedDocument::Traffic(_, plan) => {
+        RefusedDocument::Traffic(_, network) => {
             if let Some(name) = value.as_str() {
-                write_unknown_device(out, plan.network().devices.as_slice(), name);
+                write_unknown_device(out, network.devices.as_slice(), name);
             }
         }
     }
@@ -205,7 +205,7 @@ pub fn put_refused_network<S: Sink>(
 pub fn put_refused_traffic<S: Sink>(
     alloc: Global,
     octets: &[u8],
-    plan: &Plan,
+    network: &NetworkDocument,
     fault: &Fault,
     sink: &mut S,
 ) -> Result<(), Fault>
@@ -216,7 +216,9 @@ pub fn put_refused_traffic<S: Sink>(
 {
     let mut out = Explanation::new(alloc);
     match value_of_document(&mut out, octets) {
-        Some(value) => write_refused(&mut out, &RefusedDocument::Traffic(&value, plan), fault),
+        Some(value) => {
+            write_refused(&mut out, &RefusedDocument::Traffic(&value, network), fault)
+        }
         None => write_json(&mut out, octets, false),
     }
     put_text(sink, out.octets()?)

@@ -247,7 +247,13 @@ fn explains_declarations(rt: HostRuntime) {
     let plan = plan_of(&rt, rt.alloc(), NETWORK);
     let mut octets = [0u8; 1000];
     let mut room = Room::new(&mut octets);
-    let answer = put_refused_traffic(rt.alloc(), b"{}", &plan, &Fault::bare(103), &mut room);
+    let answer = put_refused_traffic(
+        rt.alloc(),
+        b"{}",
+        plan.network(),
+        &Fault::bare(103),
+        &mut room,
+    );
     assert!(rt;
         ends(answer, 0) & (room.octets() == b"missing: classes\nit has no members\n".as_slice())
     );
