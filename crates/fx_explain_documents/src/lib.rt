@@ -11,6 +11,7 @@ mod ends;
 mod entries;
 mod excluding;
 mod interfaces;
+mod joined_parts;
 mod json;
 mod json_faults;
 mod kinds;
@@ -30,4 +31,5 @@ mod unused;
 mod values;
 
 pub use documents::{put_refused_network, put_refused_traffic};
+pub use joined_parts::{JoinFinding, put_join_finding};
 pub use lints::{put_network_notes, put_traffic_notes};

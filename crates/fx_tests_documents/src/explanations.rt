@@ -6,7 +6,8 @@ use crate::plan::plan_of;
 use fx_base::{Fault, LineReader, Octets, Room};
 use fx_check::Checker;
 use fx_explain_documents::{
-    put_network_notes, put_refused_network, put_refused_traffic, put_traffic_notes,
+    JoinFinding, put_join_finding, put_network_notes, put_refused_network, put_refused_traffic,
+    put_traffic_notes,
 };
 use fx_explain_runs::{
     packet_in_line, put_refused_certificate, put_refused_metering, put_refused_packet,
@@ -240,6 +241,21 @@ fn explains_documents(rt: HostRuntime) {
     let mut room = Room::new(&mut octets);
     let answer = put_refused_network(rt.alloc(), b"{}", &Fault::bare(103), &mut room);
     assert!(rt; ends(answer, 0) & (room.octets() == DOCUMENT_WORDS));
+}
+
+#[test]
+fn explains_a_refused_part(rt: HostRuntime) {
+    let mut octets = [0u8; 1000];
+    let mut room = Room::new(&mut octets);
+    let fault = Fault::at_line(407, 3);
+    let finding = JoinFinding::Refused {
+        part: 2,
+        certificate: true,
+        fault: &fault,
+    };
+    let answer = put_join_finding(rt.alloc(), &finding, &mut room);
+    let expected = b"part 2: a check refuses its certificate: 407 line 3\n";
+    assert!(rt; ends(answer, 0) & (room.octets() == expected.as_slice()));
 }
 
 #[test]
