@@ -10,15 +10,16 @@ from typing import Sequence
 from once_tools.ending import Parser, exit_status
 from once_tools.once_program import find_once
 from once_tools.parts.auditing import Outcome, audit_all, status_of
+from once_tools.parts.bundling import write_bundles
 from once_tools.parts.cutting import Sources, cut
 from once_tools.parts.manifest import read_manifest
 from once_tools.parts.verifying import verify
 from once_tools.report import counted, printable
 
 NO, REFUSED = 1, 2
-PROVED = """Each part's `yes` is proved: `once check` says it of the part's documents and its certificate. That the parts cover the whole is not
-proved: `cut` and `verify` are tested. `verify` was written apart from `cut`, and trusts no part."""
-STATUSES = """Exit statuses: 0 the parts are written, all parts have a certificate, or `verify` says yes; 1 a part is refuted, or `verify` says no; 2 a
+PROVED = """`once join`, over what `bundle` prints, decides whether the parts certify the whole, and is proved: it trusts neither `cut` nor the
+certificates. `verify` says in sentences what is wrong with parts, and is tested: it was written apart from `cut`, and trusts no part."""
+STATUSES = """Exit statuses: 0 the parts are written or printed, all parts have a certificate, or `verify` says yes; 1 a part is refuted, or `verify` says no; 2 a
 document is malformed or refused, or a class alone exceeds a limit; 3 a part is undecided (601), and none refuted or refused before it; 5 a file or
 program failed; 6 wrong arguments."""
 
@@ -53,6 +54,9 @@ def make_parser() -> Parser:
         line for each part and one for all.""")
     one.add_argument("folder", type=Path, metavar="FOLDER", help="the folder that `once-part cut` wrote")
     add_running(one)
+    one = commands.add_parser("bundle", help="print all parts as the text that `once join` reads", epilog=f"{PROVED} {STATUSES}", description="""Prints the documents
+        and the certificate of each part as a bundle, one after another, for `once join NETWORK TRAFFIC PARTS`. Fails if a part has no certificate.""")
+    one.add_argument("folder", type=Path, metavar="FOLDER", help="the folder that `once-part cut` wrote")
     one = commands.add_parser("verify", help="judge whether the parts cover every path of the whole", epilog=f"{PROVED} {STATUSES}", description="""Judges whether
         each part is a part of the whole, whether some part covers each path of each class of the whole, and whether `once check` says yes of each certificate.
         Prints what is wrong, line by line, and last yes or no.""")
@@ -95,7 +99,13 @@ def run_verify(arguments: argparse.Namespace) -> int:
     return 0
 
 
-COMMANDS = {"cut": run_cut, "audit": run_audit, "verify": run_verify}
+def run_bundle(arguments: argparse.Namespace) -> int:
+    write_bundles(read_manifest(arguments.folder).parts, sys.stdout.buffer)
+    sys.stdout.flush()
+    return 0
+
+
+COMMANDS = {"cut": run_cut, "audit": run_audit, "bundle": run_bundle, "verify": run_verify}
 
 
 def main(words: Sequence[str] | None = None) -> int:

@@ -2,7 +2,7 @@
 use fx_base::{Name, entry_at};
 use fx_config::{Aggregation, CollectingProcess};
 use fx_explanation::{Explanation, entry_named, unless_refused, write_end};
-use fx_topology::{NamedLink, NetworkDevice, NetworkDocument, read_network};
+use fx_topology::{NamedLink, NetworkDevice, NetworkDocument, Sizes, read_network_within};
 use serde_json::Value;
 use std::alloc::{AllocError, Global};
 
@@ -202,9 +202,16 @@ fn write_circle_of(out: &mut Explanation, network: &NetworkDocument) {
     }
 }
 
-/// Writes the links of a cycle of a network in order, by their indices in the list of links.
+/// Sizes that no document exceeds.
+const ANY_SIZES: Sizes = Sizes {
+    devices: usize::MAX,
+    links: usize::MAX,
+    processes: usize::MAX,
+};
+
+/// Writes the links of a cycle of a network of any size in order, by their indices in the list of links.
 pub(crate) fn write_cycle_of(out: &mut Explanation, network: &Value) {
-    let read = read_network(out.alloc, network);
+    let read = read_network_within(out.alloc, network, ANY_SIZES);
     if let Some(network) = unless_refused(out, read) {
         write_circle_of(out, &network);
     }

@@ -162,6 +162,10 @@ fn write_refused(out: &mut Explanation, refused: &RefusedDocument<'_>, fault: &F
             write_cycle(out, network, text.as_str());
             write_cycle_of(out, network);
         }
+        (Place::None, RefusedDocument::Network(network)) if fault.number == refusals::LINK_CYCLE =>
+            {
+                write_cycle_of(out, network);
+            }
         (Place::Text(text), _) => write_at(out, refused, text.as_str(), fault.number),
         (Place::None, _) => write_at(out, refused, "", fault.number),
         _ => {}
