@@ -10,7 +10,7 @@ loop-destination-preserved c =
     let link : Destination → Option ℕ = λ (d : Destination). position
     (leads_from c.args.device.now c.args.process.now d.name) c.args.links.now in
     one_made link [] c.args.destinations.now c.loop-destination.destination-index c.destination-item.result
-    c.in_ok-index.place c.loop-destination.places.items _ c.loop-destination-test.true c.destination-item.is
+    c.in_ok-index.index c.loop-destination.places.items _ c.loop-destination-test.true c.destination-item.is
     c.in_ok-index.ensures c.loop-destination.invariant c.in_ok-push.ensures.items
 
 pub returns : goal.returns
