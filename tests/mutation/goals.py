@@ -1,8 +1,8 @@
 """Names in edits a goal that refuses their mutants, so that later trials try that goal alone."""
 from mutation.edits import TWIN, Edit, read
 
-# How many of the goals that a mutant leaves open are tried one after another.
-CANDIDATES = 4
+# How many of the goals that a mutant leaves open are tried, one check after another.
+CANDIDATES = 1
 
 
 def name_goals(trial, edits, files):

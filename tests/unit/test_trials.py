@@ -4,6 +4,7 @@ import re
 from types import SimpleNamespace
 
 import pytest
+from mutation import goals
 from mutation.answers import TACTICS
 from mutation.edits import Edit
 from mutation.goals import name_goals
@@ -246,7 +247,8 @@ def test_a_goal_that_refuses_alone_is_named(trial):
     assert edit.verdict.is_refused and text.endswith("new:     value + 1\ngoal: loop-preserved g c\n")
 
 
-def test_the_next_goal_is_named_where_the_first_does_not_refuse_alone(trial):
+def test_the_next_goal_is_named_where_the_first_does_not_refuse_alone(trial, monkeypatch):
+    monkeypatch.setattr(goals, "CANDIDATES", 2)
     holds, lacks = with_control(open_goal, proved), with_control(open_alone("second"), proved)
     edit, text = named(trial, offering, holds, lacks)
     assert edit.verdict.is_refused and text.endswith("new:     value + 1\ngoal: second\n")
@@ -254,7 +256,7 @@ def test_the_next_goal_is_named_where_the_first_does_not_refuse_alone(trial):
 
 def test_a_goal_that_the_tactics_do_not_prove_of_the_own_body_is_not_named(trial):
     both = with_control(open_alone("loop-preserved"), open_alone("loop-preserved"))
-    edit, text = named(trial, offering, both, with_control(open_goal, proved))
+    edit, text = named(trial, offering, both)
     assert edit.verdict.is_refused and text.endswith("new:     value + 1\n")
 
 
