@@ -105,7 +105,7 @@ there, or the report is another one",
             );
         }
         JoinFinding::Uncovered { index, traffic } => {
-            let number = *index as u64 + 1;
+            let number = (*index as u64).saturating_add(1);
             out.text_number("class ", number);
             out.text_quoted(" ", traffic.class_name(number).unwrap_or(""));
             out.sentence(" is covered by no part");
