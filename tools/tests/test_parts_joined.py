@@ -11,11 +11,14 @@ from once_tools import part_main
 from once_tools.once_program import Run, run_once
 from once_tools.parts import packing
 from once_tools.parts.bundling import write_bundles
+from once_tools.parts.cutting import Sources, cut
 from once_tools.parts.manifest import read_manifest
-from part_networks import Json, provider, read, write
-from test_parts_judged import DAMAGES, verified
+from part_networks import COUNTERS, Json, host, link, meter, network, provider, read, traffic_class, write
+from test_parts_cut import AXES, cache_by
+from test_parts_judged import DAMAGES, generated, verified
 
 PARTS = 3
+NETWORKS = 500
 
 
 @pytest.fixture(scope="module")
@@ -136,3 +139,51 @@ def test_a_whole_that_a_part_no_longer_fits(parts: Path, once: str, tmp_path: Pa
     write(tmp_path, whole, read(tmp_path / "traffic.json"))
     bundle(tmp_path)
     assert joined(once, tmp_path).output == "no 422 part 1\n"
+
+
+def certified_parts(once: str, folder: Path) -> bool:
+    """Has `once` audit the parts of a folder; returns whether all have a certificate."""
+    for part in read_manifest(folder / "parts").parts:
+        ran = run_once(once, "audit", part.network, part.traffic)
+        if ran.status != 0:
+            return False
+        part.certificate.write_text(ran.output, encoding="utf-8")
+    return True
+
+
+def test_joins_of_random_networks(once: str, tmp_path: Path, monkeypatch: pytest.MonkeyPatch) -> None:
+    """Parts of one class each: all have certificates where the whole has one, and then the join says yes."""
+    monkeypatch.setitem(packing.LIMITS, "classes", 1)
+    yes, several = 0, 0
+    for seed in range(NETWORKS):
+        folder = tmp_path / str(seed)
+        files = write(folder, *generated(seed))
+        several += len(cut(Sources(*files, folder / "parts", False))) > 1
+        is_certified = run_once(once, "audit", *files).status == 0
+        assert certified_parts(once, folder) == is_certified, seed
+        if is_certified:
+            with open(folder / "parts.txt", "wb") as out:
+                write_bundles(read_manifest(folder / "parts").parts, out)
+            assert joined(once, folder).output == "yes\n", seed
+            yes += 1
+        shutil.rmtree(folder)
+    assert yes >= NETWORKS // 10 and several >= NETWORKS // 4
+
+
+def test_more_layouts_than_one_audit_allows(once: str, tmp_path: Path) -> None:
+    """The whole has 71 layouts and is refused by an audit; each of two parts has 36."""
+    keys = [tuple(axis for bit, axis in enumerate(AXES) if number >> bit & 1) for number in range(1, 71)]
+    routers = [meter("r0"), meter("r1")]
+    for number, one in enumerate(keys):
+        cache = {**cache_by(one), "name": f"{number}"}
+        cache["timeoutCache"]["cacheLayout"]["cacheField"] += COUNTERS
+        routers[number % 2]["config"]["ietf-ipfix-psamp:ipfix"]["cache"].append(cache)
+    whole = network([*routers, host("billing")], [link("r0", "billing"), link("r1", "billing")])
+    classes = [traffic_class(f"{number}", {}, [f"r{number} eth0 ingress"]) for number in range(2)]
+    files = write(tmp_path, whole, {"classes": classes})
+    assert run_once(once, "audit", *files).output == "refused 207\n"
+    assert len(cut(Sources(*files, tmp_path / "parts", False))) == 2
+    assert certified_parts(once, tmp_path)
+    with open(tmp_path / "parts.txt", "wb") as out:
+        write_bundles(read_manifest(tmp_path / "parts").parts, out)
+    assert joined(once, tmp_path).output == "yes\n"
