@@ -27,7 +27,7 @@ fn wrong(number: u16) -> &'static str {
 #[test]
 fn finds_words_by_number(rt: HostRuntime) {
     assert!(rt;
-        (known() == 76)
+        (known() == 79)
             & refusal_of(203).is_none()
             & (wrong(411) == "A line follows the line `end`.")
     );
@@ -89,7 +89,7 @@ fn is_listed() -> bool {
     let is_put = ends(put_refusal_list(&mut room), 0);
     let list = room.octets();
     is_put
-        & (lines_of(list) == 76)
+        & (lines_of(list) == 79)
         & list.starts_with(b"101  A document is no JSON text in UTF-8.\n102  ")
         & list.ends_with(b"\n903  A line has more than 4,096 octets.\n")
 }
