@@ -1,3 +1,4 @@
+pub mod BuiltCommands
 pub mod CommandTable
 pub mod LimitWords
 pub mod ParsedWords

@@ -1,6 +1,7 @@
 //! The command line: which call the program's arguments name.
 #![tactic(auto)]
 
+mod commands;
 mod help_text;
 mod words;
 

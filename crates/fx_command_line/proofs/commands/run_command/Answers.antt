@@ -1,8 +1,8 @@
 use Rattle.std.proofs.Common.{◌∙◌, ap, codes}
 use Rattle.clap.specs.Words.{App, with_rule}
 use Rattle.fx_command_line.specs.CommandLine.{file_rule, links_rule, over_capture}
-use Rattle.fx_command_line.proofs.ParsedWords.{with_arg}
-use Rattle.fx_command_line.proofs.words.run_command.Goals as goal
+use Rattle.fx_command_line.proofs.BuiltCommands.{with_arg}
+use Rattle.fx_command_line.proofs.commands.run_command.Goals as goal
 
 pub returns-clause-app : goal.returns-clause-app
 returns-clause-app c =

@@ -1,7 +1,7 @@
 use Rattle.std.proofs.Common.{◌≡◌, ◌∙◌, ap, List, [], ◌∷◌, ◌++◌, rules}
 use Rattle.clap.specs.declared.builder.command.Command.{Command}
-use Rattle.fx_command_line.proofs.ParsedWords.{all_commands, is_built}
-use Rattle.fx_command_line.proofs.words.command_line.Goals as goal
+use Rattle.fx_command_line.proofs.BuiltCommands.{all_commands, is_built}
+use Rattle.fx_command_line.proofs.commands.command_line.Goals as goal
 
 pub returns : goal.returns
 returns c =

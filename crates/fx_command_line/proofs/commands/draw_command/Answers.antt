@@ -1,8 +1,8 @@
 use Rattle.std.proofs.Common.{◌∙◌, ap, codes}
 use Rattle.clap.specs.Words.{App, new_rule, with_rule}
 use Rattle.fx_command_line.specs.CommandLine.{class_rule, over_answer}
-use Rattle.fx_command_line.proofs.ParsedWords.{with_arg}
-use Rattle.fx_command_line.proofs.words.draw_command.Goals as goal
+use Rattle.fx_command_line.proofs.BuiltCommands.{with_arg}
+use Rattle.fx_command_line.proofs.commands.draw_command.Goals as goal
 
 pub returns-clause-app : goal.returns-clause-app
 returns-clause-app c =
