@@ -13,7 +13,7 @@ use Rattle.std.proofs.lemmas.Slice.Eq.{bytes_eq-Decides}
 use Rattle.fx_command_line.specs.Words.{NamesWith, is_double_hyphen, is_flag}
 use Rattle.fx_command_line.specs.CommandLine.{once_app}
 use Rattle.fx_command_line.proofs.SingleWords.{Fails, fails_first, or_none, top, top_knows, bool_cases, plain_word, flag_word}
-use Rattle.fx_command_line.proofs.CommandTable.{Kind, NoneOf, audit, check, collect, confirm, draw, explain, is_taking, kind_named, kinds, lint, name_of, named_kind, nameless, none_named, one_kind, replay, run, sum, taking_of}
+use Rattle.fx_command_line.proofs.CommandTable.{Kind, NoneOf, audit, check, collect, confirm, draw, explain, is_taking, join, kind_named, kinds, lint, name_of, named_kind, nameless, none_named, one_kind, replay, run, sum, taking_of}
 use Rattle.fx_command_line.proofs.OptionCommand.{IsCount, Taking, arguments, taking}
 use Rattle.fx_command_line.proofs.OptionRows.{HoldsFirst}
 use Rattle.fx_command_line.proofs.OptionSaid.{HoldsAtEnd, IsFine}
@@ -116,6 +116,7 @@ is_known run = is_command (taking_of run) refl refl (λ rest. refl) (λ rest. re
 is_known lint = is_command (taking_of lint) refl refl (λ rest. refl) (λ rest. refl)
 is_known draw = is_command (taking_of draw) refl refl (λ rest. refl) (λ rest. refl)
 is_known sum = is_command (taking_of sum) refl refl (λ rest. refl) (λ rest. refl)
+is_known join = is_command (taking_of join) refl refl (λ rest. refl) (λ rest. refl)
 is_known explain = is_command (taking_of explain) refl refl (λ rest. refl) (λ rest. refl)
 
 -- ---- no command
@@ -237,6 +238,7 @@ at_other program command rest none = record {
           n.1.1.1.1.1.1.1.0,
           n.1.1.1.1.1.1.1.1.0,
           n.1.1.1.1.1.1.1.1.1.0,
+          n.1.1.1.1.1.1.1.1.1.1.0,
           strange,
         ) refl)
   ];

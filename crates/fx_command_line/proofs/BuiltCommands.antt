@@ -30,8 +30,8 @@ with_arg command arg (Ok x) a rule adds is by local = adds.shape local ∙ ap₂
 with_arg command arg (Err error) a rule adds is by local = tt
 
 abbrev AreBuilt : Command → Command → Command → Command → Command → Command → Command → Command → Command → Command
-    → Type 0
-AreBuilt replaying collecting checking confirming auditing running linting drawing summing explaining =
+    → Command → Type 0
+AreBuilt replaying collecting checking confirming auditing running linting drawing summing joining explaining =
     IsBuilt replaying (over_documents (codes "replay") (file_rule (codes "RUN")))
     × IsBuilt collecting (over_network (codes "collect") (file_rule (codes "STREAM")))
     × IsBuilt checking (over_documents (codes "check") (file_rule (codes "CERTIFICATE")))
@@ -41,29 +41,47 @@ AreBuilt replaying collecting checking confirming auditing running linting drawi
     × IsBuilt linting (over_network (codes "lint") (new_rule (codes "TRAFFIC")))
     × IsBuilt drawing (with_rule (over_answer (codes "draw")) class_rule)
     × IsBuilt summing (over_network (codes "sum") (file_rule (codes "TOTALS")))
+    × IsBuilt joining (over_documents (codes "join") (file_rule (codes "PARTS")))
     × IsBuilt explaining (number_alone (codes "explain"))
 
-with_each : (once replaying collecting checking confirming auditing running linting drawing summing explaining whole :
-    Command) → AddsInTurn AddsSubcommand once
-    (replaying ∷ collecting ∷ checking ∷ confirming ∷ auditing ∷ running ∷ linting ∷ drawing ∷ summing ∷ explaining
-    ∷ []) whole
+with_each : (once replaying collecting checking confirming auditing running linting drawing summing joining explaining
+    whole : Command) → AddsInTurn AddsSubcommand once
+    (replaying ∷ collecting ∷ checking ∷ confirming ∷ auditing ∷ running ∷ linting ∷ drawing ∷ summing ∷ joining
+    ∷ explaining ∷ []) whole
     → app_of once ≡ on_top wants_command (new_app (codes "once"))
-    → AreBuilt replaying collecting checking confirming auditing running linting drawing summing explaining
+    → AreBuilt replaying collecting checking confirming auditing running linting drawing summing joining explaining
     → app_of whole ≡ once_app
-with_each once replaying collecting checking confirming auditing running linting drawing summing explaining whole (
-  one,
-  first,
-  (
-    two,
-    second,
-    (
-      three,
-      third,
-      (four, fourth, (five, fifth, (six, sixth, (seven, seventh, (eight, eighth, (nine, ninth, (ten, tenth, is))))))),
-    ),
-  ),
-) o
-    (r, l, k, c, a, u, n, d, s, x) =
+with_each once replaying collecting checking confirming auditing running linting drawing summing joining explaining
+    whole (
+      one,
+      first,
+      (
+        two,
+        second,
+        (
+          three,
+          third,
+          (
+            four,
+            fourth,
+            (
+              five,
+              fifth,
+              (
+                six,
+                sixth,
+                (
+                  seven,
+                  seventh,
+                  (eight, eighth, (nine, ninth, (ten, tenth, (eleven, eleventh, is)))),
+                ),
+              ),
+            ),
+          ),
+        ),
+      ),
+    ) o
+    (r, l, k, c, a, u, n, d, s, j, x) =
     let step = λ (x y : App). with_subcommand x y.top in
     let to_one = first.shape r.local ∙ ap₂ step o r.app in
     let to_two = second.shape l.local ∙ ap₂ step to_one l.app in
@@ -74,18 +92,19 @@ with_each once replaying collecting checking confirming auditing running linting
     let to_seven = seventh.shape n.local ∙ ap₂ step to_six n.app in
     let to_eight = eighth.shape d.local ∙ ap₂ step to_seven d.app in
     let to_nine = ninth.shape s.local ∙ ap₂ step to_eight s.app in
-    ap app_of (sym is) ∙ tenth.shape x.local ∙ ap₂ step to_nine x.app
+    let to_ten = tenth.shape j.local ∙ ap₂ step to_nine j.app in
+    ap app_of (sym is) ∙ eleventh.shape x.local ∙ ap₂ step to_ten x.app
 
 pub all_commands : {Z : Type 0} (once replaying collecting checking confirming auditing running linting drawing summing
-    explaining : Command) (items : List Command) (r : Result Command Z)
+    joining explaining : Command) (items : List Command) (r : Result Command Z)
     → IfOk r (λ whole. AddsInTurn AddsSubcommand once items whole)
     → items ≡ replaying ∷ collecting ∷ checking ∷ confirming ∷ auditing ∷ running ∷ linting ∷ drawing ∷ summing
-    ∷ explaining ∷ [] → app_of once ≡ on_top wants_command (new_app (codes "once"))
-    → AreBuilt replaying collecting checking confirming auditing running linting drawing summing explaining
+    ∷ joining ∷ explaining ∷ [] → app_of once ≡ on_top wants_command (new_app (codes "once"))
+    → AreBuilt replaying collecting checking confirming auditing running linting drawing summing joining explaining
     → IfOk r (λ whole. app_of whole ≡ once_app)
-all_commands once replaying collecting checking confirming auditing running linting drawing summing explaining items
-    (Ok whole) adds are o built =
-    with_each once replaying collecting checking confirming auditing running linting drawing summing explaining whole
-    (subst (λ (xs : List Command). AddsInTurn AddsSubcommand once xs whole) are adds) o built
-all_commands once replaying collecting checking confirming auditing running linting drawing summing explaining items
-    (Err error) adds are o built = tt
+all_commands once replaying collecting checking confirming auditing running linting drawing summing joining explaining
+    items (Ok whole) adds are o built =
+    with_each once replaying collecting checking confirming auditing running linting drawing summing joining explaining
+    whole (subst (λ (xs : List Command). AddsInTurn AddsSubcommand once xs whole) are adds) o built
+all_commands once replaying collecting checking confirming auditing running linting drawing summing joining explaining
+    items (Err error) adds are o built = tt

@@ -19,6 +19,7 @@ pub data Kind : Type 0 where
   lint : Kind
   draw : Kind
   sum : Kind
+  join : Kind
   explain : Kind
 
 abbrev pub documents_and : Text → List Text
@@ -58,6 +59,7 @@ taking_of draw = record {
   default = [];
 }
 taking_of sum = files_alone (codes "sum") (codes "NETWORK" ∷ codes "TOTALS" ∷ [])
+taking_of join = files_alone (codes "join") (documents_and (codes "PARTS"))
 taking_of explain = files_alone (codes "explain") (codes "NUMBER" ∷ [])
 
 pub limit_name : IsName (codes "limit")
@@ -112,6 +114,8 @@ is_taking draw = record {
 }
 is_taking sum = takes_files_alone (codes "sum") (codes "NETWORK" ∷ codes "TOTALS" ∷ []) (omega arith)
     ((refl, (refl, tt)), ((refl, tt), (tt, tt)))
+is_taking join = takes_files_alone (codes "join") (documents_and (codes "PARTS")) (omega arith)
+    ((refl, (refl, (refl, tt))), ((refl, (refl, tt)), ((refl, tt), (tt, tt))))
 is_taking explain = takes_files_alone (codes "explain") (codes "NUMBER" ∷ []) (omega arith) ((refl, tt), (tt, tt))
 
 -- ---- a command by its name
@@ -123,7 +127,7 @@ abbrev pub has_name : Text → Kind → Bool
 has_name word k = bytes_eq (name_of k) word
 
 abbrev pub kinds : List Kind
-kinds = replay ∷ collect ∷ check ∷ confirm ∷ audit ∷ run ∷ lint ∷ draw ∷ sum ∷ explain ∷ []
+kinds = replay ∷ collect ∷ check ∷ confirm ∷ audit ∷ run ∷ lint ∷ draw ∷ sum ∷ join ∷ explain ∷ []
 
 abbrev pub kind_named : Text → Option Kind
 kind_named word = find (has_name word) kinds
@@ -138,6 +142,7 @@ kind_of_name run = refl
 kind_of_name lint = refl
 kind_of_name draw = refl
 kind_of_name sum = refl
+kind_of_name join = refl
 kind_of_name explain = refl
 
 -- two commands have two names

@@ -16,14 +16,14 @@ use Rattle.clap.specs.declared.error.kind.ErrorKind.TheVariants.{OutOfMemory}
 use Rattle.std.specs.Prelude.{Box, IfErr, IfOk, IfSome, IsSome, Result, Ok, Err, MatchResult, IsErrAnd, string_bytes}
 use Rattle.std.specs.Box.{box_value}
 use Rattle.fx_command_line.specs.declared.words.Call.{Call}
-use Rattle.fx_command_line.specs.declared.words.Call.TheVariants.{Audit, Check, Collect, Confirm, Draw, Explain, Lint, Replay, Run, Sum}
+use Rattle.fx_command_line.specs.declared.words.Call.TheVariants.{Audit, Check, Collect, Confirm, Draw, Explain, Join, Lint, Replay, Run, Sum}
 use Rattle.clap.proofs.WalkLemmas.{first_value-rows, one_text-rows}
 use Rattle.fx_command_line.specs.Words.{IsLimitSet, Names, NamesDraw, NamesDrawing, NamesFiles, file_given, NamesNoCall, NamesWith}
 use Rattle.fx_command_line.specs.CommandLine.{AreMatchesOf, once_app}
-use Rattle.fx_command_line.specs.Matches.{HoldsFile, HoldsLimit, HasFile, IsAuditOf, IsCheckOf, IsCollectOf, IsConfirmOf, IsDrawOf, IsExplainOf, IsLintOf, IsReplayOf, IsRunCall, IsSumOf}
+use Rattle.fx_command_line.specs.Matches.{HoldsFile, HoldsLimit, HasFile, IsAuditOf, IsCheckOf, IsCollectOf, IsConfirmOf, IsDrawOf, IsExplainOf, IsJoinOf, IsLintOf, IsReplayOf, IsRunCall, IsSumOf}
 use Rattle.fx_command_line.proofs.SingleWords.{Fails}
 use Rattle.fx_command_line.proofs.AcceptedWords.{NamesBy, Refuses, Takes, decide_words}
-use Rattle.fx_command_line.proofs.CommandTable.{Kind, audit, check, collect, confirm, draw, explain, lint, name_of, one_kind, replay, run, sum, taking_of}
+use Rattle.fx_command_line.proofs.CommandTable.{Kind, audit, check, collect, confirm, draw, explain, join, lint, name_of, one_kind, replay, run, sum, taking_of}
 use Rattle.fx_command_line.proofs.LimitWords.{limit_read, limit_taken}
 use Rattle.fx_command_line.proofs.OptionCommand.{IsCount, Taking, files_alone, some_files}
 use Rattle.fx_command_line.proofs.OptionRows.{HasAll, HoldsFirst, Lacks, all_first, first_held, one_held}
@@ -103,6 +103,8 @@ no_call words r (Draw a (Some b) (Some c) d) n =
 no_call words r (Draw a None (Some c) d) n = absurd n
 no_call words r (Sum a b) n = r.unnamed sum (string_bytes a ∷ string_bytes b ∷ []) None (omega arith, omega arith) tt
     (named_alone n)
+no_call words r (Join a b c) n = r.unnamed join (string_bytes a ∷ string_bytes b ∷ string_bytes c ∷ []) None
+    (omega arith, omega arith) tt (named_alone n)
 no_call words r (Explain a) n = r.unnamed explain (string_bytes a ∷ []) None (omega arith, omega arith) tt
     (named_alone n)
 no_call words r (Audit a b limit) n =
@@ -177,9 +179,10 @@ IsNotFound name m = subcommand_name_of m ≡ Some name → false ≡ true
 pub taken_replay : (words : List Text) (m : ArgMatches) → AreMatchesOf words m → IsNotFound (codes "collect") m
     → IsNotFound (codes "check") m → IsNotFound (codes "confirm") m
     → IsNotFound (codes "audit") m → IsNotFound (codes "run") m → IsNotFound (codes "lint") m
-    → IsNotFound (codes "draw") m → IsNotFound (codes "sum") m → IsNotFound (codes "explain") m
-    → subcommand_name_of m ≡ Some (codes "replay")
-taken_replay words m are not_collect not_check not_confirm not_audit not_run not_lint not_draw not_sum not_explain =
+    → IsNotFound (codes "draw") m → IsNotFound (codes "sum") m → IsNotFound (codes "join") m
+    → IsNotFound (codes "explain") m → subcommand_name_of m ≡ Some (codes "replay")
+taken_replay words m are not_collect not_check not_confirm not_audit not_run not_lint not_draw not_sum not_join
+    not_explain =
     let t = taken words m are in go t.0 (taken_name (taking_of t.0) words m t.1)
   where
     go : (k : Kind) → subcommand_name_of m ≡ Some (name_of k) → subcommand_name_of m ≡ Some (codes "replay")
@@ -192,6 +195,7 @@ taken_replay words m are not_collect not_check not_confirm not_audit not_run not
     go lint name = absurd (true≢false (sym (not_lint name)))
     go draw name = absurd (true≢false (sym (not_draw name)))
     go sum name = absurd (true≢false (sym (not_sum name)))
+    go join name = absurd (true≢false (sym (not_join name)))
     go explain name = absurd (true≢false (sym (not_explain name)))
 
 -- ---- the values that are found
@@ -448,6 +452,7 @@ IsCallOf run found call = IsRunCall found call
 IsCallOf lint found call = IsLintOf found call
 IsCallOf draw found call = IsDrawOf found call
 IsCallOf sum found call = IsSumOf found call
+IsCallOf join found call = IsJoinOf found call
 IsCallOf explain found call = IsExplainOf found call
 
 pub names_call : (k : Kind) (words : List Text) (found : Found) → HasWords (taking_of k) words found → (call : Call)
@@ -480,6 +485,9 @@ names_call draw words found f (Draw a o p q) h =
     (option_map string_bytes q) f.count_is.0 f.files_are h.0 h.1 h.2 class
 names_call sum words found f (Sum a b) h =
     files_there (codes "sum") (taking_of sum).ids words (string_bytes a ∷ string_bytes b ∷ []) found f (h.0, (h.1, tt))
+names_call join words found f (Join a b c) h =
+    files_there (codes "join") (taking_of join).ids words (string_bytes a ∷ string_bytes b ∷ string_bytes c ∷ [])
+    found f (h.0, (h.1, (h.2, tt)))
 names_call explain words found f (Explain a) h =
     files_there (codes "explain") (taking_of explain).ids words (string_bytes a ∷ []) found f (h, tt)
 names_call audit words found f (Audit a b limit) h =

@@ -219,6 +219,20 @@ a_lint_wants_a_file : fault_of once_app (codes "once" ∷ codes "lint" ∷ []) �
 unfolding clap_on_literals
 a_lint_wants_a_file = refl
 
+a_join_has_no_fault : fault_of once_app (codes "once" ∷ codes "join" ∷ codes "a" ∷ codes "b" ∷ codes "c" ∷ []) ≡ []
+unfolding clap_on_literals
+a_join_has_no_fault = refl
+
+two_files_are_too_few_for_a_join : fault_of once_app (codes "once" ∷ codes "join" ∷ codes "a" ∷ codes "b" ∷ [])
+    ≡ MissingRequiredArgument ∷ []
+unfolding clap_on_literals
+two_files_are_too_few_for_a_join = refl
+
+four_files_are_too_many_for_a_join : fault_of once_app
+    (codes "once" ∷ codes "join" ∷ codes "a" ∷ codes "b" ∷ codes "c" ∷ codes "d" ∷ []) ≡ UnknownArgument ∷ []
+unfolding clap_on_literals
+four_files_are_too_many_for_a_join = refl
+
 -- help is asked for by a flag or as a command
 help_flag : fault_of once_app (codes "once" ∷ codes "--help" ∷ []) ≡ DisplayHelp ∷ []
 unfolding clap_on_literals

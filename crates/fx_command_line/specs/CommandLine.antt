@@ -66,10 +66,11 @@ once_app =
     let lint = over_network (codes "lint") (new_rule (codes "TRAFFIC")) in
     let draw = with_rule (over_answer (codes "draw")) class_rule in
     let sum = over_network (codes "sum") (file_rule (codes "TOTALS")) in
+    let join = over_documents (codes "join") (file_rule (codes "PARTS")) in
     let explain = number_alone (codes "explain") in
     let seven = with_subcommand (with_subcommand (with_subcommand (with_subcommand three confirm.top) audit.top)
     run.top) lint.top in
-    with_subcommand (with_subcommand (with_subcommand seven draw.top) sum.top) explain.top
+    with_subcommand (with_subcommand (with_subcommand (with_subcommand seven draw.top) sum.top) join.top) explain.top
 
 -- the matches of these arguments on the program's command line, without a fault
 pub record AreMatchesOf (words : List Text) (m : ArgMatches) : Type 0 where

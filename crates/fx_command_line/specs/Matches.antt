@@ -4,7 +4,7 @@ use Rattle.clap.specs.Words.{Text, first_value, one_text}
 use Rattle.clap.specs.declared.parser.matches.Found.{Found}
 use Rattle.fx_command_line.specs.Words.{IsLimit}
 use Rattle.fx_command_line.specs.declared.words.Call.{Call}
-use Rattle.fx_command_line.specs.declared.words.Call.TheVariants.{Audit, Check, Collect, Confirm, Draw, Explain, Lint, Replay, Run, Sum}
+use Rattle.fx_command_line.specs.declared.words.Call.TheVariants.{Audit, Check, Collect, Confirm, Draw, Explain, Join, Lint, Replay, Run, Sum}
 
 -- there is a value under this name
 abbrev pub HasFile : Found → Text → Type 0
@@ -72,6 +72,12 @@ abbrev pub IsSumOf : Found → Call → Type 0
 IsSumOf found (Sum network totals) = HoldsFile found (codes "NETWORK") (string_bytes network)
     × HoldsFile found (codes "TOTALS") (string_bytes totals)
 IsSumOf found _ = ⊥
+
+abbrev pub IsJoinOf : Found → Call → Type 0
+IsJoinOf found (Join network traffic parts) =
+    HoldsFile found (codes "NETWORK") (string_bytes network) × HoldsFile found (codes "TRAFFIC") (string_bytes traffic)
+    × HoldsFile found (codes "PARTS") (string_bytes parts)
+IsJoinOf found _ = ⊥
 
 abbrev pub IsRunCall : Found → Call → Type 0
 IsRunCall found (Run network traffic capture schedule links) =

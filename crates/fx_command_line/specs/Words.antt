@@ -4,7 +4,7 @@ use Rattle.std.specs.Str.Parse.{IsNumeral, digits_value, without_leading_plus}
 use Rattle.std.specs.Str.{bytes_eq, chars}
 use Rattle.clap.specs.Words.{Text}
 use Rattle.fx_command_line.specs.declared.words.Call.{Call}
-use Rattle.fx_command_line.specs.declared.words.Call.TheVariants.{Audit, Check, Collect, Confirm, Draw, Explain, Lint, Replay, Run, Sum}
+use Rattle.fx_command_line.specs.declared.words.Call.TheVariants.{Audit, Check, Collect, Confirm, Draw, Explain, Join, Lint, Replay, Run, Sum}
 
 -- an argument that begins with `-` (45) and has further characters
 abbrev pub is_flag : Text → Bool
@@ -105,9 +105,9 @@ NamesDrawing words network None (Some answer) class = ⊥
 
 -- `once replay NETWORK TRAFFIC RUN`, `once collect NETWORK STREAM`, `once check NETWORK TRAFFIC CERTIFICATE`,
 -- `once confirm NETWORK TRAFFIC REFUTATION`, `once audit NETWORK TRAFFIC [--limit N]`,
--- `once run NETWORK TRAFFIC CAPTURE SCHEDULE [--links PREFIX]`, `once sum NETWORK TOTALS`, `once lint NETWORK
--- [TRAFFIC]`,
--- `once draw NETWORK [TRAFFIC [ANSWER]] [--class NAME]` and `once explain NUMBER`
+-- `once run NETWORK TRAFFIC CAPTURE SCHEDULE [--links PREFIX]`, `once lint NETWORK [TRAFFIC]`,
+-- `once draw NETWORK [TRAFFIC [ANSWER]] [--class NAME]`, `once sum NETWORK TOTALS`, `once join NETWORK TRAFFIC PARTS`
+-- and `once explain NUMBER`
 abbrev pub Names : List Text → Call → Type 0
 Names words (Replay network traffic run) =
     NamesFiles words (codes "replay") (string_bytes network ∷ string_bytes traffic ∷ string_bytes run ∷ [])
@@ -127,6 +127,8 @@ Names words (Draw network traffic answer class) =
     NamesDrawing words (string_bytes network) (option_map string_bytes traffic) (option_map string_bytes answer)
     (option_map string_bytes class)
 Names words (Sum network totals) = NamesFiles words (codes "sum") (string_bytes network ∷ string_bytes totals ∷ [])
+Names words (Join network traffic parts) =
+    NamesFiles words (codes "join") (string_bytes network ∷ string_bytes traffic ∷ string_bytes parts ∷ [])
 Names words (Explain number) = NamesFiles words (codes "explain") (string_bytes number ∷ [])
 
 abbrev pub NamesNoCall : List Text → Type 0

@@ -299,6 +299,22 @@ fn sum_command<'a>(alloc: Global) -> Result<Command<'a>, AllocError>
     )
 }
 
+/// Returns the command `join`.
+fn join_command<'a>(alloc: Global) -> Result<Command<'a>, AllocError>
+    ensures app { IfOk result (λ c. app_of c
+        ≡ over_documents (codes "join") (file_rule (codes "PARTS"))) }
+    ensures local { IfOk result (λ c. (out-Command c).has_globals ≡ false) }
+{
+    over_documents(
+        alloc,
+        "join",
+        "Joins certified parts of a network: decides whether they certify the whole",
+        help_text::JOIN,
+        "PARTS",
+        "The bundles of the parts, one after another",
+    )
+}
+
 /// Returns the command `explain`.
 fn explain_command<'a>(alloc: Global) -> Result<Command<'a>, AllocError>
     ensures app { IfOk result (λ c. app_of c ≡ number_alone (codes "explain")) }
@@ -352,6 +368,7 @@ pub(crate) fn command_line<'a>(alloc: Global) -> Result<Command<'a>, AllocError>
     add(&mut commands, lint_command(alloc))?;
     add(&mut commands, draw_command(alloc))?;
     add(&mut commands, sum_command(alloc))?;
+    add(&mut commands, join_command(alloc))?;
     add(&mut commands, explain_command(alloc))?;
     program(alloc).subcommands(commands)
 }

@@ -11,6 +11,7 @@ The way through:
                                        that shows a wrong total
   once check NETWORK TRAFFIC ANSWER    does this certificate show it? (whoever made it needn't be
                                        trusted)
+  once join NETWORK TRAFFIC PARTS      do the certificates of parts certify the whole network?
   once confirm NETWORK TRAFFIC ANSWER  does this run show a wrong total? With what is counted and
                                        what should be
   once draw NETWORK TRAFFIC ANSWER     all of it as a picture (Graphviz)
@@ -34,7 +35,7 @@ It is printed at most once a second.
 
 Exit status:
   0  the answer is on standard output
-  1  the answer is no: `no NUMBER PLACE` of check and confirm, a refutation of audit,
+  1  the answer is no: `no NUMBER PLACE` of check, confirm and join, a refutation of audit,
      `unknown number` of explain
   2  a text is refused: `refused NUMBER PLACE`
   3  `unknown 601`: an audit found neither within its limits
@@ -500,6 +501,42 @@ collected together, in any order; and sums can be summed. A text that is refused
 `refused 861 line N` (status 2).
 
 --explain explains what is refused in sentences, and what is due at that line.";
+
+/// The text after the help of `join`.
+pub const JOIN: &str = "\
+Example:
+  once-part cut network.json traffic.json --to parts
+  once-part audit parts
+  once-part bundle parts > parts.txt
+  once join network.json traffic.json parts.txt
+
+The example cuts a large network into parts with `once-part`, audits them, and joins them.
+
+Files:
+  NETWORK  JSON: \"devices\", \"links\", \"report\" of the whole network, of any size; an example of
+           both documents: `once help lint`
+  TRAFFIC  JSON: \"classes\" with regions and paths, of the whole network, of any size
+  PARTS    a text of zero or more bundles, one directly after another: a line `check`, then the
+           network document of the part, its traffic declaration and its certificate, each followed
+           by a line `%%`; one part is kept in memory at a time
+
+Checks each certificate as `once check` does. Looks up the part's collecting processes in the whole
+network by the names of device and process, and its classes by name. A part covers a class if its
+own class of that name has the same region and, for each path, one that is metered in the same way.
+Each class of the whole network must be covered by a part.
+
+Prints `yes` (status 0) only where every complete run of the whole network counts each packet of its
+classes exactly once; whoever cut the network or made the certificates needn't be trusted. Or
+`no NUMBER PLACE` (status 1), where parts count from 1 and classes from 0:
+
+  no 421 part K      the documents or the certificate of part K are not accepted
+  no 422 part K      the network of part K is not a part of the whole network
+  no 423 /classes/I  no part covers class I of the whole network
+
+A document of the whole network that is refused, or a text that is no part (801, at `part K`):
+`refused NUMBER PLACE` (status 2).
+
+--explain adds sentences about the part or the class, and what to do.";
 
 /// The text after the help of `explain`.
 pub const EXPLAIN: &str = "\

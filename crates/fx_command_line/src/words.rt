@@ -2,7 +2,7 @@
 ghost use Rattle.std.specs.Prelude.{◌≡◌, ◌⊎◌, ℕ, IfErr, IfOk, List, MatchResult, codes, map, option_map, string_bytes};
 ghost use Rattle.clap.specs.Words.{fault_of, found_of, HasKind, kind_of, Text};
 ghost use Rattle.fx_command_line.specs.CommandLine.{AreMatchesOf, once_app};
-ghost use Rattle.fx_command_line.specs.Matches.{HoldsFile, HoldsLimit, HoldsOption, IsAuditOf, IsCheckOf, IsCollectOf, IsConfirmOf, IsDrawOf, HasFile, IsExplainOf, IsLintOf, IsReplayOf, IsRunCall, IsSumOf};
+ghost use Rattle.fx_command_line.specs.Matches.{HoldsFile, HoldsLimit, HoldsOption, IsAuditOf, IsCheckOf, IsCollectOf, IsConfirmOf, IsDrawOf, HasFile, IsExplainOf, IsJoinOf, IsLintOf, IsReplayOf, IsRunCall, IsSumOf};
 ghost use Rattle.fx_command_line.specs.Words.{Names, NamesNoCall};
 
 use crate::commands::command_line;
@@ -94,6 +94,15 @@ pub enum Call {
         /// The texts of totals, one after another.
         totals: String,
     },
+    /// Joins certified parts of a network: decides whether they certify the whole.
+    Join {
+        /// The network document of the whole.
+        network: String,
+        /// The traffic declaration of the whole.
+        traffic: String,
+        /// The bundles of the parts, one after another.
+        parts: String,
+    },
     /// Explains the refusals of a number.
     Explain {
         /// The number in decimal digits, or `all`.
@@ -149,6 +158,11 @@ impl Drop for Call {
             Call::Sum {
                 network: _,
                 totals: _,
+            } => {}
+            Call::Join {
+                network: _,
+                traffic: _,
+                parts: _,
             } => {}
             Call::Explain { number: _ } => {}
         }
@@ -303,6 +317,20 @@ fn sum_call(alloc: Global, matches: &ArgMatches<'_>) -> Result<Call, AllocError>
     })
 }
 
+/// Returns the call of `join`, given the matches of its arguments.
+fn join_call(alloc: Global, matches: &ArgMatches<'_>) -> Result<Call, AllocError>
+    requires { HasFile (found_of matches.now) (codes "NETWORK")
+        × HasFile (found_of matches.now) (codes "TRAFFIC")
+        × HasFile (found_of matches.now) (codes "PARTS") }
+    ensures { IfOk result (IsJoinOf (found_of matches.now)) }
+{
+    Ok(Call::Join {
+        network: file_name(alloc, matches, "NETWORK")?,
+        traffic: file_name(alloc, matches, "TRAFFIC")?,
+        parts: file_name(alloc, matches, "PARTS")?,
+    })
+}
+
 /// Returns the call of `explain`, given the matches of its arguments.
 fn explain_call(alloc: Global, matches: &ArgMatches<'_>) -> Result<Call, AllocError>
     requires { HasFile (found_of matches.now) (codes "NUMBER") }
@@ -341,6 +369,9 @@ fn call_of(alloc: Global, matches: &ArgMatches<'_>) -> Result<Call, AllocError>
     }
     if let Some(sum) = matches.subcommand_matches("sum") {
         return sum_call(alloc, sum);
+    }
+    if let Some(join) = matches.subcommand_matches("join") {
+        return join_call(alloc, join);
     }
     if let Some(explain) = matches.subcommand_matches("explain") {
         return explain_call(alloc, explain);

@@ -1,6 +1,6 @@
 use Rattle.std.proofs.Common.{arith, refl}
 use Rattle.clap.specs.Words.{found_of}
-use Rattle.fx_command_line.proofs.CommandTable.{audit, check, collect, confirm, draw, explain, lint, replay, run, sum}
+use Rattle.fx_command_line.proofs.CommandTable.{audit, check, collect, confirm, draw, explain, join, lint, replay, run, sum}
 use Rattle.fx_command_line.proofs.ParsedWords.{all_found, drawn_found, if_some, limit_found, names_call, network_found, ok_as, taken_replay, words_of}
 use Rattle.fx_command_line.proofs.words.call_of.Goals as goal
 
@@ -154,20 +154,39 @@ returns-in-Some-subcommand_matches-7 c = λ words are.
     (words_of sum words c.args.matches.now found are (some.ensures.found.0 refl) some.ensures.rows))
     c.sum_call.ensures
 
+-- ---- where the command is `join`
+
+pub join_call-requires : goal.join_call-requires
+join_call-requires c =
+    let some = c.in-Some-subcommand_matches-8 in
+    let found = found_of some.join.now in
+    let f = words_of join c.requires.0 c.args.matches.now found c.requires.1 (some.ensures.found.0 refl)
+    some.ensures.rows in
+    let h = all_found found f (omega arith) in
+    (h.0, h.1.0, h.1.1.0)
+
+pub returns-in-Some-subcommand_matches-8 : goal.returns-in-Some-subcommand_matches-8
+returns-in-Some-subcommand_matches-8 c = λ words are.
+    let some = c.in-Some-subcommand_matches-8 in
+    let found = found_of some.join.now in
+    ok_as c.join_call.result _ _ (names_call join words found
+    (words_of join words c.args.matches.now found are (some.ensures.found.0 refl) some.ensures.rows))
+    c.join_call.ensures
+
 -- ---- where the command is `explain`
 
 pub explain_call-requires : goal.explain_call-requires
 explain_call-requires c =
-    let some = c.in-Some-subcommand_matches-8 in
+    let some = c.in-Some-subcommand_matches-9 in
     let found = found_of some.explain.now in
     let f = words_of explain c.requires.0 c.args.matches.now found c.requires.1 (some.ensures.found.0 refl)
     some.ensures.rows in
     let h = all_found found f (omega arith) in
     h.0
 
-pub returns-in-Some-subcommand_matches-8 : goal.returns-in-Some-subcommand_matches-8
-returns-in-Some-subcommand_matches-8 c = λ words are.
-    let some = c.in-Some-subcommand_matches-8 in
+pub returns-in-Some-subcommand_matches-9 : goal.returns-in-Some-subcommand_matches-9
+returns-in-Some-subcommand_matches-9 c = λ words are.
+    let some = c.in-Some-subcommand_matches-9 in
     let found = found_of some.explain.now in
     ok_as c.explain_call.result _ _ (names_call explain words found
     (words_of explain words c.args.matches.now found are (some.ensures.found.0 refl) some.ensures.rows))
@@ -177,12 +196,13 @@ returns-in-Some-subcommand_matches-8 c = λ words are.
 
 pub unwrap-requires : goal.unwrap-requires
 unwrap-requires c =
-    c.subcommand_matches-10.ensures.found.1
+    c.subcommand_matches-11.ensures.found.1
     (taken_replay c.requires.0 c.args.matches.now c.requires.1 c.in_default.ensures.found.1
     c.in_default-subcommand_matches.ensures.found.1 c.in_default-subcommand_matches-2.ensures.found.1
     c.in_default-subcommand_matches-3.ensures.found.1 c.in_default-subcommand_matches-4.ensures.found.1
     c.in_default-subcommand_matches-5.ensures.found.1 c.in_default-subcommand_matches-6.ensures.found.1
-    c.in_default-subcommand_matches-7.ensures.found.1 c.in_default-subcommand_matches-8.ensures.found.1)
+    c.in_default-subcommand_matches-7.ensures.found.1 c.in_default-subcommand_matches-8.ensures.found.1
+    c.in_default-subcommand_matches-9.ensures.found.1)
 
 pub replay_call-requires : goal.replay_call-requires
 replay_call-requires c =
@@ -191,9 +211,10 @@ replay_call-requires c =
     c.in_default-subcommand_matches.ensures.found.1 c.in_default-subcommand_matches-2.ensures.found.1
     c.in_default-subcommand_matches-3.ensures.found.1 c.in_default-subcommand_matches-4.ensures.found.1
     c.in_default-subcommand_matches-5.ensures.found.1 c.in_default-subcommand_matches-6.ensures.found.1
-    c.in_default-subcommand_matches-7.ensures.found.1 c.in_default-subcommand_matches-8.ensures.found.1 in
-    let rows = if_some c.subcommand_matches-10.result c.unwrap.result _ c.unwrap.ensures
-    c.subcommand_matches-10.ensures.rows in
+    c.in_default-subcommand_matches-7.ensures.found.1 c.in_default-subcommand_matches-8.ensures.found.1
+    c.in_default-subcommand_matches-9.ensures.found.1 in
+    let rows = if_some c.subcommand_matches-11.result c.unwrap.result _ c.unwrap.ensures
+    c.subcommand_matches-11.ensures.rows in
     let f = words_of replay c.requires.0 c.args.matches.now found c.requires.1 name rows in
     let h = all_found found f (omega arith) in
     (h.0, h.1.0, h.1.1.0)
@@ -205,8 +226,9 @@ returns c = λ words are.
     c.in_default-subcommand_matches.ensures.found.1 c.in_default-subcommand_matches-2.ensures.found.1
     c.in_default-subcommand_matches-3.ensures.found.1 c.in_default-subcommand_matches-4.ensures.found.1
     c.in_default-subcommand_matches-5.ensures.found.1 c.in_default-subcommand_matches-6.ensures.found.1
-    c.in_default-subcommand_matches-7.ensures.found.1 c.in_default-subcommand_matches-8.ensures.found.1 in
-    let rows = if_some c.subcommand_matches-10.result c.unwrap.result _ c.unwrap.ensures
-    c.subcommand_matches-10.ensures.rows in
+    c.in_default-subcommand_matches-7.ensures.found.1 c.in_default-subcommand_matches-8.ensures.found.1
+    c.in_default-subcommand_matches-9.ensures.found.1 in
+    let rows = if_some c.subcommand_matches-11.result c.unwrap.result _ c.unwrap.ensures
+    c.subcommand_matches-11.ensures.rows in
     ok_as c.replay_call.result _ _ (names_call replay words found
     (words_of replay words c.args.matches.now found are name rows)) c.replay_call.ensures
