@@ -25,6 +25,7 @@ COMMANDS = [
     ("What the documents mean: `network_of` and `traffic_of`, by which a yes of `once check` speaks of octets",
      [("fx_topology/Networks", "network_of"), ("fx_traffic/Classes", "traffic_of")]),
     ("`fx_checker::check_bytes`", [("fx_checker", "check_bytes", [])]),
+    ("`fx_join::join_bytes`", [("fx_join", "join_bytes", [])]),
     ("`fx_audit::replay_bytes`", [("fx_audit", "replay_bytes", [])]),
     ("`fx_audit::collect_bytes`", [("fx_audit", "collect_bytes", [])]),
     ("`fx_audit::run_bytes`", [("fx_audit", "run_bytes", [])]),

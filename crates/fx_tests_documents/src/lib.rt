@@ -38,6 +38,8 @@ mod drawings;
 #[cfg(test)]
 mod explanations;
 #[cfg(test)]
+mod joins;
+#[cfg(test)]
 mod json_answers;
 #[cfg(test)]
 mod judging;

@@ -1,0 +1,9 @@
+pub mod LineParts
+pub mod Taken
+pub mod Texts
+pub mod TextsOfParts
+pub mod PartsRead
+pub mod PartFaults
+pub mod Stops
+pub mod Wholes
+pub mod JoinAnswers
