@@ -18,7 +18,7 @@ TOP = os.path.dirname(HERE)
 # What completes each placeholder of the help: files with these endings first, or nothing.
 ENDINGS = {
     "NETWORK": "json", "TRAFFIC": "json", "CERTIFICATE": "txt", "REFUTATION": "txt", "RUN": "txt", "SCHEDULE": "txt",
-    "CAPTURE": "pcap", "STREAM": "ipfix", "ANSWER": "txt", "TOTALS": "txt", "PREFIX": "", "N": None, "NAME": None, "NUMBER": None,
+    "CAPTURE": "pcap", "STREAM": "ipfix", "ANSWER": "txt", "TOTALS": "txt", "PARTS": "txt", "PREFIX": "", "N": None, "NAME": None, "NUMBER": None,
 }
 
 

@@ -29,7 +29,7 @@ GROUPS = {
     "deciders": "fx_check fx_parts fx_refute fx_steps fx_search",
     "simulation": "fx_store fx_net fx_conform fx_sums",
     "explaining": "fx_words fx_explanation fx_explain_documents fx_explain_runs fx_explain_streams fx_drawings fx_json_answers",
-    "program": "fx_checker fx_audit fx_command_line fx_cli once once_check",
+    "program": "fx_checker fx_join fx_audit fx_command_line fx_cli once once_check",
     "tests": "fx_callers fx_tests_documents fx_tests_network fx_tests_program fx_tests_values",
 }
 

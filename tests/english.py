@@ -25,8 +25,8 @@ TOTAL = 30_000
 APART = {"docs/LAB.md": 3_000, "docs/PROOF.md": 2_500, "docs/SPEED.md": 600}
 # The most words of a page, and of any other page.
 LIMITS = {
-    "README.md": 700, "CONTRIBUTING.md": 2_100, "docs/ARCHITECTURE.md": 2_200, "docs/BELIEVE.md": 2_600, "docs/DECISIONS.md": 2_900,
-    "docs/FORMATS.md": 2_900, "docs/GATE.md": 1_800, "docs/GLOSSARY.md": 2_300, "docs/GUIDE.md": 3_300, "docs/PROVED.md": 3_300,
+    "README.md": 700, "CONTRIBUTING.md": 2_100, "docs/ARCHITECTURE.md": 2_200, "docs/BELIEVE.md": 2_700, "docs/DECISIONS.md": 2_900,
+    "docs/FORMATS.md": 3_100, "docs/GATE.md": 1_800, "docs/GLOSSARY.md": 2_300, "docs/GUIDE.md": 3_300, "docs/PROVED.md": 3_400,
     "docs/REFUSALS.md": 5_500, "docs/SCALE.md": 900, "tests/README.md": 1_400,
 }
 OTHER_LIMIT = 1_500

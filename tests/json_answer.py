@@ -23,6 +23,7 @@ DOCUMENTS = ("network", "traffic")
 FILES = {
     "audit": DOCUMENTS, "check": (*DOCUMENTS, "certificate"), "confirm": (*DOCUMENTS, "refutation"), "replay": (*DOCUMENTS, "run"),
     "run": (*DOCUMENTS, "capture", "schedule"), "collect": ("network", "stream"), "sum": ("network", "totals"), "lint": DOCUMENTS,
+    "join": (*DOCUMENTS, "parts"),
     "draw": (*DOCUMENTS, "answer"), "explain": (), "": (),
 }
 # Options that have a value.

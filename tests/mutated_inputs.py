@@ -33,14 +33,15 @@ FILES = {
     "run": ["network", "traffic", "capture", "schedule"],
     "collect": ["network", "stream"],
     "lint": ["network"],
+    "join": ["network", "traffic", "parts"],
 }
-KINDS = ["network", "traffic", "certificate", "refutation", "run", "capture", "schedule", "stream", "bundle"]
+KINDS = ["network", "traffic", "certificate", "refutation", "run", "capture", "schedule", "stream", "bundle", "parts"]
 SPACE, SECONDS = 64 << 20, 10
 # What the longest refutations take.
 MORE_SPACE, MANY_STEPS = 96 << 20, 500_000
 NUMBERS = [b"0", b"1", b"255", b"256", b"65535", b"65536", b"4294967295", b"4294967296", b"18446744073709551615",
            b"18446744073709551616", b"340282366920938463463374607431768211456", b"-1", b"01", b"1e9", b"0.5"]
-PLACE = rb"( line \d+| octet \d+| /[^\n]*| [0-9. ]+| )?\n"
+PLACE = rb"( line \d+| octet \d+| part \d+| /[^\n]*| [0-9. ]+| )?\n"
 # What may be printed, by the status.
 PRINTED = {
     0: re.compile(rb"(ok\n|yes\n|once-certificate [12]\n[^\0]*end\n|(refuted\nrun\n)?keys \d+\n[^\0]*)"),

@@ -37,6 +37,7 @@ SWEPT = (
     "run-with-a-schedule",
     "run-with-a-bounded-cache",
     "run-with-an-aggregation",
+    "join-of-certified-parts",
 )
 
 # Rows that are swept with `--format json` too.

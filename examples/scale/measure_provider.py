@@ -2,9 +2,9 @@
 """measure_provider.py [ROUTERS..]
 
 Has once-part cut, audit and verify networks of make_provider.py with 200, 600 and 2,000 routers, or as many as are named, and
-prints a line for each: routers, classes, parts, megabytes of the parts' documents, then CPU seconds of cutting, of all calls
-of `once audit`, of all calls of `once check`, and of once-part verify. `once` is the program that ONCE names, else the one that
-`make once` has built, else the one on the PATH.
+`once join` their parts, and prints a line for each: routers, classes, parts, megabytes of the parts' documents, then CPU seconds of
+cutting, of all calls of `once audit`, of all calls of `once check`, of `once join` with the most megabytes it had in memory, and of
+once-part verify. `once` is the program that ONCE names, else the one that `make once` has built, else the one on the PATH.
 """
 import json
 import os
@@ -31,6 +31,20 @@ def seconds(*words):
     return after.ru_utime + after.ru_stime - before.ru_utime - before.ru_stime
 
 
+def joined(network, traffic, parts):
+    """Has `once` join parts, which must be certified; returns its CPU seconds and the most megabytes that it had in memory."""
+    text = parts + ".txt"
+    with open(text, "wb") as out:
+        subprocess.run([PART, "bundle", parts], stdout=out, check=True)
+    with subprocess.Popen([ONCE, "join", network, traffic, text], stdout=subprocess.PIPE) as ran:
+        said = ran.stdout.read()
+        used = os.wait4(ran.pid, 0)[2]
+        ran.returncode = 0
+    if said != b"yes\n":
+        sys.exit("once join printed %r" % said)
+    return used.ru_utime + used.ru_stime, used.ru_maxrss / 1024
+
+
 def row(routers, folder):
     """The figures of one network."""
     network, traffic, parts = (os.path.join(folder, name) for name in ("network.json", "traffic.json", "parts"))
@@ -44,16 +58,17 @@ def row(routers, folder):
     check = sum(seconds(ONCE, "check", *names) for names in files)
     octets = sum(os.path.getsize(name) for names in files for name in names[:2])
     classes = sum(len(one["classes"]) for one in entries)
-    return routers, classes, len(entries), octets / 1e6, cut, audit - check, check, verify
+    join, memory = joined(network, traffic, parts)
+    return routers, classes, len(entries), octets / 1e6, cut, audit - check, check, join, memory, verify
 
 
 def main():
     if any(not one.isdigit() for one in sys.argv[1:]):
         sys.exit(__doc__)
-    print("routers classes parts  MB   cut audit check verify")
+    print("routers classes parts  MB   cut audit check  join  MB verify")
     for routers in map(int, sys.argv[1:] or ("200", "600", "2000")):
         with tempfile.TemporaryDirectory() as folder:
-            print("%7d %7d %5d %3.0f %5.1f %5.1f %5.1f %6.1f" % row(routers, folder), flush=True)
+            print("%7d %7d %5d %3.0f %5.1f %5.1f %5.1f %5.1f %3.0f %6.1f" % row(routers, folder), flush=True)
 
 
 if __name__ == "__main__":

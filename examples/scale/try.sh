@@ -111,6 +111,9 @@ try_provider() {
   "$part" audit provider/parts --once "$program" >> provider/said
   "$part" verify provider/parts provider/network.json provider/traffic.json --once "$program" >> provider/said ||
     differs "the parts of a provider are certified, and cover all its paths"
+  "$part" bundle provider/parts > provider/parts.txt
+  "$program" join provider/network.json provider/traffic.json provider/parts.txt >> provider/said ||
+    differs "the parts of a provider certify the whole"
   python3 "$here/make_provider.py" wrong --routers 100 --mistake
   "$part" cut wrong/network.json wrong/traffic.json --to wrong/parts > wrong/said
   "$part" audit wrong/parts --once "$program" >> wrong/said || status=$?

@@ -18,11 +18,11 @@ use Rattle.fx_link.specs.Links.{Put}
 use Rattle.fx_audit.specs.Metering.{IsMetered}
 use Rattle.fx_checker.specs.Outputs.{AnswersWith, Prints}
 use Rattle.fx_checker.specs.declared.answer.Answer.{Answer}
-use Rattle.fx_cli.specs.Running.{EndsExplained, HasFailedExplained, IsCallRefusal, IsCallText, IsLintRefusal, IsLintOutput, IsRunOutput, IsRunRefusal, IsAuditOutput, ForSomeNetwork, ForSomeDocuments}
+use Rattle.fx_cli.specs.Running.{EndsExplained, HasFailedExplained, IsCallRefusal, IsCallText, IsLintRefusal, IsLintOutput, IsRunOutput, IsRunRefusal, IsAuditOutput, ForSomeNetwork, ForSomeDocuments, ForSomeFiles}
 use Rattle.fx_command_line.specs.Words.{Names, NamesAudit, NamesFiles, NamesRun, NamesWith, IsLimit, IsLimitSet, file_given, file_names}
 use Rattle.fx_command_line.specs.declared.words.Call.{Call}
-use Rattle.fx_command_line.specs.declared.words.Call.TheVariants.{Audit, Check, Collect, Confirm, Draw, Explain, Lint, Replay, Run, Sum}
-use Rattle.fx_command_line.proofs.CommandTable.{Kind, audit, check, collect, confirm, draw, explain, limit_name, lint, name_of, nameless, replay, run, sum}
+use Rattle.fx_command_line.specs.declared.words.Call.TheVariants.{Audit, Check, Collect, Confirm, Draw, Explain, Join, Lint, Replay, Run, Sum}
+use Rattle.fx_command_line.proofs.CommandTable.{Kind, audit, check, collect, confirm, draw, explain, join, limit_name, lint, name_of, nameless, replay, run, sum}
 use Rattle.fx_command_line.proofs.AcceptedWords.{behind, second}
 use Rattle.fx_command_line.proofs.OptionNames.{IsName, option_alone}
 use Rattle.fx_checker.specs.Running.{EndsAs, IsAtBeginning, IsRefusal, ForSomeTexts}
@@ -39,6 +39,7 @@ kind_of (Run a b c d links) = run
 kind_of (Lint a b) = lint
 kind_of (Draw a b c d) = draw
 kind_of (Sum a b) = sum
+kind_of (Join a b c) = join
 kind_of (Explain a) = explain
 
 command_word : (words : List Text) (call : Call) → Names words call → second words ≡ name_of (kind_of call)
@@ -54,6 +55,7 @@ command_word words (Draw a (Some b) None d) n = ap second n.words_are
 command_word words (Draw a (Some b) (Some c) d) n = ap second n.words_are
 command_word words (Draw a None (Some c) d) n = absurd n
 command_word words (Sum a b) n = ap second n.words_are
+command_word words (Join a b c) n = ap second n.words_are
 command_word words (Explain a) n = ap second n.words_are
 
 -- the program's own name alone names no call
@@ -145,6 +147,7 @@ same_text words (Lint a b) (Lint d e) n m answer text is =
     subst (λ (given : Bool). IsLintOutput given answer text) (given_alike words a d b e n m) is
 same_text words (Draw a b c k) (Draw d e f l) n m answer text is = is
 same_text words (Sum a b) (Sum d e) n m answer text is = is
+same_text words (Join a b c) (Join d e f) n m answer text is = is
 same_text words (Explain a) (Explain d) n m answer text is =
     explained_alike words (string_bytes a) (string_bytes d) n m answer text is
 same_text words one other n m answer text is = absurd (apart words one other n m refl)
@@ -184,6 +187,7 @@ same_refusal words (Lint a b) (Lint d e) n m fault is =
     subst (λ (given : Bool). IsRefusal (IsLintRefusal given) fault) (given_alike words a d b e n m) is
 same_refusal words (Draw a b c k) (Draw d e f l) n m fault is = is
 same_refusal words (Sum a b) (Sum d e) n m fault is = is
+same_refusal words (Join a b c) (Join d e f) n m fault is = is
 same_refusal words (Explain a) (Explain d) n m fault is = is
 same_refusal words one other n m fault is = absurd (apart words one other n m refl)
 
@@ -198,6 +202,7 @@ memory_refusal (Run a b c d links) = inl refl
 memory_refusal (Lint a b) = inl refl
 memory_refusal (Draw a b c d) = tt
 memory_refusal (Sum a b) = inl refl
+memory_refusal (Join a b c) = inl refl
 memory_refusal (Explain a) = refl
 
 -- a program that ends as one call of the words does ends as any does
@@ -221,6 +226,15 @@ pub of_documents : {E : Type 0} (P : Answer → List ℕ → List ℕ → List �
 of_documents P (Ok answer) network traffic old new (n, left, (t, also, (text, is, written))) =
     (text, (n, t, is), written)
 of_documents P (Err e) network traffic old new reported = tt
+
+pub of_files : {E : Type 0} (P : Answer → List ℕ → List ℕ → List ℕ → List ℕ → Type 0) (r : Result Answer E)
+    (network traffic third old new : Option (List ℕ))
+    → IfOk r (λ answer. BothMayHaveLeft network traffic (λ n t. MayHaveLeft third
+    (λ p. Prints (P answer n t p) old new)))
+    → IfOk r (λ answer. Prints (λ text. ForSomeFiles (λ n t p. P answer n t p text)) old new)
+of_files P (Ok answer) network traffic third old new (n, left, (t, also, (p, too, (text, is, written)))) =
+    (text, (n, t, p, is), written)
+of_files P (Err e) network traffic third old new reported = tt
 
 pub yes_of_documents : {E : Type 0} (P : List ℕ → List ℕ → List ℕ → Type 0) (r : Result Answer E)
     (network traffic old new : Option (List ℕ))

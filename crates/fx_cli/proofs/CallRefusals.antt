@@ -9,7 +9,7 @@ use Rattle.fx_base.specs.Lines.{Fails, Lines}
 use Rattle.fx_link.specs.Links.{Put}
 use Rattle.fx_checker.specs.Documents.{BothMayHaveLeft}
 use Rattle.fx_audit.specs.Metering.{IsRefusedMetering}
-use Rattle.fx_cli.specs.Running.{IsCaptureRefusal, IsRunRefusal, ForSomeNetwork, ForSomeDocuments}
+use Rattle.fx_cli.specs.Running.{IsCaptureRefusal, IsRunRefusal, ForSomeNetwork, ForSomeDocuments, ForSomeFiles}
 use Rattle.fx_checker.specs.Running.{IsAtBeginning, IsRefusal, ForSomeTexts}
 use Rattle.fx_checker.proofs.RefusedTexts.{fails_unread}
 
@@ -26,6 +26,23 @@ documents_refused R network traffic U V failed (Err e) (inr (inr (inl (is, cut))
 documents_refused R network traffic U V failed (Err e) (inr (inr (inr (inl write)))) = inl write
 documents_refused R network traffic U V failed (Err e) (inr (inr (inr (inr (n, left, (t, also, is)))))) =
     inr (inr (inr (n, t, is)))
+
+pub files_refused : (R : List ℕ → List ℕ → List ℕ → Fault → Type 0) (network traffic third : Option (List ℕ))
+    (U V W : Type 0) (failed : Bool) {A : Type 0} (r : Result A Fault)
+    → IfErr r (λ e. IsMemory e ⊎ (((e ≡ fault_at 901 places.None) × U)
+    ⊎ (((e ≡ fault_at 901 places.None) × V)
+    ⊎ (((e ≡ fault_at 901 places.None) × W)
+    ⊎ (IsWriteFault failed e
+    ⊎ BothMayHaveLeft network traffic (λ n t. MayHaveLeft third (λ p. R n t p e)))))))
+    → IfErr r (λ e. IsWriteFault failed e ⊎ IsRefusal (λ x. ForSomeFiles (λ n t p. R n t p x)) e)
+files_refused R network traffic third U V W failed (Ok a) why = tt
+files_refused R network traffic third U V W failed (Err e) (inl memory) = inr (inl memory)
+files_refused R network traffic third U V W failed (Err e) (inr (inl (is, cut))) = inr (inr (inl is))
+files_refused R network traffic third U V W failed (Err e) (inr (inr (inl (is, cut)))) = inr (inr (inl is))
+files_refused R network traffic third U V W failed (Err e) (inr (inr (inr (inl (is, cut))))) = inr (inr (inl is))
+files_refused R network traffic third U V W failed (Err e) (inr (inr (inr (inr (inl write))))) = inl write
+files_refused R network traffic third U V W failed (Err e)
+    (inr (inr (inr (inr (inr (n, left, (t, also, (p, too, is)))))))) = inr (inr (inr (n, t, p, is)))
 
 pub document_refused : (R : List ℕ → Fault → Type 0) (network : Option (List ℕ)) (U : Type 0) (failed : Bool)
     {A : Type 0} (r : Result A Fault)

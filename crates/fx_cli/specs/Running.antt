@@ -15,11 +15,12 @@ use Rattle.fx_audit.specs.Commands.{AreLinted, IsAudited, IsCollected, IsConfirm
 use Rattle.fx_checker.specs.Documents.{IsRefusedByDocuments, IsRefusedNetwork}
 use Rattle.fx_audit.specs.Metering.{IsMetered, IsRefusedMetering}
 use Rattle.fx_audit.specs.Sums.{IsRefusedSum, IsSummed}
+use Rattle.fx_join.specs.Joins.{IsJoined, IsRefusedJoin}
 use Rattle.fx_cli.specs.Drawing.{IsDrawingText}
 use Rattle.fx_cli.specs.Explaining.{IsExplainText}
 use Rattle.fx_checker.specs.Ending.{refusal_line, refusal_status, status}
 use Rattle.fx_command_line.specs.declared.words.Call.{Call}
-use Rattle.fx_command_line.specs.declared.words.Call.TheVariants.{Audit, Check, Collect, Confirm, Draw, Explain, Lint, Replay, Run, Sum}
+use Rattle.fx_command_line.specs.declared.words.Call.TheVariants.{Audit, Check, Collect, Confirm, Draw, Explain, Join, Lint, Replay, Run, Sum}
 use Rattle.fx_checker.specs.Running.{IsAtBeginning, ForSomeTexts, IsCheckOutput, IsCheckRefusal, IsRefusal}
 
 -- ---- the possible contents of a command's files
@@ -31,6 +32,10 @@ ForSomeNetwork P = (network : List ℕ) × P network
 -- some octets, possible contents of two files, satisfy the predicate
 abbrev pub ForSomeDocuments : (List ℕ → List ℕ → Type 0) → Type 0
 ForSomeDocuments P = (network : List ℕ) × (traffic : List ℕ) × P network traffic
+
+-- some octets, possible contents of three files, satisfy the predicate
+abbrev pub ForSomeFiles : (List ℕ → List ℕ → List ℕ → Type 0) → Type 0
+ForSomeFiles P = (network : List ℕ) × (traffic : List ℕ) × (third : List ℕ) × P network traffic third
 
 -- ---- what a command prints: the true answer for possible contents of its files
 
@@ -70,6 +75,9 @@ abbrev pub IsSumOutput : Answer → List ℕ → Type 0
 IsSumOutput answer text = (answer ≡ Yes)
     × ForSomeNetwork (λ network. ((lines : Lines) × IsAtBeginning lines × IsSummed network lines text))
 
+abbrev pub IsJoinOutput : Answer → List ℕ → Type 0
+IsJoinOutput answer text = ForSomeFiles (λ network traffic parts. IsJoined network traffic parts answer text)
+
 -- what the command of a bundle prints, for possible octets of standard input
 abbrev pub IsBundleOutput : Answer → List ℕ → Type 0
 IsBundleOutput answer text =
@@ -87,6 +95,7 @@ IsCallText (Run network traffic capture schedule links) answer text = IsRunOutpu
 IsCallText (Lint network traffic) answer text = IsLintOutput (is_some traffic) answer text
 IsCallText (Draw network traffic said class) answer text = IsDrawingText answer text
 IsCallText (Sum network totals) answer text = IsSumOutput answer text
+IsCallText (Join network traffic parts) answer text = IsJoinOutput answer text
 IsCallText (Explain number) answer text = IsExplainText (string_bytes number) answer text
 
 -- ---- the refusals of a command, for possible contents of its files
@@ -126,6 +135,9 @@ IsLintRefusal true e = IsDocumentsRefusal e
 abbrev pub IsSumRefusal : Fault → Type 0
 IsSumRefusal e = ForSomeNetwork (λ network. ((lines : Lines) × IsAtBeginning lines × IsRefusedSum network lines e))
 
+abbrev pub IsJoinRefusal : Fault → Type 0
+IsJoinRefusal e = ForSomeFiles (λ network traffic parts. IsRefusedJoin network traffic parts e)
+
 abbrev pub IsBundleRefusal : Fault → Type 0
 IsBundleRefusal e = (octets : List ℕ) × IsRefusedBundle octets e
 
@@ -140,6 +152,7 @@ IsCallRefusal (Run network traffic capture schedule links) e = IsRefusal (IsRunR
 IsCallRefusal (Lint network traffic) e = IsRefusal (IsLintRefusal (is_some traffic)) e
 IsCallRefusal (Draw network traffic said class) e = Unit {0}
 IsCallRefusal (Sum network totals) e = IsRefusal IsSumRefusal e
+IsCallRefusal (Join network traffic parts) e = IsRefusal IsJoinRefusal e
 IsCallRefusal (Explain number) e = IsMemory e
 
 -- ---- how the program ends

@@ -17,6 +17,7 @@ pub(crate) fn command_word(asked: Asked) -> &'static str {
         Asked::Lint => "lint",
         Asked::Draw => "draw",
         Asked::Sum => "sum",
+        Asked::Join => "join",
         Asked::Explain => "explain",
         Asked::Nothing => "",
     }
@@ -26,7 +27,7 @@ pub(crate) fn command_word(asked: Asked) -> &'static str {
 fn yes_word(asked: Asked) -> &'static str {
     match asked {
         Asked::Audit => "certificate",
-        Asked::Check => "yes",
+        Asked::Check | Asked::Join => "yes",
         Asked::Confirm => "refuted",
         Asked::Replay | Asked::Run | Asked::Collect | Asked::Sum => "totals",
         Asked::Draw => "graph",
@@ -74,6 +75,7 @@ fn last_role(asked: Asked) -> &'static str {
         Asked::Run => "schedule",
         Asked::Collect => "stream",
         Asked::Sum => "totals",
+        Asked::Join => "parts",
         _ => "answer",
     }
 }

@@ -14,6 +14,7 @@ ghost use Rattle.fx_checker.specs.Running.{IsAtBeginning, IsCheckRefusal, IsChec
 use crate::drawing::draw;
 use crate::explaining::explain_bytes;
 use crate::files::open;
+use crate::joining::join;
 use crate::kept::KeptSource;
 use crate::link_files::LinkFiles;
 use crate::notes::Extras;
@@ -512,6 +513,18 @@ pub(crate) fn answer_call<R: AllocGlobal + Clock + Eprint + Files + RandomSource
             sink,
         ),
         Call::Sum { network, totals } => sum(rt, network.as_str(), totals.as_str(), notes, sink),
+        Call::Join {
+            network,
+            traffic,
+            parts,
+        } => join(
+            rt,
+            network.as_str(),
+            traffic.as_str(),
+            parts.as_str(),
+            notes,
+            sink,
+        ),
         Call::Explain { number } => explain_bytes(number.as_str(), sink),
     }
 }

@@ -53,6 +53,7 @@ pub(crate) enum Asked {
     Lint,
     Draw,
     Sum,
+    Join,
     Explain,
     /// Nothing that could be read.
     Nothing,
@@ -70,6 +71,7 @@ fn asked_by(call: &Call) -> Asked {
         Call::Lint { .. } => Asked::Lint,
         Call::Draw { .. } => Asked::Draw,
         Call::Sum { .. } => Asked::Sum,
+        Call::Join { .. } => Asked::Join,
         Call::Explain { .. } => Asked::Explain,
     }
 }
@@ -131,6 +133,7 @@ fn put_yes_words(asked: Asked, notes: &mut Extras<'_>, words: &mut Gathered) {
             words.text(COUNTED_ONCE);
             words.all_of(sentences.take_notes());
         }
+        Asked::Join => words.text(COUNTED_ONCE),
         Asked::Lint => words.all_of(sentences.take_notes()),
         Asked::Confirm => words.all_of(sentences.take_words()),
         Asked::Replay => {
@@ -167,7 +170,7 @@ fn put_no_words<R: AllocGlobal + Files>(
             words.all_of(sentences.take_words());
             words.all_of(sentences.take_notes());
         }
-        Asked::Check | Asked::Confirm => {
+        Asked::Check | Asked::Confirm | Asked::Join => {
             words.all_of(sentences.take_words());
             if let Some(number) = sentences.refused {
                 put_reason_words(number, notes, words);

@@ -66,6 +66,11 @@ pub(crate) fn names_of(call: &Call) -> FileNames<'_> {
             traffic,
             refutation,
         } => with_documents(network.as_str(), traffic.as_str(), refutation.as_str()),
+        Call::Join {
+            network,
+            traffic,
+            parts,
+        } => with_documents(network.as_str(), traffic.as_str(), parts.as_str()),
         Call::Audit {
             network,
             traffic,

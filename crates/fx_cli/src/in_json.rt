@@ -75,10 +75,10 @@ fn put_object<R: AllocGlobal + Files, S: Sink>(
     let documents = notes.sentences.take_notes().into_octets(alloc);
     let explanation = explanation_of(rt, call, notes, outcome);
     let facts = notes.sentences.take_facts();
+    let refused = notes.sentences.take_place();
     let sentences = &notes.sentences;
     let asked = asked_of(call, sentences.command);
-    let line = sentences.refused_place();
-    let (number, place) = refusal_in(outcome, sentences.refused, &line);
+    let (number, place) = refusal_in(outcome, sentences.refused, &refused);
     let answered = Answered {
         command: command_word(asked),
         answer: answer_word(asked, outcome),

@@ -15,6 +15,7 @@ mod files;
 mod gathering;
 mod head;
 mod in_json;
+mod joining;
 mod kept;
 mod link_files;
 mod notes;

@@ -63,7 +63,7 @@ pub(crate) fn wanted_of(call: &Call) -> Wanted {
 
 /// Explains the answer of a command in sentences.
 pub(crate) struct Sentences<'a> {
-    alloc: Global,
+    pub(crate) alloc: Global,
     wanted: Wanted,
     /// How far the command has come.
     pub(crate) progressed: Progressed,
@@ -81,8 +81,8 @@ pub(crate) struct Sentences<'a> {
     gathers_facts: bool,
     /// Facts about the answer or the refusal.
     facts: Vec<Value>,
-    /// The line for which the last text was refused.
-    refused_line: Option<u64>,
+    /// The place for which the last text was refused, as the answer prints it.
+    place: Place,
     /// The steps of a run that were tried, without their choices.
     steps: Vec<Step>,
     /// About the answer or the refusal.
@@ -105,7 +105,7 @@ impl Drop for Sentences<'_> {
             key: _,
             gathers_facts: _,
             facts: _,
-            refused_line: _,
+            place: _,
             steps: _,
             words: _,
             notes: _,
@@ -127,7 +127,7 @@ impl<'a> Sentences<'a> {
             key: None,
             gathers_facts: false,
             facts: Vec::new(alloc),
-            refused_line: None,
+            place: Place::None,
             steps: Vec::new(alloc),
             words: Gathered::new(alloc),
             notes: Gathered::new(alloc),
@@ -169,11 +169,16 @@ impl<'a> Sentences<'a> {
         mem::replace(&mut self.facts, Vec::new(self.alloc))
     }
 
-    /// Returns the line for which the last text was refused, as a place.
-    pub(crate) fn refused_place(&self) -> Place {
-        match self.refused_line {
-            Some(line) => Place::Line(line),
-            None => Place::None,
+    /// Returns the place for which the last text was refused; there is none from then on.
+    pub(crate) fn take_place(&mut self) -> Place {
+        mem::replace(&mut self.place, Place::None)
+    }
+
+    /// Notes a place that a text describes. If the text could not be made, there is no explanation.
+    pub(crate) fn note_text_place(&mut self, made: Result<String, AllocError>) {
+        match made {
+            Ok(text) => self.place = Place::Text(text),
+            Err(_) => self.words.fail(),
         }
     }
 
@@ -193,13 +198,13 @@ impl<'a> Sentences<'a> {
     fn note_line(&mut self, fault: &Fault) {
         if let Place::Line(line) = &fault.place {
             if fault.number != refusals::REFUTATION_FORM {
-                self.refused_line = Some(*line);
+                self.place = Place::Line(*line);
             }
         }
     }
 
     /// Writes the name of a file that is refused.
-    fn put_name(&mut self, name: &str) {
+    pub(crate) fn put_name(&mut self, name: &str) {
         self.words.text(b"file: ");
         self.words.text(name.as_bytes());
         self.words.text(b"\n");
@@ -330,7 +335,7 @@ fn lent(documents: &AcceptedDocuments) -> fx_explanation::Documents<'_> {
 }
 
 /// Returns whether a refusal is explained: not where memory runs out, nor where a file can't be read.
-fn is_explained(fault: &Fault) -> bool {
+pub(crate) fn is_explained(fault: &Fault) -> bool {
     fault.number < refusals::WANT_OF_MEMORY
 }
 
@@ -420,7 +425,7 @@ impl Explainer for Sentences<'_> {
     fn on_refused_packet(&mut self, documents: &AcceptedDocuments, refutation: &Refutation) {
         self.refused = Some(refusals::REFUTATION_PACKET);
         self.line = Some(PACKET_LINE);
-        self.refused_line = self.line;
+        self.place = Place::Line(PACKET_LINE);
         if self.are_wanted() {
             self.put_packet(documents, PACKET_LINE, refutation.packet());
         }
@@ -435,7 +440,7 @@ impl Explainer for Sentences<'_> {
         fault: &Fault,
     ) {
         self.refused = Some(refusals::REFUTATION_STEP);
-        self.refused_line = Some(number.saturating_add(PACKET_LINE));
+        self.place = Place::Line(number.saturating_add(PACKET_LINE));
         let before = number.saturating_sub(1) as usize;
         let steps = refutation.steps();
         if let (true, Some(step)) = (self.are_wanted(), steps.get(before)) {

@@ -73,6 +73,11 @@ fn parts(alloc: Global, call: &Call) -> Result<String, AllocError> {
             format!(in alloc; "draw|{network}|{traffic}|{answer}|{class}")
         }
         Call::Sum { network, totals } => format!(in alloc; "sum|{network}|{totals}"),
+        Call::Join {
+            network,
+            traffic,
+            parts,
+        } => format!(in alloc; "join|{network}|{traffic}|{parts}"),
         Call::Explain { number } => format!(in alloc; "explain|{number}"),
     }
 }
@@ -103,6 +108,11 @@ fn reads_words(rt: HostRuntime) -> Result<(), Fail> {
         ("once draw net.json t.json c.txt d", ""),
         ("once sum net.json totals.txt", "sum|net.json|totals.txt"),
         ("once sum net.json", ""),
+        (
+            "once join net.json t.json p.txt",
+            "join|net.json|t.json|p.txt",
+        ),
+        ("once join net.json t.json", ""),
         (
             "once check net.json traffic.json cert.txt",
             "check|net.json|traffic.json|cert.txt",
