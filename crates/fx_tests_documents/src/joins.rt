@@ -354,7 +354,7 @@ impl JoinExplainer for Kept {
     }
 
     fn on_uncovered_class(&mut self, index: usize, _network: &NetworkDocument, _traffic: &Traffic) {
-        self.class = index + 1;
+        self.class = index.saturating_add(1);
     }
 }
 
