@@ -21,9 +21,10 @@ _once()
         lint) options="-h --help --explain --format" files=(json json) ;;
         draw) options="--class -h --help --explain --format" files=(json json txt) ;;
         sum) options="-h --help --explain --format" files=(json txt) ;;
+        join) options="-h --help --explain --format" files=(json json txt) ;;
         explain) options="-h --help --explain --format" files=(-) ;;
-        help) [[ $place -eq 0 ]] && COMPREPLY=($(compgen -W "replay collect check confirm audit run lint draw sum explain help" -- "$current")); return ;;
-        *) COMPREPLY=($(compgen -W "replay collect check confirm audit run lint draw sum explain help -h --help -V --version" -- "$current")); return ;;
+        help) [[ $place -eq 0 ]] && COMPREPLY=($(compgen -W "replay collect check confirm audit run lint draw sum join explain help" -- "$current")); return ;;
+        *) COMPREPLY=($(compgen -W "replay collect check confirm audit run lint draw sum join explain help -h --help -V --version" -- "$current")); return ;;
     esac
     file=${files[place]--}
     case $before in
