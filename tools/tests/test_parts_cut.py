@@ -347,4 +347,4 @@ def test_arguments_and_folders(tmp_path: Path, capsys: pytest.CaptureFixture[str
         with pytest.raises(SystemExit):
             part_main.main(words)
         said = " ".join(capsys.readouterr().out.split())
-        assert "Each part's `yes` is proved" in said and "`cut` and `verify` are tested" in said and "Exit statuses: 0" in said
+        assert "whether the parts certify the whole, and is proved" in said and "`verify` says in sentences" in said and "Exit statuses: 0" in said
