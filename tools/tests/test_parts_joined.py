@@ -15,7 +15,7 @@ from once_tools.parts.cutting import Sources, cut
 from once_tools.parts.manifest import read_manifest
 from part_networks import COUNTERS, Json, host, link, meter, network, provider, read, traffic_class, write
 from test_parts_cut import AXES, cache_by
-from test_parts_judged import DAMAGES, generated, verified
+from test_parts_judged import DAMAGES, certified_provider, generated, verified
 
 PARTS = 3
 NETWORKS = 500
@@ -23,14 +23,7 @@ NETWORKS = 500
 
 @pytest.fixture(scope="module")
 def parts(once: str, tmp_path_factory: pytest.TempPathFactory) -> Path:
-    """A folder with the whole of `provider`, and its parts with their certificates."""
-    folder = tmp_path_factory.mktemp("joined")
-    files = [str(it) for it in write(folder, *provider())]
-    with pytest.MonkeyPatch.context() as patch:
-        patch.setitem(packing.LIMITS, "devices", 4)
-        assert part_main.main(["cut", *files, "--to", str(folder / "parts")]) == 0
-    assert part_main.main(["audit", str(folder / "parts"), "--once", once]) == 0
-    return folder
+    return certified_provider(once, tmp_path_factory.mktemp("joined"))
 
 
 def bundle(folder: Path) -> Path:

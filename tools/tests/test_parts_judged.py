@@ -28,16 +28,19 @@ from part_networks import Json, crossing, exporter, host, link, mediator, meter,
 SEEDS = [*range(25), 30, 37, 55, 60, 61, 67, 92, 113, 117, 143, 145, 156, 159, 162, 171, 172, 174, 186, 192, 225, 227, 239, 249, 264, 399]
 
 
-@pytest.fixture(scope="module")
-def parts(once: str, tmp_path_factory: pytest.TempPathFactory) -> Path:
-    """A folder with the whole of `provider`, and its parts with their certificates."""
-    folder = tmp_path_factory.mktemp("parts")
+def certified_provider(once: str, folder: Path) -> Path:
+    """Writes the whole of `provider`, and its parts with their certificates, into a folder."""
     files = [str(it) for it in write(folder, *provider())]
     with pytest.MonkeyPatch.context() as patch:
         patch.setitem(packing.LIMITS, "devices", 4)
         assert part_main.main(["cut", *files, "--to", str(folder / "parts")]) == 0
     assert part_main.main(["audit", str(folder / "parts"), "--once", once]) == 0
     return folder
+
+
+@pytest.fixture(scope="module")
+def parts(once: str, tmp_path_factory: pytest.TempPathFactory) -> Path:
+    return certified_provider(once, tmp_path_factory.mktemp("parts"))
 
 
 def verified(once: str, folder: Path) -> Verdict:
